@@ -1,0 +1,124 @@
+// The labels of all owners.
+ghost use Rattle.std.specs.Prelude.{◌≡◌, ◌↔◌, ◌==◌, IsTrue, ℕ, List, IfOk, OnOk, OnErr, true, false, MatchOption, map, filter};
+ghost use Rattle.std.specs.FinSet as set;
+ghost use Rattle.thes_base.specs.declared.data.LabelKind.TheVariants.{Pref};
+ghost use Rattle.thes_base.specs.Changes.{label, taken_labels};
+ghost use Rattle.thes_base.specs.Labels.{HasLabel};
+ghost use Rattle.thes_base.specs.Machine.{owned};
+ghost use Rattle.thes_vocab.specs.Rivals.{HasTwoPreferred};
+
+use crate::row::Row;
+use std::alloc::{AllocError, Global};
+use std::collections::BTreeMap;
+use std::marker::Model;
+use thes_base::data::{Label, LabelKind};
+use thes_base::number::ResNo;
+use thes_base::text::{Tag, Text};
+
+// A set of labels, kept as a row for each owner.
+#[derive(Drop)]
+pub(crate) struct LabelTable {
+    alloc: Global,
+    rows: BTreeMap<ResNo, Row>,
+    count: u64,
+}
+
+impl Model for LabelTable {
+    ghost use Rattle.std.specs.Coded.{codes};
+    ghost use Rattle.std.specs.FinSet as set;
+    ghost use Rattle.thes_base.specs.Labels.{Labels};
+
+    ghost Value = { Labels };
+
+    ghost coded = { Prim.hlevel (codes, set.code) };
+
+    ghost use Rattle.thes_vocab.specs.Rows.{labels_in, AreRows};
+
+    ghost view = { λ a. labels_in a.rows.entries };
+
+    ghost invariant = { λ a. AreRows a.rows a.count };
+}
+
+impl LabelTable {
+    // No labels.
+    pub(crate) fn new(alloc: Global) -> LabelTable
+        ensures { result ≡ set.empty }
+    {
+        LabelTable {
+            alloc,
+            rows: BTreeMap::new(alloc),
+            count: 0,
+        }
+    }
+
+    // How many labels there are.
+    pub(crate) fn len(&self) -> u64
+        ensures { result ≡ set.len self.now }
+    {
+        self.count
+    }
+
+    // The owner's labels, in the set's order.
+    pub(crate) fn of_owner(&self, owner: ResNo) -> &[Label]
+        ensures { map (owned owner) result.now ≡ filter (λ l. l.owner == owner) (set.items self.now) }
+    {
+        match self.rows.get(&owner) {
+            Some(row) => row.as_slice(),
+            None => &[],
+        }
+    }
+
+    pub(crate) fn contains(&self, owner: ResNo, kind: LabelKind, tag: &Tag, text: &str) -> bool
+        ensures { result ≡ set.contains self.now (label owner kind tag.now text.now) }
+    {
+        self.rows
+            .get(&owner)
+            .is_some_and(|row| row.contains(kind, tag, text))
+    }
+
+    // The owner's preferred label in the language, or one of them.
+    pub(crate) fn preferred(&self, owner: ResNo, tag: &Tag) -> Option<&Text>
+        ensures { MatchOption result ((text : List ℕ) → HasLabel self.now owner Pref tag.now text → ⊥) (λ text. HasLabel self.now owner Pref tag.now text.now) }
+    {
+        self.rows.get(&owner)?.preferred(tag)
+    }
+
+    // Whether the owner has two preferred labels.
+    pub(crate) fn has_two_preferred(&self, owner: ResNo) -> bool
+        ensures { IsTrue result ↔ HasTwoPreferred self.now owner }
+    {
+        self.rows
+            .get(&owner)
+            .is_some_and(|row| row.has_two_preferred())
+    }
+
+    // Adds a label. An `Err` changes nothing.
+    pub(crate) fn insert(&mut self, owner: ResNo, label: Label) -> Result<(), AllocError>
+        ensures ok { OnOk result (self.new ≡ set.insert self.old (owned owner label)) }
+        ensures err { OnErr result (self.new ≡ self.old) }
+    {
+        let count = self.count.checked_add(1).ok_or(AllocError)?;
+        if let Some(row) = self.rows.get_mut(&owner) {
+            if row.insert(label)? {
+                self.count = count;
+            }
+            return Ok(());
+        }
+        let mut row = Row::new(self.alloc);
+        row.insert(label)?;
+        self.rows.insert(owner, row)?;
+        self.count = count;
+        Ok(())
+    }
+
+    // Takes a label out.
+    pub(crate) fn remove(&mut self, owner: ResNo, kind: LabelKind, tag: &Tag, text: &str)
+        ensures { self.new ≡ set.remove self.old (label owner kind tag.now text.now) }
+    {
+        if let Some(row) = self.rows.get_mut(&owner) {
+            if row.remove(kind, tag, text) {
+                self.count -= 1;
+            }
+        }
+    }
+}
