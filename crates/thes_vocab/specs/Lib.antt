@@ -2,6 +2,7 @@ pub mod Vocabulary
 pub mod Requests
 pub mod Rivals
 pub mod LabelData
+pub mod Places
 pub mod Rows
 pub mod Named
 pub mod Numbered

@@ -1,11 +1,12 @@
 // The labels of all owners.
-ghost use Rattle.std.specs.Prelude.{◌≡◌, ◌↔◌, ◌==◌, IsTrue, ℕ, List, IfOk, OnOk, OnErr, true, false, MatchOption, map, filter};
+ghost use Rattle.std.specs.Prelude.{◌≡◌, ◌↔◌, IsTrue, ℕ, List, IfOk, OnOk, OnErr, MatchOption};
 ghost use Rattle.std.specs.FinSet as set;
 ghost use Rattle.thes_base.specs.declared.data.LabelKind.TheVariants.{Pref};
-ghost use Rattle.thes_base.specs.Changes.{label, taken_labels};
+ghost use Rattle.thes_base.specs.Changes.{label};
 ghost use Rattle.thes_base.specs.Labels.{HasLabel};
 ghost use Rattle.thes_base.specs.Machine.{owned};
 ghost use Rattle.thes_vocab.specs.Rivals.{HasTwoPreferred};
+ghost use Rattle.thes_vocab.specs.LabelData.{AreLabelsOf};
 
 use crate::row::Row;
 use std::alloc::{AllocError, Global};
@@ -60,7 +61,7 @@ impl LabelTable {
 
     // The owner's labels, in the set's order.
     pub(crate) fn of_owner(&self, owner: ResNo) -> &[Label]
-        ensures { map (owned owner) result.now ≡ filter (λ l. l.owner == owner) (set.items self.now) }
+        ensures { AreLabelsOf self.now owner result.now }
     {
         match self.rows.get(&owner) {
             Some(row) => row.as_slice(),

@@ -1,12 +1,11 @@
 // The labels of one owner.
-ghost use Rattle.std.specs.Prelude.{◌≡◌, ◌↔◌, IsTrue, ℕ, List, IfOk, OnOk, OnErr, IfSome, IfNone, false, true, not, MatchOption};
-ghost use Rattle.std.specs.BTreeMap.{is_at};
-ghost use Rattle.std.specs.List.{list_any, HoldsAt};
-ghost use Rattle.std.specs.List.Sorted.{IsStrictlySortedBy, IsBinarySearchResult};
-ghost use Rattle.thes_base.specs.declared.data.LabelKind.TheVariants.{Pref};
-ghost use Rattle.std.specs.FinSet as set;
+ghost use Rattle.std.specs.Prelude.{◌≡◌, ◌↔◌, ◌&&◌, ◌||◌, IsTrue, ℕ, List, [], IfOk, OnOk, OnErr, false, true, not, MatchOption};
+ghost use Rattle.std.specs.List.Sorted.{IsStrictlySortedBy};
+ghost use Rattle.std.specs.Ordering.{eq_by_cmp};
+ghost use Rattle.thes_base.specs.Data.{LabelData};
 ghost use Rattle.thes_base.specs.Labels.{label_kind_no};
-ghost use Rattle.thes_vocab.specs.LabelData.{data_cmp, own_label, preferred_data, HasOwn, HasTwo};
+ghost use Rattle.thes_vocab.specs.Places.{IsPlace, IsPreferredAt};
+ghost use Rattle.thes_vocab.specs.LabelData.{data_cmp, language_cmp, own_label, has_own, HasPreferred, HasNoPreferred, HasTwo};
 
 use std::alloc::{AllocError, Global};
 use std::cmp::Ordering;
@@ -21,16 +20,15 @@ pub(crate) struct Row {
 }
 
 impl Model for Row {
-    ghost use Rattle.std.specs.Coded.{codes};
-    ghost use Rattle.std.specs.FinSet as set;
+    ghost use Rattle.std.specs.Prelude.{List};
     ghost use Rattle.std.specs.List.Sorted.{IsStrictlySortedBy};
-    ghost use Rattle.thes_vocab.specs.LabelData.{data_cmp, OwnLabels};
+    ghost use Rattle.thes_base.specs.Data.{LabelData};
+    ghost use Rattle.thes_vocab.specs.Places.{IsPlace, IsPreferredAt};
+ghost use Rattle.thes_vocab.specs.LabelData.{data_cmp};
 
-    ghost Value = { OwnLabels };
+    ghost Value = { List LabelData };
 
-    ghost coded = { Prim.hlevel (codes, set.code) };
-
-    ghost view = { λ a. set.from_list a.labels.items };
+    ghost view = { λ a. a.labels.items };
 
     ghost invariant = { λ a. IsStrictlySortedBy data_cmp a.labels.items };
 }
@@ -38,7 +36,7 @@ impl Model for Row {
 impl Row {
     // No labels.
     pub(crate) fn new(alloc: Global) -> Row
-        ensures { result ≡ set.empty }
+        ensures { result ≡ [] }
     {
         Row {
             labels: Vec::new(alloc),
@@ -47,20 +45,21 @@ impl Row {
 
     // The labels in their order.
     pub(crate) fn as_slice(&self) -> &[Label]
-        ensures { result.now ≡ set.items self.now }
+        ensures labels { result.now ≡ self.now }
+        ensures ordered { IsStrictlySortedBy data_cmp self.now }
     {
         self.labels.as_slice()
     }
 
     pub(crate) fn contains(&self, kind: LabelKind, tag: &Tag, text: &str) -> bool
-        ensures { result ≡ set.contains self.now (own_label kind tag.now text.now) }
+        ensures { result ≡ has_own self.now (own_label kind tag.now text.now) }
     {
         place(self.labels.as_slice(), kind, tag, text).is_ok()
     }
 
     // The preferred label in the language, or one of them.
     pub(crate) fn preferred(&self, tag: &Tag) -> Option<&Text>
-        ensures { MatchOption result ((text : List ℕ) → ¬ HasOwn self.now (preferred_data tag.now text)) (λ text. HasOwn self.now (preferred_data tag.now text.now)) }
+        ensures { MatchOption result (HasNoPreferred self.now tag.now) (λ text. HasPreferred self.now tag.now text.now) }
     {
         let place = preferred_place(self.labels.as_slice(), tag)?;
         match &self.labels[place].value {
@@ -71,11 +70,11 @@ impl Row {
 
     // Adds a label, and answers whether it is new. An `Err` changes nothing.
     pub(crate) fn insert(&mut self, label: Label) -> Result<bool, AllocError>
-        ensures added { IfOk result (λ added. added ≡ not (set.contains self.old label)) }
-        ensures ok { OnOk result (self.new ≡ set.insert self.old label) }
+        ensures added { IfOk result (λ added. added ≡ not (has_own self.old label)) }
+        ensures ok { OnOk result ((l : LabelData) → has_own self.new l ≡ (eq_by_cmp data_cmp l label || has_own self.old l)) }
         ensures err { OnErr result (self.new ≡ self.old) }
     {
-        match place(self.labels.as_slice(), label.kind(), &label.tag, label.text()) {
+        match place_of(self.labels.as_slice(), &label) {
             Ok(_) => Ok(false),
             Err(place) => {
                 self.labels.insert(place, label)?;
@@ -86,8 +85,8 @@ impl Row {
 
     // Takes a label out, and answers whether it was there.
     pub(crate) fn remove(&mut self, kind: LabelKind, tag: &Tag, text: &str) -> bool
-        ensures removed { result ≡ set.contains self.old (own_label kind tag.now text.now) }
-        ensures after { self.new ≡ set.remove self.old (own_label kind tag.now text.now) }
+        ensures removed { result ≡ has_own self.old (own_label kind tag.now text.now) }
+        ensures after { (l : LabelData) → has_own self.new l ≡ (not (eq_by_cmp data_cmp l (own_label kind tag.now text.now)) && has_own self.old l) }
     {
         match place(self.labels.as_slice(), kind, tag, text) {
             Ok(place) => {
@@ -102,31 +101,35 @@ impl Row {
     pub(crate) fn has_two_preferred(&self) -> bool
         ensures { IsTrue result ↔ HasTwo self.now }
     {
-        self.labels
-            .get(1)
-            .is_some_and(|label| label.kind() == LabelKind::Pref)
+        let Some(second) = self.labels.get(1) else {
+            return false;
+        };
+        second.kind() == LabelKind::Pref
     }
 }
 
 // Where the label stands in the order, or where it would.
 fn place(labels: &[Label], kind: LabelKind, tag: &Tag, text: &str) -> Result<usize, usize>
-    ensures { IsBinarySearchResult (λ l. data_cmp l (own_label kind tag.now text.now)) labels.now result }
+    requires { IsStrictlySortedBy data_cmp labels.now }
+    ensures { IsPlace labels.now (own_label kind tag.now text.now) result }
 {
     labels.binary_search_by(|label| order(label, kind, tag, text))
+}
+
+fn place_of(labels: &[Label], label: &Label) -> Result<usize, usize>
+    requires { IsStrictlySortedBy data_cmp labels.now }
+    ensures { IsPlace labels.now label.now result }
+{
+    place(labels, label.kind(), &label.tag, label.text())
 }
 
 // A place of a preferred label in the language.
 fn preferred_place(labels: &[Label], tag: &Tag) -> Option<usize>
     requires { IsStrictlySortedBy data_cmp labels.now }
-    ensures none { IfNone result ((text : List ℕ) → list_any (is_at (data_cmp (preferred_data tag.now text))) labels.now ≡ false) }
-    ensures some { IfSome result (HoldsAt (λ l. (l.kind ≡ Pref) × (l.tag ≡ tag.now)) labels.now) }
+    ensures { MatchOption result (HasNoPreferred labels.now tag.now) (IsPreferredAt labels.now tag.now) }
 {
     labels
-        .binary_search_by(|label| {
-            number(label.kind())
-                .cmp(&1)
-                .then(label.tag.as_str().cmp(tag.as_str()))
-        })
+        .binary_search_by(|label| language_order(label, LabelKind::Pref, tag))
         .ok()
 }
 
@@ -134,10 +137,16 @@ fn preferred_place(labels: &[Label], tag: &Tag) -> Option<usize>
 fn order(label: &Label, kind: LabelKind, tag: &Tag, text: &str) -> Ordering
     ensures { result ≡ data_cmp label.now (own_label kind tag.now text.now) }
 {
+    language_order(label, kind, tag).then(label.text().cmp(text))
+}
+
+// How the label stands to those of this kind and language.
+fn language_order(label: &Label, kind: LabelKind, tag: &Tag) -> Ordering
+    ensures { result ≡ language_cmp label.now (own_label kind tag.now []) }
+{
     number(label.kind())
         .cmp(&number(kind))
         .then(label.tag.as_str().cmp(tag.as_str()))
-        .then(label.text().cmp(text))
 }
 
 // The kind's place among the kinds.

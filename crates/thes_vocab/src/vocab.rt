@@ -1,11 +1,10 @@
 //! A vocabulary: what it holds, and what can be looked up in it.
-ghost use Rattle.std.specs.Prelude.{◌≡◌, ◌<◌, ◌^◌, ◌==◌, ◌↔◌, IsTrue, ℕ, length, map, filter, true, Option, None, Some, option_map, option_copied, MatchOption};
+ghost use Rattle.std.specs.Prelude.{◌≡◌, ◌<◌, ◌^◌, ◌↔◌, IsTrue, ℕ, length, None, Some, option_copied, MatchOption};
 ghost use Rattle.std.specs.FinMap as dict;
 ghost use Rattle.std.specs.FinSet as set;
-ghost use Rattle.thes_base.specs.Machine.{owned};
-ghost use Rattle.thes_base.specs.Resources.{numbered, IsLive, IsLiveConcept, scheme_of};
-ghost use Rattle.thes_base.specs.Labels.{preferred_in, HasLabel, IsTaken};
-ghost use Rattle.thes_base.specs.declared.data.LabelKind.TheVariants.{Pref};
+ghost use Rattle.thes_base.specs.Resources.{numbered, IsLive};
+ghost use Rattle.thes_base.specs.Labels.{preferred_in, IsTaken};
+ghost use Rattle.thes_vocab.specs.LabelData.{AreLabelsOf};
 ghost use Rattle.thes_vocab.specs.Vocabulary.{empty_vocabulary, IsConceptOf, IsHolder};
 
 use crate::iris::IriTable;
@@ -36,7 +35,8 @@ impl Model for Vocab {
     ghost use Rattle.std.specs.Coded.{codes};
     ghost use Rattle.std.specs.FinMap as dict;
     ghost use Rattle.std.specs.FinSet as set;
-    ghost use Rattle.thes_vocab.specs.Vocabulary.{Vocabulary};
+    ghost use Rattle.thes_vocab.specs.LabelData.{AreLabelsOf};
+ghost use Rattle.thes_vocab.specs.Vocabulary.{Vocabulary};
 
     ghost Value = { Vocabulary };
 
@@ -102,7 +102,7 @@ impl Vocab {
 
     /// The owner's labels, by kind, language and text.
     pub fn labels_of(&self, owner: ResNo) -> &[Label]
-        ensures { map (owned owner) result.now ≡ filter (λ l. l.owner == owner) (set.items self.now.labels) }
+        ensures { AreLabelsOf self.now.labels owner result.now }
     {
         self.labels.of_owner(owner)
     }
