@@ -1,2 +1,5 @@
 mod OrderLemmas
 mod OwnLemmas
+mod TableLemmas
+mod AnswerLemmas
+mod NameLemmas

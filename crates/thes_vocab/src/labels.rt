@@ -1,12 +1,15 @@
 // The labels of all owners.
-ghost use Rattle.std.specs.Prelude.{◌≡◌, ◌↔◌, IsTrue, ℕ, List, IfOk, OnOk, OnErr, MatchOption};
+ghost use Rattle.std.specs.Prelude.{◌≡◌, ◌↔◌, IsTrue, ℕ, List, IfOk, OnOk, OnErr, not, MatchOption};
 ghost use Rattle.std.specs.FinSet as set;
 ghost use Rattle.thes_base.specs.declared.data.LabelKind.TheVariants.{Pref};
 ghost use Rattle.thes_base.specs.Changes.{label};
 ghost use Rattle.thes_base.specs.Labels.{HasLabel};
 ghost use Rattle.thes_base.specs.Machine.{owned};
 ghost use Rattle.thes_vocab.specs.Rivals.{HasTwoPreferred};
-ghost use Rattle.thes_vocab.specs.LabelData.{AreLabelsOf};
+ghost use Rattle.thes_vocab.specs.LabelData.{own_label, has_own, AreLabelsOf};
+ghost use Rattle.thes_vocab.specs.Rows.{Owns, OwnsNone, row_of, IsPut, IsTaken, AreSame};
+ghost use Rattle.std.specs.Ordering.{nat_cmp};
+ghost use Rattle.std.specs.BTreeMap.{IsOrdered};
 
 use crate::row::Row;
 use std::alloc::{AllocError, Global};
@@ -59,11 +62,18 @@ impl LabelTable {
         self.count
     }
 
-    // The owner's labels, in the set's order.
+    // The owner's row, if there is one.
+    fn row(&self, owner: ResNo) -> Option<&Row>
+        ensures { MatchOption result (OwnsNone self.now owner) (λ row. Owns self.now owner row.now) }
+    {
+        self.rows.get(&owner)
+    }
+
+    // The owner's labels, in their order.
     pub(crate) fn of_owner(&self, owner: ResNo) -> &[Label]
         ensures { AreLabelsOf self.now owner result.now }
     {
-        match self.rows.get(&owner) {
+        match self.row(owner) {
             Some(row) => row.as_slice(),
             None => &[],
         }
@@ -72,25 +82,30 @@ impl LabelTable {
     pub(crate) fn contains(&self, owner: ResNo, kind: LabelKind, tag: &Tag, text: &str) -> bool
         ensures { result ≡ set.contains self.now (label owner kind tag.now text.now) }
     {
-        self.rows
-            .get(&owner)
-            .is_some_and(|row| row.contains(kind, tag, text))
+        match self.row(owner) {
+            Some(row) => row.contains(kind, tag, text),
+            None => false,
+        }
     }
 
     // The owner's preferred label in the language, or one of them.
     pub(crate) fn preferred(&self, owner: ResNo, tag: &Tag) -> Option<&Text>
         ensures { MatchOption result ((text : List ℕ) → HasLabel self.now owner Pref tag.now text → ⊥) (λ text. HasLabel self.now owner Pref tag.now text.now) }
     {
-        self.rows.get(&owner)?.preferred(tag)
+        match self.row(owner) {
+            Some(row) => row.preferred(tag),
+            None => None,
+        }
     }
 
     // Whether the owner has two preferred labels.
     pub(crate) fn has_two_preferred(&self, owner: ResNo) -> bool
         ensures { IsTrue result ↔ HasTwoPreferred self.now owner }
     {
-        self.rows
-            .get(&owner)
-            .is_some_and(|row| row.has_two_preferred())
+        match self.row(owner) {
+            Some(row) => row.has_two_preferred(),
+            None => false,
+        }
     }
 
     // Adds a label. An `Err` changes nothing.
@@ -99,16 +114,9 @@ impl LabelTable {
         ensures err { OnErr result (self.new ≡ self.old) }
     {
         let count = self.count.checked_add(1).ok_or(AllocError)?;
-        if let Some(row) = self.rows.get_mut(&owner) {
-            if row.insert(label)? {
-                self.count = count;
-            }
-            return Ok(());
+        if put(&mut self.rows, self.alloc, owner, label)? {
+            self.count = count;
         }
-        let mut row = Row::new(self.alloc);
-        row.insert(label)?;
-        self.rows.insert(owner, row)?;
-        self.count = count;
         Ok(())
     }
 
@@ -116,10 +124,36 @@ impl LabelTable {
     pub(crate) fn remove(&mut self, owner: ResNo, kind: LabelKind, tag: &Tag, text: &str)
         ensures { self.new ≡ set.remove self.old (label owner kind tag.now text.now) }
     {
-        if let Some(row) = self.rows.get_mut(&owner) {
-            if row.remove(kind, tag, text) {
-                self.count -= 1;
-            }
+        if take(&mut self.rows, owner, kind, tag, text) {
+            self.count -= 1;
         }
+    }
+}
+
+// Adds a label to its owner's row, and answers whether it is new. An `Err` changes no row.
+fn put(rows: &mut BTreeMap<ResNo, Row>, alloc: Global, owner: ResNo, label: Label) -> Result<bool, AllocError>
+    ensures added { IfOk result (λ added. added ≡ not (has_own (row_of rows.old owner) label)) }
+    ensures ok { OnOk result (IsPut rows.old rows.new owner label) }
+    ensures err { OnErr result (AreSame rows.old rows.new) }
+    ensures ordered { IsOrdered nat_cmp rows.new }
+{
+    if let Some(row) = rows.get_mut(&owner) {
+        return row.insert(label);
+    }
+    let mut row = Row::new(alloc);
+    row.insert(label)?;
+    rows.insert(owner, row)?;
+    Ok(true)
+}
+
+// Takes a label out of its owner's row, and answers whether it was there.
+fn take(rows: &mut BTreeMap<ResNo, Row>, owner: ResNo, kind: LabelKind, tag: &Tag, text: &str) -> bool
+    ensures taken { result ≡ has_own (row_of rows.old owner) (own_label kind tag.now text.now) }
+    ensures after { IsTaken rows.old rows.new owner (own_label kind tag.now text.now) }
+    ensures ordered { IsOrdered nat_cmp rows.new }
+{
+    match rows.get_mut(&owner) {
+        Some(row) => row.remove(kind, tag, text),
+        None => false,
     }
 }
