@@ -3,3 +3,4 @@ mod OwnLemmas
 mod TableLemmas
 mod AnswerLemmas
 mod NameLemmas
+mod IriLemmas

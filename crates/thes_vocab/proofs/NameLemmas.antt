@@ -22,7 +22,7 @@ module _ {K : Type 0} (R : K → K → Ordering) (o : IsTotalOrder R) (exact : (
       go true e = absurd (apart (sym (exact key q ((Equal-is (R key q)).0 e))))
       go false e = e
 
-  same_or_not : (k key : K) → (k ≡ key) ⊎ (k ≡ key → ⊥)
+  pub same_or_not : (k key : K) → (k ≡ key) ⊎ (k ≡ key → ⊥)
   same_or_not k key = go (is_at (R key) k) refl
     where
       never : (b : Bool) → b ≡ true → b ≡ false → ⊥
