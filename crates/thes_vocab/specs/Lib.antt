@@ -4,6 +4,7 @@ pub mod Rivals
 pub mod LabelData
 pub mod Places
 pub mod Rows
+pub mod Taken
 pub mod Named
 pub mod Numbered
 pub mod Kept

@@ -1,9 +1,9 @@
 -- What contracts see of a vocabulary: its resources, the IRIs of its outside concepts, and its labels.
-use Rattle.std.specs.Prelude.{◌≡◌, ◌≢◌, ℕ, List, [], None, Some, Option}
+use Rattle.std.specs.Prelude.{◌≡◌, ◌≢◌, ◌&&◌, true, ℕ, List, [], None, Some, Option}
 use Rattle.std.specs.FinMap as dict
 use Rattle.std.specs.FinSet as set
 use Rattle.thes_base.specs.declared.data.Resource.{Resource}
-use Rattle.thes_base.specs.Resources.{Iris, IsLive, IsLiveConcept, CanOwn, scheme_of}
+use Rattle.thes_base.specs.Resources.{Iris, IsLive, IsLiveConcept, CanOwn, scheme_of, is_concept_kind}
 use Rattle.thes_base.specs.declared.data.LabelKind.TheVariants.{Pref}
 use Rattle.thes_base.specs.Labels.{Labels, HasLabel}
 use Rattle.thes_base.specs.State.{State}
@@ -44,7 +44,11 @@ abbrev pub IsReplacement : List Resource → ℕ → Option ℕ → Type 0
 IsReplacement resources n None = Unit {0}
 IsReplacement resources n (Some m) = (m ≢ n) × IsLiveConcept resources m × (scheme_of resources m ≡ scheme_of resources n)
 
--- number n is a live concept of the scheme
+-- a live concept of the scheme
+abbrev pub IsConceptIn : ℕ → Resource → Type 0
+IsConceptIn scheme r = ((is_concept_kind r.kind && r.live) ≡ true) × (r.scheme ≡ Some scheme)
+
+-- number n is one
 abbrev pub IsConceptOf : List Resource → ℕ → ℕ → Type 0
 IsConceptOf resources scheme n = IsLiveConcept resources n × (scheme_of resources n ≡ Some scheme)
 

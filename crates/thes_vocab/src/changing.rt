@@ -1,15 +1,17 @@
 //! Changes of resources and labels. Each makes its growths first, so that want of memory changes nothing.
-ghost use Rattle.std.specs.Prelude.{◌≡◌, ◌<◌, ◌+◌, ◌^◌, ℕ, List, [], ◌∷◌, ◌++◌, length, IfOk, OnOk, OnErr, Option, None, Some, map};
+ghost use Rattle.std.specs.Prelude.{◌≡◌, ◌≢◌, ◌<◌, ◌+◌, ◌^◌, ℕ, length, true, IfOk, OnOk, OnErr, None, Some};
+ghost use Rattle.std.specs.FinMap as dict;
 ghost use Rattle.std.specs.FinSet as set;
 ghost use Rattle.thes_base.specs.Rows.{accepted};
 ghost use Rattle.thes_base.specs.Machine.{owned};
-ghost use Rattle.thes_base.specs.Resources.{IsLiveConcept};
-ghost use Rattle.thes_base.specs.Changes.{labels_relabelled, taken_labels};
+ghost use Rattle.thes_base.specs.Resources.{IsLiveConcept, BeginsWith};
+ghost use Rattle.thes_base.specs.Changes.{made, outside_made, labels_relabelled, taken_labels};
 ghost use Rattle.thes_base.specs.Refusals.{unless_label, unless_dropped, unless_relabelled};
-ghost use Rattle.thes_vocab.specs.Vocabulary.{with_labels, with_dead, IsLiveOwner, IsReplacement};
-ghost use Rattle.thes_vocab.specs.Requests.{unless_new, with_new};
+ghost use Rattle.thes_vocab.specs.Vocabulary.{bare_state, vocabulary_of, with_labels, with_dead, IsLiveOwner, IsReplacement};
+ghost use Rattle.thes_vocab.specs.Taken.{takes};
+ghost use Rattle.thes_vocab.specs.Requests.{unless_new, with_new, IsNamed, IsFree};
 
-use crate::vocab::Vocab;
+use crate::vocab::{Vocab, concept_scheme, scheme_if_concept};
 use std::alloc::AllocError;
 use thes_base::data::{Label, LabelKind, LabelValue, NewResource, Resource, ResourceKind};
 use thes_base::number::ResNo;
@@ -24,7 +26,16 @@ impl Vocab {
         ensures ok { OnOk result (self.new ≡ with_new new self.old) }
         ensures err { OnErr result (self.new ≡ self.old) }
     {
-        unreachable!()
+        match new {
+            NewResource::Scheme(tag, text) => self.add_named(new_resource(ResourceKind::Scheme, None), tag, text),
+            NewResource::Concept(scheme, tag, text) => {
+                self.add_named(new_resource(ResourceKind::Concept, Some(scheme)), tag, text)
+            }
+            NewResource::Collection(scheme, tag, text) => {
+                self.add_named(new_resource(ResourceKind::Collection, Some(scheme)), tag, text)
+            }
+            NewResource::Outside(iri) => self.add_outside(iri),
+        }
     }
 
     /// Adds a label that nothing refuses. An `Err` changes nothing.
@@ -34,7 +45,13 @@ impl Vocab {
         ensures ok { OnOk result (self.new ≡ with_labels self.old (set.insert self.old.labels (owned owner label.now))) }
         ensures err { OnErr result (self.new ≡ self.old) }
     {
-        unreachable!()
+        let copy = label.try_clone(self.alloc)?;
+        if let LabelValue::Pref(text) = &label.value {
+            if let Some(scheme) = concept_scheme(self.resources.as_slice(), owner) {
+                self.names.put(scheme, &label.tag, text, owner)?;
+            }
+        }
+        self.labels.insert(owner, copy)
     }
 
     /// Drops a label where nothing refuses it.
@@ -43,7 +60,13 @@ impl Vocab {
         requires allowed { unless_dropped self.old.labels (owned owner label.now) accepted None }
         ensures { self.new ≡ with_labels self.old (set.remove self.old.labels (owned owner label.now)) }
     {
-        unreachable!()
+        if let LabelValue::Pref(text) = &label.value {
+            if let Some(scheme) = concept_scheme(self.resources.as_slice(), owner) {
+                self.names.forget(scheme, &label.tag, text);
+            }
+        }
+        self.labels
+            .remove(owner, label.kind(), &label.tag, label.text());
     }
 
     /// Gives an owner another preferred label in the language where nothing refuses it, and keeps the old one as an
@@ -54,14 +77,35 @@ impl Vocab {
         ensures ok { OnOk result (self.new ≡ with_labels self.old (labels_relabelled owner tag.now text.now keep self.old.labels)) }
         ensures err { OnErr result (self.new ≡ self.old) }
     {
-        unreachable!()
+        let Some(old) = self.labels.preferred(owner, tag) else {
+            unreachable!()
+        };
+        if old == text {
+            return Ok(());
+        }
+        let old = old.try_clone(self.alloc)?;
+        let scheme = concept_scheme(self.resources.as_slice(), owner);
+        if let Some(scheme) = scheme {
+            self.names.put(scheme, tag, text, owner)?;
+        }
+        self.labels.rename(owner, tag, &old, text, keep)?;
+        if let Some(scheme) = scheme {
+            self.names.forget(scheme, tag, &old);
+        }
+        Ok(())
     }
 
     /// How many labels the target would take from the source in a merge.
     pub fn taken_count(&self, source: ResNo, target: ResNo) -> u64
         ensures { set.len self.now.labels + result ≡ set.len (set.union self.now.labels (taken_labels source target self.now.labels)) }
     {
-        unreachable!()
+        let mut count = 0u64;
+        for label in self.labels_of(source) {
+            if self.takes(target, label) {
+                count += 1;
+            }
+        }
+        count
     }
 
     /// Gives the target the names of the source that it lacks, preferred ones as alternative ones, and answers how many
@@ -72,7 +116,9 @@ impl Vocab {
         ensures ok { OnOk result (self.new ≡ with_labels self.old (set.union self.old.labels (taken_labels source target self.old.labels))) }
         ensures err { OnErr result (self.new ≡ self.old) }
     {
-        unreachable!()
+        let gained = self.taken_count(source, target);
+        self.labels.take_names(source, target, gained)?;
+        Ok(gained)
     }
 
     /// Makes a live concept dead, replaced by another live concept of its scheme or by none.
@@ -81,6 +127,68 @@ impl Vocab {
         requires replacement { IsReplacement self.old.resources n replaced }
         ensures { self.new ≡ with_dead self.old n replaced }
     {
-        unreachable!()
+        let place = n.get() as usize - 1;
+        let resource = self.resources[place];
+        self.resources[place] = Resource {
+            kind: resource.kind,
+            scheme: resource.scheme,
+            live: false,
+            replaced,
+        };
+    }
+    // Whether the target takes the label of another in a merge: a name that it lacks.
+    fn takes(&self, target: ResNo, label: &Label) -> bool
+        ensures { result ≡ takes self.now.labels target label.now }
+    {
+        label.kind() != LabelKind::Scope && !self.has_name(target, &label.tag, label.text())
+    }
+
+    // Makes a resource with a preferred label that no live concept of its scheme has.
+    fn add_named(&mut self, resource: Resource, tag: Tag, text: Text) -> Result<ResNo, AllocError>
+        requires named { IsNamed self.old.resources resource }
+        requires free { IsFree self.old.resources self.old.labels resource tag text }
+        requires room { length self.old.resources + 1 < 2 ^ 32 }
+        ensures number { IfOk result (λ n. n ≡ length self.old.resources + 1) }
+        ensures ok { OnOk result (self.new ≡ vocabulary_of self.old.base (made resource tag text (bare_state self.old))) }
+        ensures err { OnErr result (self.new ≡ self.old) }
+    {
+        let n = ResNo::new(self.resources.len() as u32 + 1);
+        self.resources.try_reserve(1)?;
+        if let Some(scheme) = scheme_if_concept(&resource) {
+            self.names.put(scheme, &tag, &text, n)?;
+        }
+        let value = LabelValue::Pref(text);
+        self.labels.insert(n, Label { tag, value })?;
+        self.resources.push(resource).unwrap();
+        Ok(n)
+    }
+
+    // Makes an outside concept with an IRI that no other has.
+    fn add_outside(&mut self, iri: Iri) -> Result<ResNo, AllocError>
+        requires foreign { BeginsWith iri self.old.base → ⊥ }
+        requires free { (n : ℕ) → dict.get self.old.iris n ≢ Some iri }
+        requires room { length self.old.resources + 1 < 2 ^ 32 }
+        ensures number { IfOk result (λ n. n ≡ length self.old.resources + 1) }
+        ensures ok { OnOk result (self.new ≡ vocabulary_of self.old.base (outside_made iri (bare_state self.old))) }
+        ensures err { OnErr result (self.new ≡ self.old) }
+    {
+        let n = ResNo::new(self.resources.len() as u32 + 1);
+        self.resources.try_reserve(1)?;
+        self.iris.insert(n, iri)?;
+        let resource = new_resource(ResourceKind::Outside, None);
+        self.resources.push(resource).unwrap();
+        Ok(n)
+    }
+}
+
+// A live resource.
+fn new_resource(kind: ResourceKind, scheme: Option<ResNo>) -> Resource
+    ensures { result ≡ record { kind = kind; scheme = scheme; live = true; replaced = None } }
+{
+    Resource {
+        kind,
+        scheme,
+        live: true,
+        replaced: None,
     }
 }

@@ -1,8 +1,9 @@
 // The labels of all owners.
-ghost use Rattle.std.specs.Prelude.{◌≡◌, ◌↔◌, IsTrue, ℕ, List, IfOk, OnOk, OnErr, not, MatchOption};
+ghost use Rattle.std.specs.Prelude.{◌≡◌, ◌≢◌, ◌↔◌, ◌+◌, false, IsTrue, ℕ, List, IfOk, OnOk, OnErr, not, MatchOption};
 ghost use Rattle.std.specs.FinSet as set;
-ghost use Rattle.thes_base.specs.declared.data.LabelKind.TheVariants.{Pref};
-ghost use Rattle.thes_base.specs.Changes.{label};
+ghost use Rattle.thes_base.specs.declared.data.LabelKind.TheVariants.{Pref, Alt};
+ghost use Rattle.thes_base.specs.Data.{kind_of, text_of};
+ghost use Rattle.thes_base.specs.Changes.{label, renamed, taken_labels};
 ghost use Rattle.thes_base.specs.Labels.{HasLabel};
 ghost use Rattle.thes_base.specs.Machine.{owned};
 ghost use Rattle.thes_vocab.specs.Rivals.{HasTwoPreferred};
@@ -11,11 +12,11 @@ ghost use Rattle.thes_vocab.specs.Rows.{Owns, OwnsNone, row_of, IsPut, IsTaken, 
 ghost use Rattle.std.specs.Ordering.{nat_cmp};
 ghost use Rattle.std.specs.BTreeMap.{IsOrdered};
 
-use crate::row::Row;
+use crate::row::{Row, merged};
 use std::alloc::{AllocError, Global};
 use std::collections::BTreeMap;
 use std::marker::Model;
-use thes_base::data::{Label, LabelKind};
+use thes_base::data::{Label, LabelKind, LabelValue};
 use thes_base::number::ResNo;
 use thes_base::text::{Tag, Text};
 
@@ -127,6 +128,61 @@ impl LabelTable {
         if take(&mut self.rows, owner, kind, tag, text) {
             self.count -= 1;
         }
+    }
+
+    // Gives the owner another preferred label in the language, and keeps the old one as an alternative label if asked
+    // to. An `Err` changes nothing.
+    pub(crate) fn rename(&mut self, owner: ResNo, tag: &Tag, old: &Text, text: &Text, keep: bool) -> Result<(), AllocError>
+        requires apart { old.now ≢ text.now }
+        requires new { set.contains self.old (label owner Pref tag.now text.now) ≡ false }
+        ensures ok { OnOk result (self.new ≡ renamed owner tag.now text.now keep old.now self.old) }
+        ensures err { OnErr result (self.new ≡ self.old) }
+    {
+        let value = LabelValue::Pref(text.try_clone(self.alloc)?);
+        self.insert_value(owner, tag, value)?;
+        if keep {
+            if let Err(refused) = self.insert_alternative(owner, tag, old) {
+                self.remove(owner, LabelKind::Pref, tag, text.as_str());
+                return Err(refused);
+            }
+        }
+        self.remove(owner, LabelKind::Pref, tag, old.as_str());
+        Ok(())
+    }
+
+    fn insert_alternative(&mut self, owner: ResNo, tag: &Tag, text: &Text) -> Result<(), AllocError>
+        ensures ok { OnOk result (self.new ≡ set.insert self.old (label owner Alt tag.now text.now)) }
+        ensures err { OnErr result (self.new ≡ self.old) }
+    {
+        let value = LabelValue::Alt(text.try_clone(self.alloc)?);
+        self.insert_value(owner, tag, value)
+    }
+
+    fn insert_value(&mut self, owner: ResNo, tag: &Tag, value: LabelValue) -> Result<(), AllocError>
+        ensures ok { OnOk result (self.new ≡ set.insert self.old (label owner (kind_of value) tag.now (text_of value))) }
+        ensures err { OnErr result (self.new ≡ self.old) }
+    {
+        let tag = tag.try_clone(self.alloc)?;
+        self.insert(owner, Label { tag, value })
+    }
+
+    // Gives the target the names of the source that it lacks: so many. An `Err` changes nothing.
+    pub(crate) fn take_names(&mut self, source: ResNo, target: ResNo, gained: u64) -> Result<(), AllocError>
+        requires { set.len self.old + gained ≡ set.len (set.union self.old (taken_labels source target self.old)) }
+        ensures ok { OnOk result (self.new ≡ set.union self.old (taken_labels source target self.old)) }
+        ensures err { OnErr result (self.new ≡ self.old) }
+    {
+        let count = self.count.checked_add(gained).ok_or(AllocError)?;
+        let Some(from) = self.rows.get(&source) else {
+            return Ok(());
+        };
+        let row = match self.rows.get(&target) {
+            Some(row) => merged(self.alloc, from, row)?,
+            None => merged(self.alloc, from, &Row::new(self.alloc))?,
+        };
+        self.rows.insert(target, row)?;
+        self.count = count;
+        Ok(())
     }
 }
 

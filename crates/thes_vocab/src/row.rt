@@ -5,6 +5,7 @@ ghost use Rattle.std.specs.Ordering.{eq_by_cmp};
 ghost use Rattle.thes_base.specs.Data.{LabelData};
 ghost use Rattle.thes_base.specs.Labels.{label_kind_no};
 ghost use Rattle.thes_vocab.specs.Places.{IsPlace, IsPreferredAt};
+ghost use Rattle.thes_vocab.specs.Taken.{takes_own, taken, gives};
 ghost use Rattle.thes_vocab.specs.LabelData.{data_cmp, language_cmp, own_label, has_own, HasPreferred, HasNoPreferred, HasTwo};
 
 use std::alloc::{AllocError, Global};
@@ -24,6 +25,7 @@ impl Model for Row {
     ghost use Rattle.std.specs.List.Sorted.{IsStrictlySortedBy};
     ghost use Rattle.thes_base.specs.Data.{LabelData};
     ghost use Rattle.thes_vocab.specs.Places.{IsPlace, IsPreferredAt};
+ghost use Rattle.thes_vocab.specs.Taken.{takes_own, taken, gives};
 ghost use Rattle.thes_vocab.specs.LabelData.{data_cmp};
 
     ghost Value = { List LabelData };
@@ -68,6 +70,27 @@ impl Row {
         }
     }
 
+    // Whether the label is a name that is not among these.
+    fn takes(&self, label: &Label) -> bool
+        ensures { result ≡ takes_own self.now label.now }
+    {
+        label.kind() != LabelKind::Scope
+            && !self.contains(LabelKind::Pref, &label.tag, label.text())
+            && !self.contains(LabelKind::Alt, &label.tag, label.text())
+            && !self.contains(LabelKind::Hidden, &label.tag, label.text())
+    }
+
+    // The same labels.
+    fn try_clone(&self, alloc: Global) -> Result<Row, AllocError>
+        ensures { IfOk result (λ row. row ≡ self.now) }
+    {
+        let mut labels = Vec::new(alloc);
+        for label in &self.labels {
+            labels.push(label.try_clone(alloc)?)?;
+        }
+        Ok(Row { labels })
+    }
+
     // Adds a label, and answers whether it is new. An `Err` changes nothing.
     pub(crate) fn insert(&mut self, label: Label) -> Result<bool, AllocError>
         ensures added { IfOk result (λ added. added ≡ not (has_own self.old label)) }
@@ -106,6 +129,32 @@ impl Row {
         };
         second.kind() == LabelKind::Pref
     }
+}
+
+// The target's labels with those that it takes from the source in a merge.
+pub(crate) fn merged(alloc: Global, source: &Row, target: &Row) -> Result<Row, AllocError>
+    ensures { IfOk result (λ row. (l : LabelData) → has_own row l ≡ (has_own target.now l || gives source.now target.now l)) }
+{
+    let mut row = target.try_clone(alloc)?;
+    for label in source.as_slice() {
+        if target.takes(label) {
+            row.insert(taken(alloc, label)?)?;
+        }
+    }
+    Ok(row)
+}
+
+// What a label becomes that the target of a merge takes.
+fn taken(alloc: Global, label: &Label) -> Result<Label, AllocError>
+    ensures { IfOk result (λ l. l ≡ taken label.now) }
+{
+    let tag = label.tag.try_clone(alloc)?;
+    let value = match &label.value {
+        LabelValue::Pref(text) | LabelValue::Alt(text) => LabelValue::Alt(text.try_clone(alloc)?),
+        LabelValue::Hidden(text) => LabelValue::Hidden(text.try_clone(alloc)?),
+        LabelValue::Scope(note) => LabelValue::Scope(note.try_clone(alloc)?),
+    };
+    Ok(Label { tag, value })
 }
 
 // Where the label stands in the order, or where it would.

@@ -5,7 +5,7 @@ ghost use Rattle.std.specs.FinSet as set;
 ghost use Rattle.thes_base.specs.Resources.{numbered, IsLive};
 ghost use Rattle.thes_base.specs.Labels.{preferred_in, IsTaken};
 ghost use Rattle.thes_vocab.specs.LabelData.{AreLabelsOf};
-ghost use Rattle.thes_vocab.specs.Vocabulary.{empty_vocabulary, IsConceptOf, IsHolder};
+ghost use Rattle.thes_vocab.specs.Vocabulary.{empty_vocabulary, IsConceptOf, IsConceptIn, IsHolder};
 
 use crate::iris::IriTable;
 use crate::labels::LabelTable;
@@ -143,9 +143,15 @@ impl Vocab {
 
 // The scheme of a live concept.
 pub(crate) fn concept_scheme(resources: &[Resource], n: ResNo) -> Option<ResNo>
-    ensures { MatchOption result ((scheme : ℕ) → ¬ IsConceptOf resources.now scheme n) (λ scheme. IsConceptOf resources.now scheme n) }
+    ensures { MatchOption result ((scheme : ℕ) → IsConceptOf resources.now scheme n → ⊥) (λ scheme. IsConceptOf resources.now scheme n) }
 {
-    let resource = resources.get(n.get() as usize - 1)?;
+    scheme_if_concept(resources.get(n.get() as usize - 1)?)
+}
+
+// The scheme of a resource that is a live concept.
+pub(crate) fn scheme_if_concept(resource: &Resource) -> Option<ResNo>
+    ensures { MatchOption result ((scheme : ℕ) → IsConceptIn scheme resource.now → ⊥) (λ scheme. IsConceptIn scheme resource.now) }
+{
     if resource.kind != ResourceKind::Concept || !resource.live {
         return None;
     }
