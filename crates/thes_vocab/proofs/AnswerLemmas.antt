@@ -16,3 +16,7 @@ on_any_err P (Err e) h = h
 pub behind : {A : Type 0} (P : Type 0) (Q : A → Type 0) (o : Option (Bor A)) → MatchOption (option_copied o) P Q → MatchOption o P (λ b. Q b.now)
 behind P Q None h = h
 behind P Q (Some b) h = h
+
+pub in_front : {A : Type 0} (P : Type 0) (Q : A → Type 0) (o : Option (Bor A)) → MatchOption o P (λ b. Q b.now) → MatchOption (option_copied o) P Q
+in_front P Q None h = h
+in_front P Q (Some b) h = h

@@ -4,3 +4,5 @@ mod TableLemmas
 mod AnswerLemmas
 mod NameLemmas
 mod IriLemmas
+mod JudgingLemmas
+mod KeptLemmas

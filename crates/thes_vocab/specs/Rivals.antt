@@ -1,7 +1,7 @@
 -- What a preferred label may clash with, and what is left of an owner's preferred labels.
-use Rattle.std.specs.Prelude.{◌≡◌, ◌≢◌, ℕ, List, Some}
+use Rattle.std.specs.Prelude.{◌≡◌, ◌≢◌, ◌⊎◌, ℕ, List, Bool, true, Some}
 use Rattle.thes_base.specs.declared.data.Resource.{Resource}
-use Rattle.thes_base.specs.declared.data.LabelKind.TheVariants.{Pref}
+use Rattle.thes_base.specs.declared.data.LabelKind.TheVariants.{Pref, Alt, Hidden}
 use Rattle.thes_base.specs.Resources.{IsLiveConcept, scheme_of}
 use Rattle.thes_base.specs.Labels.{Labels, HasLabel}
 use Rattle.thes_base.specs.Changes.{label}
@@ -25,3 +25,8 @@ pub record HasTwoPreferred (labels : Labels) (owner : ℕ) : Type 0 where
   pub first : HasLabel labels owner Pref first_tag first_text
   pub second : HasLabel labels owner Pref second_tag second_text
   pub apart : label owner Pref first_tag first_text ≢ label owner Pref second_tag second_text
+
+-- In place of the owner's preferred label in the language, the text would stand under two kinds: it is an alternative or
+-- a hidden label, or it is the old one, which is to be kept.
+abbrev pub Clashes : Labels → ℕ → List ℕ → List ℕ → List ℕ → Bool → Type 0
+Clashes labels owner tag text old keep = HasLabel labels owner Alt tag text ⊎ HasLabel labels owner Hidden tag text ⊎ ((keep ≡ true) × (old ≡ text))

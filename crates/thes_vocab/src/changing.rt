@@ -140,7 +140,7 @@ impl Vocab {
     fn takes(&self, target: ResNo, label: &Label) -> bool
         ensures { result ≡ takes self.now.labels target label.now }
     {
-        label.kind() != LabelKind::Scope && !self.has_name(target, &label.tag, label.text())
+        label.kind() != LabelKind::Scope && !self.labels.has_name(target, &label.tag, label.text())
     }
 
     // Makes a resource with a preferred label that no live concept of its scheme has.

@@ -1,16 +1,18 @@
 //! Whether a request on resources or labels may be met, as far as they show.
-ghost use Rattle.std.specs.Prelude.{◌≡◌, ◌↔◌, IsTrue, List, ℕ};
+ghost use Rattle.std.specs.Prelude.{◌≡◌, ◌↔◌, IsTrue, false};
 ghost use Rattle.std.specs.FinSet as set;
 ghost use Rattle.thes_base.specs.declared.data.NewResource.TheVariants as new_resource;
 ghost use Rattle.thes_base.specs.Rows.{accepted};
+ghost use Rattle.thes_base.specs.Labels.{S13, S14, P1};
+ghost use Rattle.std.specs.Bool.{MatchBool};
 ghost use Rattle.thes_base.specs.Machine.{owned};
-ghost use Rattle.thes_base.specs.Changes.{label, has_name, labels_relabelled};
+ghost use Rattle.thes_base.specs.Changes.{labels_relabelled};
 ghost use Rattle.thes_base.specs.Refusals.{unless_foreign, unless_label, unless_dropped, unless_relabelled};
 ghost use Rattle.thes_vocab.specs.Vocabulary.{IsLiveOwner};
 ghost use Rattle.thes_vocab.specs.Requests.{unless_new};
 ghost use Rattle.thes_vocab.specs.Rivals.{HasRival};
 
-use crate::vocab::{Vocab, concept_scheme};
+use crate::vocab::{Vocab, concept_scheme, resource_at};
 use thes_base::data::{Label, LabelKind, LabelValue, NewResource, ResourceKind};
 use thes_base::fault::Refusal;
 use thes_base::number::ResNo;
@@ -34,7 +36,7 @@ impl Vocab {
     fn judge_concept(&self, scheme: ResNo, tag: &Tag, text: &Text) -> Option<Refusal>
         ensures { unless_new self.now (new_resource.Concept scheme tag.now text.now) accepted result }
     {
-        let Some(resource) = self.resource(scheme) else {
+        let Some(resource) = resource_at(self.resources.as_slice(), scheme) else {
             return Some(Refusal::UnknownResource);
         };
         if resource.kind != ResourceKind::Scheme {
@@ -49,7 +51,7 @@ impl Vocab {
     fn judge_collection(&self, scheme: ResNo, _tag: &Tag, _text: &Text) -> Option<Refusal>
         ensures { unless_new self.now (new_resource.Collection scheme _tag.now _text.now) accepted result }
     {
-        let Some(resource) = self.resource(scheme) else {
+        let Some(resource) = resource_at(self.resources.as_slice(), scheme) else {
             return Some(Refusal::UnknownResource);
         };
         if resource.kind != ResourceKind::Scheme {
@@ -73,21 +75,45 @@ impl Vocab {
         requires { IsLiveOwner self.now.resources owner }
         ensures { let l = owned owner label.now in unless_label self.now.labels self.now.resources (set.insert self.now.labels l) l accepted result }
     {
-        if self.has(owner, label.kind(), &label.tag, label.text()) {
+        if self.labels.contains(owner, label.kind(), &label.tag, label.text()) {
             return Some(Refusal::LabelThere);
         }
-        if label.kind() != LabelKind::Scope && self.has_name(owner, &label.tag, label.text()) {
+        if self.breaks_s13(owner, label) {
             return Some(Refusal::S13);
         }
-        if let LabelValue::Pref(text) = &label.value {
-            if self.preferred(owner, &label.tag).is_some() {
-                return Some(Refusal::S14);
-            }
-            if self.has_rival(owner, &label.tag, text) {
-                return Some(Refusal::PreferredTaken);
-            }
+        if self.breaks_s14(owner, label) {
+            return Some(Refusal::S14);
+        }
+        if self.breaks_unique(owner, label) {
+            return Some(Refusal::PreferredTaken);
         }
         None
+    }
+
+    // Whether the owner would have a text under two kinds with a label that it has not.
+    fn breaks_s13(&self, owner: ResNo, label: &Label) -> bool
+        requires { set.contains self.now.labels (owned owner label.now) ≡ false }
+        ensures { let after = set.insert self.now.labels (owned owner label.now) in MatchBool result (S13 after → ⊥) (S13 after) }
+    {
+        label.kind() != LabelKind::Scope && self.labels.has_name(owner, &label.tag, label.text())
+    }
+
+    // Whether the owner would have two preferred labels in a language with a label that it has not.
+    fn breaks_s14(&self, owner: ResNo, label: &Label) -> bool
+        requires { set.contains self.now.labels (owned owner label.now) ≡ false }
+        ensures { let after = set.insert self.now.labels (owned owner label.now) in MatchBool result (S14 after → ⊥) (S14 after) }
+    {
+        label.kind() == LabelKind::Pref && self.labels.preferred(owner, &label.tag).is_some()
+    }
+
+    // Whether two live concepts of a scheme would have one preferred label with a label that the owner has not.
+    fn breaks_unique(&self, owner: ResNo, label: &Label) -> bool
+        ensures { let after = set.insert self.now.labels (owned owner label.now) in MatchBool result (P1 self.now.resources after → ⊥) (P1 self.now.resources after) }
+    {
+        match &label.value {
+            LabelValue::Pref(text) => self.has_rival(owner, &label.tag, text),
+            _ => false,
+        }
     }
 
     /// What refuses that a label of a live owner is dropped.
@@ -95,7 +121,10 @@ impl Vocab {
         requires { IsLiveOwner self.now.resources owner }
         ensures { unless_dropped self.now.labels (owned owner label.now) accepted result }
     {
-        if !self.has(owner, label.kind(), &label.tag, label.text()) {
+        if !self
+            .labels
+            .contains(owner, label.kind(), &label.tag, label.text())
+        {
             return Some(Refusal::NoSuchLabel);
         }
         if label.kind() == LabelKind::Pref && !self.labels.has_two_preferred(owner) {
@@ -109,13 +138,10 @@ impl Vocab {
         requires { IsLiveOwner self.now.resources owner }
         ensures { unless_relabelled self.now.labels self.now.resources (labels_relabelled owner tag.now text.now keep self.now.labels) owner tag.now accepted result }
     {
-        let Some(old) = self.preferred(owner, tag) else {
+        let Some(old) = self.labels.preferred(owner, tag) else {
             return Some(Refusal::NoSuchLabel);
         };
-        if self.has(owner, LabelKind::Alt, tag, text.as_str())
-            || self.has(owner, LabelKind::Hidden, tag, text.as_str())
-            || keep && old == text
-        {
+        if self.labels.clashes(owner, tag, old, text, keep) {
             return Some(Refusal::S13);
         }
         if self.has_rival(owner, tag, text) {
@@ -124,25 +150,10 @@ impl Vocab {
         None
     }
 
-    // Whether the owner has the text in the language as a label of the kind.
-    fn has(&self, owner: ResNo, kind: LabelKind, tag: &Tag, text: &str) -> bool
-        ensures { result ≡ set.contains self.now.labels (label owner kind tag.now text.now) }
-    {
-        self.labels.contains(owner, kind, tag, text)
-    }
-
-    // Whether the owner has the text in the language as a preferred, an alternative or a hidden label.
-    pub(crate) fn has_name(&self, owner: ResNo, tag: &Tag, text: &str) -> bool
-        ensures { result ≡ has_name self.now.labels owner tag.now text.now }
-    {
-        self.has(owner, LabelKind::Pref, tag, text)
-            || self.has(owner, LabelKind::Alt, tag, text)
-            || self.has(owner, LabelKind::Hidden, tag, text)
-    }
-
     // Whether the owner is a live concept, and another one of its scheme has the preferred label.
     fn has_rival(&self, owner: ResNo, tag: &Tag, text: &Text) -> bool
-        ensures { IsTrue result ↔ HasRival self.now.resources self.now.labels owner tag.now text.now }
+        ensures rival { IsTrue result ↔ HasRival self.now.resources self.now.labels owner tag.now text.now }
+        ensures unique { P1 self.now.resources self.now.labels }
     {
         let Some(scheme) = concept_scheme(self.resources.as_slice(), owner) else {
             return false;

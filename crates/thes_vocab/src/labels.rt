@@ -3,10 +3,10 @@ ghost use Rattle.std.specs.Prelude.{◌≡◌, ◌≢◌, ◌↔◌, ◌+◌, fa
 ghost use Rattle.std.specs.FinSet as set;
 ghost use Rattle.thes_base.specs.declared.data.LabelKind.TheVariants.{Pref, Alt};
 ghost use Rattle.thes_base.specs.Data.{kind_of, text_of};
-ghost use Rattle.thes_base.specs.Changes.{label, renamed, taken_labels};
+ghost use Rattle.thes_base.specs.Changes.{label, has_name, renamed, taken_labels};
 ghost use Rattle.thes_base.specs.Labels.{HasLabel};
 ghost use Rattle.thes_base.specs.Machine.{owned};
-ghost use Rattle.thes_vocab.specs.Rivals.{HasTwoPreferred};
+ghost use Rattle.thes_vocab.specs.Rivals.{HasTwoPreferred, Clashes};
 ghost use Rattle.thes_vocab.specs.LabelData.{own_label, has_own, AreLabelsOf};
 ghost use Rattle.thes_vocab.specs.Rows.{Owns, OwnsNone, row_of, IsPut, IsTaken, AreSame};
 ghost use Rattle.std.specs.Ordering.{nat_cmp};
@@ -89,6 +89,15 @@ impl LabelTable {
         }
     }
 
+    // Whether the owner has the text in the language as a preferred, an alternative or a hidden label.
+    pub(crate) fn has_name(&self, owner: ResNo, tag: &Tag, text: &str) -> bool
+        ensures { result ≡ has_name self.now owner tag.now text.now }
+    {
+        self.contains(owner, LabelKind::Pref, tag, text)
+            || self.contains(owner, LabelKind::Alt, tag, text)
+            || self.contains(owner, LabelKind::Hidden, tag, text)
+    }
+
     // The owner's preferred label in the language, or one of them.
     pub(crate) fn preferred(&self, owner: ResNo, tag: &Tag) -> Option<&Text>
         ensures { MatchOption result ((text : List ℕ) → HasLabel self.now owner Pref tag.now text → ⊥) (λ text. HasLabel self.now owner Pref tag.now text.now) }
@@ -97,6 +106,15 @@ impl LabelTable {
             Some(row) => row.preferred(tag),
             None => None,
         }
+    }
+
+    // Whether a text would stand under two kinds in place of the old preferred label.
+    pub(crate) fn clashes(&self, owner: ResNo, tag: &Tag, old: &Text, text: &Text, keep: bool) -> bool
+        ensures { IsTrue result ↔ Clashes self.now owner tag.now text.now old.now keep }
+    {
+        self.contains(owner, LabelKind::Alt, tag, text.as_str())
+            || self.contains(owner, LabelKind::Hidden, tag, text.as_str())
+            || keep && old == text
     }
 
     // Whether the owner has two preferred labels.

@@ -68,7 +68,7 @@ impl Vocab {
     pub fn resource(&self, n: ResNo) -> Option<&Resource>
         ensures { option_copied result ≡ numbered self.now.resources n }
     {
-        self.resources.get(n.get() as usize - 1)
+        resource_at(self.resources.as_slice(), n)
     }
 
     /// Whether the number is a live resource's.
@@ -141,11 +141,18 @@ impl Vocab {
     }
 }
 
+// The resource with this number.
+pub(crate) fn resource_at(resources: &[Resource], n: ResNo) -> Option<&Resource>
+    ensures { option_copied result ≡ numbered resources.now n }
+{
+    resources.get(n.get() as usize - 1)
+}
+
 // The scheme of a live concept.
 pub(crate) fn concept_scheme(resources: &[Resource], n: ResNo) -> Option<ResNo>
     ensures { MatchOption result ((scheme : ℕ) → IsConceptOf resources.now scheme n → ⊥) (λ scheme. IsConceptOf resources.now scheme n) }
 {
-    scheme_if_concept(resources.get(n.get() as usize - 1)?)
+    scheme_if_concept(resource_at(resources, n)?)
 }
 
 // The scheme of a resource that is a live concept.
