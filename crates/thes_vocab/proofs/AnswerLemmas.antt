@@ -1,5 +1,6 @@
 -- What holds of an answer.
-use Rattle.std.proofs.Common.{Bor}
+use Rattle.std.proofs.Common.{◌≡◌, refl, Bool, true, false, Bor}
+use Rattle.std.specs.Bool.{MatchBool}
 use Rattle.std.specs.Prelude.{Option, None, Some, Result, Ok, Err}
 use Rattle.std.specs.Option.{MatchOption, option_copied}
 use Rattle.std.specs.Result.{OnErr}
@@ -20,3 +21,11 @@ behind P Q (Some b) h = h
 pub in_front : {A : Type 0} (P : Type 0) (Q : A → Type 0) (o : Option (Bor A)) → MatchOption o P (λ b. Q b.now) → MatchOption (option_copied o) P Q
 in_front P Q None h = h
 in_front P Q (Some b) h = h
+
+-- an answer of yes or no
+pub matched : (b : Bool) (Bad Good : Type 0) → (b ≡ true → Bad) → (b ≡ false → Good) → MatchBool b Bad Good
+matched true Bad Good f g = f refl
+matched false Bad Good f g = g refl
+
+pub never : (b : Bool) → b ≡ true → b ≡ false → ⊥
+never b e f = cc

@@ -1,7 +1,8 @@
 -- When a label more, one less, or another name breaks a condition on labels.
-use Rattle.std.proofs.Common.{◌≡◌, ◌≢◌, ◌⊎◌, inl, inr, ℕ, ◌+◌, length, List, [], ◌∷◌, ◌++◌, refl, sym, ap, ◌∙◌, subst, Bool, true, false, not, ◌&&◌, ◌||◌, eqb, eqb-true, eq-eqb}
+use Rattle.std.proofs.Common.{◌≡◌, ◌≢◌, ◌⊎◌, ◌≤◌, inl, inr, ℕ, ◌+◌, length, List, [], ◌∷◌, ◌++◌, refl, sym, ap, ◌∙◌, subst, Bool, true, false, not, ◌&&◌, ◌||◌, eqb, eqb-true, eq-eqb, Bor}
 use Rattle.std.specs.Prelude.{Option, None, Some, find, option_map, if◌then◌else◌, ◌==◌}
-use Rattle.std.specs.Option.{MatchOption}
+use Rattle.std.specs.Option.{MatchOption, is_some}
+use Rattle.std.specs.Bool.{MatchBool}
 use Rattle.std.specs.Ordering.{nat_cmp, eq_by_cmp, is_eq}
 use Rattle.std.specs.Cmp.{tied_itself, Equal-is}
 use Rattle.std.specs.Cmp.Lexicographic.{slice_cmp}
@@ -12,17 +13,24 @@ use Rattle.std.proofs.lemmas.Map.Lookups.{exact_bytes}
 use Rattle.thes_base.specs.declared.data.Resource.{Resource}
 use Rattle.thes_base.specs.declared.data.LabelKind.{LabelKind}
 use Rattle.thes_base.specs.declared.data.LabelKind.TheVariants.{Pref, Alt, Hidden, Scope}
-use Rattle.thes_base.specs.Resources.{IsLiveConcept, scheme_of}
-use Rattle.thes_base.specs.Labels.{Label, Labels, label_cmp, label_kind_no, HasLabel, is_name, is_preferred_in, preferred_in, S13, S14, P1}
+use Rattle.thes_base.specs.declared.data.LabelValue.{LabelValue}
+use Rattle.thes_base.specs.declared.data.LabelValue.TheVariants as values
+use Rattle.thes_base.specs.Data.{kind_of}
+use Rattle.thes_base.specs.Resources.{IsLiveConcept, IsScheme, Exists, scheme_of}
+use Rattle.thes_base.specs.Labels.{Label, Labels, label_cmp, label_kind_no, HasLabel, is_name, is_preferred_in, preferred_in, S13, S14, P1, IsTaken}
 use Rattle.thes_base.specs.declared.fault.Refusal.{Refusal}
 use Rattle.thes_base.specs.declared.fault.Refusal.TheVariants as no
 use Rattle.thes_base.specs.Rows.{accepted}
 use Rattle.thes_base.specs.Legal.{LegalLabels}
-use Rattle.thes_base.specs.Changes.{label, has_name, renamed, labels_relabelled}
-use Rattle.thes_base.specs.Refusals.{LeavesName, unless_relabelled}
+use Rattle.thes_base.specs.Changes.{label, concept_resource, has_name, renamed, labels_relabelled}
+use Rattle.thes_base.specs.Refusals.{LeavesName, unless_relabelled, unless_scheme, unless_unique}
 use Rattle.thes_base.proofs.LabelSets.{labels_total, labels_exact, inserted_cases, inserted_kept, inserted_new}
+use Rattle.thes_base.proofs.Uniqueness.{made_unique, taken_breaks}
+use Rattle.thes_base.proofs.ConditionLemmas.{owner_exists}
+use Rattle.thes_base.proofs.NumberedLemmas.{numbered_bound}
 use Rattle.thes_base.proofs.LabelsKept.{removed_cases, removed_kept}
 use Rattle.thes_base.proofs.ResourceLemmas.{same_or_not, left_true, right_true, both_true}
+use Rattle.thes_vocab.specs.Vocabulary.{IsHolder}
 use Rattle.thes_vocab.specs.Rivals.{HasRival, HasTwoPreferred, Clashes}
 
 tied : (x y : Label) → eq_by_cmp label_cmp x y ≡ true → x ≡ y
@@ -124,6 +132,10 @@ module _ (labels : Labels) (owner : ℕ) (tag : List ℕ) where
       go None is (Some text) h = absurd (find_none (is_preferred_in owner tag) (set.items labels) is (label owner Pref tag text) (preferred_test owner tag text) (sym (set.contains-items labels (label owner Pref tag text)) ∙ h))
       go (Some l) is None h = absurd (h l.text (preferred_has l.text (ap (option_map (λ (x : Label). x.text)) is)))
       go (Some l) is (Some text) h = ap Some (s14 owner tag text l.text h (preferred_has l.text (ap (option_map (λ (x : Label). x.text)) is)))
+
+-- Owners are numbers of resources.
+pub owners_bound : (rs : List Resource) (labels : Labels) → LegalLabels rs labels → (l : Label) → set.contains labels l ≡ true → (1 ≤ l.owner) × (l.owner ≤ length rs)
+owners_bound rs labels legal l held = let at = owner_exists rs l.owner (legal.owners l held) in numbered_bound rs l.owner at.0 at.1
 
 -- A name of one of the kinds.
 
@@ -372,3 +384,45 @@ module _ (rs : List Resource) (labels : Labels) (owner : ℕ) (tag text old : Li
     pub row_renamed : (HasRival rs labels owner tag text → ⊥) → RowOf None
     row_renamed none =
         at_renamed _ (inr ((old, has), inr (renamed_keeps_s13 labels owner tag text old keep legal.disjoint has free, inr (renamed_keeps_unique labels owner tag text old keep rs legal.unique none, refl))))
+
+pub name_unless_scope : (k : LabelKind) → k ≢ Scope → is_name k ≡ true
+name_unless_scope Pref apart = refl
+name_unless_scope Alt apart = refl
+name_unless_scope Hidden apart = refl
+name_unless_scope Scope apart = absurd (apart refl)
+
+pub answers_s14 : (labels : Labels) (l : Label) → set.contains labels l ≡ false → l.kind ≡ Pref → S14 labels → (o : Option (Bor (List ℕ))) → MatchOption o ((text : List ℕ) → HasLabel labels l.owner Pref l.tag text → ⊥) (λ text. HasLabel labels l.owner Pref l.tag text.now)
+    → (answer : Bool) → answer ≡ is_some o → MatchBool answer (S14 (set.insert labels l) → ⊥) (S14 (set.insert labels l))
+answers_s14 labels l new is s14 None none answer e = subst (λ b. MatchBool b (S14 (set.insert labels l) → ⊥) (S14 (set.insert labels l))) (sym e) (keeps_s14 labels l s14 (inr none))
+answers_s14 labels l new is s14 (Some text) has answer e = subst (λ b. MatchBool b (S14 (set.insert labels l) → ⊥) (S14 (set.insert labels l))) (sym e) (breaks_s14 labels l new is text.now has)
+
+pub not_pref : (value : LabelValue) → ((text : List ℕ) → value ≡ values.Pref text → ⊥) → kind_of value ≡ Pref → ⊥
+not_pref (values.Pref text) other e = other text refl
+not_pref (values.Alt text) other e = cc
+not_pref (values.Hidden text) other e = cc
+not_pref (values.Scope text) other e = cc
+
+-- What a look-up of a holder tells.
+module _ (rs : List Resource) (labels : Labels) (scheme : ℕ) (tag text : List ℕ) where
+  pub holder_taken : (o : Option ℕ) → MatchOption o (IsTaken rs labels scheme tag text → ⊥) (IsHolder rs labels scheme tag text) → is_some o ≡ true → IsTaken rs labels scheme tag text
+  holder_taken None h e = absurd (cc)
+  holder_taken (Some n) h e = (n, h.0.0, h.0.1, h.1)
+
+  pub no_holder : (o : Option ℕ) → MatchOption o (IsTaken rs labels scheme tag text → ⊥) (IsHolder rs labels scheme tag text) → is_some o ≡ false → IsTaken rs labels scheme tag text → ⊥
+  no_holder None h e = h
+  no_holder (Some n) h e = absurd (cc)
+
+-- A new concept.
+
+module _ (rs : List Resource) (labels : Labels) (legal : LegalLabels rs labels) (scheme : ℕ) (tag text : List ℕ) (is_scheme : IsScheme rs scheme) where
+  abbrev RowOfConcept : Option Refusal → Type 0
+  RowOfConcept answer = unless_scheme rs scheme (unless_unique (rs ++ concept_resource (Some scheme) ∷ []) (set.insert labels (label (length rs + 1) Pref tag text)) accepted) answer
+
+  known : Exists rs scheme
+  known = (is_scheme.0, is_scheme.1)
+
+  pub row_taken : IsTaken rs labels scheme tag text → RowOfConcept (Some no.PreferredTaken)
+  row_taken taken = inr (known, inr (is_scheme, inl (taken_breaks rs labels scheme (concept_resource (Some scheme)) tag text refl refl taken, refl)))
+
+  pub row_free : (IsTaken rs labels scheme tag text → ⊥) → RowOfConcept None
+  row_free none = inr (known, inr (is_scheme, inr (made_unique rs labels (concept_resource (Some scheme)) tag text (owners_bound rs labels legal) legal.unique (λ s live e taken. none (subst (λ k. IsTaken rs labels k tag text) (sym (some_same e)) taken)), refl)))

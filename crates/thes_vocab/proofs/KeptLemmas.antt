@@ -1,1 +1,301 @@
--- What holds of every vocabulary is kept.
+-- What holds of every vocabulary is kept by each change.
+use Rattle.std.proofs.Common.{◌≡◌, ◌≢◌, ◌⊎◌, ◌<◌, ◌^◌, inl, inr, ℕ, ◌+◌, ◌-◌, length, List, [], ◌∷◌, ◌++◌, refl, sym, ap, ◌∙◌, subst, arith, Bool, true, false, ◌&&◌}
+use Rattle.std.specs.Prelude.{Option, None, Some, option_and_then}
+use Rattle.std.specs.Ordering.{nat_cmp}
+use Rattle.std.specs.Cmp.{nat_cmp_total}
+use Rattle.std.specs.Cmp.Lexicographic.{slice_cmp}
+use Rattle.std.specs.FinSet as set
+use Rattle.std.specs.FinMap as dict
+use Rattle.std.proofs.lemmas.Cmp.{nat_list_cmp_total}
+use Rattle.std.proofs.lemmas.Map.Lookups.{exact_bytes}
+use Rattle.thes_base.specs.declared.data.Resource.{Resource}
+use Rattle.thes_base.specs.declared.data.ResourceKind.{ResourceKind}
+use Rattle.thes_base.specs.declared.data.ResourceKind.TheVariants as kinds
+use Rattle.thes_base.specs.declared.data.LabelKind.TheVariants.{Pref, Alt}
+use Rattle.thes_base.specs.Resources.{Iris, numbered, set_numbered, IsConcept, IsLive, IsLiveConcept, BeginsWith, scheme_of, is_concept_kind, is_outside_kind, is_scheme_kind, is_collection_kind}
+use Rattle.thes_base.specs.Labels.{Label, Labels, HasLabel, IsTaken, P1, S13}
+use Rattle.thes_base.specs.Links.{Chain}
+use Rattle.thes_base.specs.Legal.{LegalResources, LegalLabels, AreLegalIris}
+use Rattle.thes_base.specs.Changes.{label, dead, killed, renamed, outside_resource, taken_labels}
+use Rattle.thes_base.specs.Refusals.{LeavesName}
+use Rattle.thes_base.proofs.LabelSets.{inserted_cases, inserted_kept, inserted_new}
+use Rattle.thes_base.proofs.LabelsKept.{labels_made, labels_push, labels_added, labels_dropped, labels_renamed, labels_dead, removed_cases, MayOwn}
+use Rattle.thes_base.proofs.ResourcesKept.{IsFit, resources_push, resources_push_outside, resources_dead}
+use Rattle.thes_base.proofs.Uniqueness.{made_unique, live_before}
+use Rattle.thes_base.proofs.NumberedLemmas.{push_cases, push_old, numbered_bound}
+use Rattle.thes_base.proofs.ResourceLemmas.{same_or_not, killed_at, one_resource, concept_of_live, live_of_live, scheme_push}
+use Rattle.thes_base.proofs.MergedLabels.{labels_merged}
+use Rattle.thes_vocab.specs.declared.names.Names.{Names}
+use Rattle.thes_vocab.specs.Vocabulary.{IsConceptIn, IsConceptOf, IsHolder, IsReplacement}
+use Rattle.thes_vocab.specs.Named.{holder_in, IsPut, AreSame}
+use Rattle.thes_vocab.specs.Requests.{IsNamed, IsFree}
+use Rattle.thes_vocab.specs.Kept.{IsKept}
+use Rattle.thes_vocab.proofs.NameLemmas.{same_or_not as same_key}
+use Rattle.thes_vocab.proofs.JudgingLemmas.{owners_bound, renamed_cases, renamed_fresh, renamed_old}
+
+-- The index of names.
+
+-- it finds each holder
+abbrev pub Finds : List Resource → Labels → Names → Type 0
+Finds rs labels names = (scheme n : ℕ) (tag text : List ℕ) → IsHolder rs labels scheme tag text n → holder_in names scheme tag text ≡ Some n
+
+same_text : (t x : List ℕ) → (t ≡ x) ⊎ (t ≡ x → ⊥)
+same_text = same_key (slice_cmp nat_cmp) nat_list_cmp_total exact_bytes
+
+-- a name is the one that was noted, or another
+pub same_name : (s t : ℕ) (tag tag' text text' : List ℕ) → ((s ≡ t) × (tag ≡ tag') × (text ≡ text')) ⊎ ((s ≡ t) × (tag ≡ tag') × (text ≡ text') → ⊥)
+same_name s t tag tag' text text' = go (same_or_not s t) (same_text tag tag') (same_text text text')
+  where
+    go : (s ≡ t) ⊎ (s ≢ t) → (tag ≡ tag') ⊎ (tag ≡ tag' → ⊥) → (text ≡ text') ⊎ (text ≡ text' → ⊥) → ((s ≡ t) × (tag ≡ tag') × (text ≡ text')) ⊎ ((s ≡ t) × (tag ≡ tag') × (text ≡ text') → ⊥)
+    go (inl a) (inl b) (inl c) = inl (a, b, c)
+    go (inr a) b c = inr (λ h. a h.0)
+    go a (inr b) c = inr (λ h. b h.1)
+    go a b (inr c) = inr (λ h. c h.2)
+
+-- what is found after a name is noted
+pub found_put : (old new : Names) (scheme : ℕ) (tag text : List ℕ) (concept : ℕ) → IsPut old new scheme tag text (Some concept) → (s n : ℕ) (t x : List ℕ) → ((s ≡ scheme) × (t ≡ tag) × (x ≡ text) → n ≡ concept) → (((s ≡ scheme) × (t ≡ tag) × (x ≡ text) → ⊥) → holder_in old s t x ≡ Some n) → holder_in new s t x ≡ Some n
+found_put old new scheme tag text concept put s n t x here there = elim (same_name s scheme t tag x text) [
+  | inl same ↦ (λ i. holder_in new (same.0 i) (same.1 i) (same.2 i)) ∙ put.0 ∙ ap Some (sym (here same))
+  | inr apart ↦ put.1 s t x apart ∙ there apart
+]
+
+-- and after one is forgotten that no concept has
+pub found_forgotten : (old new : Names) (scheme : ℕ) (tag text : List ℕ) → IsPut old new scheme tag text None → (s n : ℕ) (t x : List ℕ) → ((s ≡ scheme) × (t ≡ tag) × (x ≡ text) → ⊥) → holder_in old s t x ≡ Some n → holder_in new s t x ≡ Some n
+found_forgotten old new scheme tag text put s n t x apart found = put.1 s t x apart ∙ found
+
+-- a holder of the same name in the same scheme
+moved : (rs : List Resource) (labels : Labels) (s scheme n : ℕ) (t tag x text : List ℕ) → (s ≡ scheme) × (t ≡ tag) × (x ≡ text) → IsHolder rs labels s t x n → IsHolder rs labels scheme tag text n
+moved rs labels s scheme n t tag x text same h = subst (λ (p : ℕ × (List ℕ × List ℕ)). IsHolder rs labels p.0 p.1.0 p.1.1 n) (λ i. (same.0 i, (same.1 i, same.2 i))) h
+
+same_some : {A : Type 0} {x y : A} → Some x ≡ Some y → x ≡ y
+same_some e = cc
+
+-- the scheme of a concept
+one_scheme : (rs : List Resource) (n s t : ℕ) → IsConceptOf rs s n → scheme_of rs n ≡ Some t → t ≡ s
+one_scheme rs n s t at e = same_some (sym e ∙ at.1)
+
+-- One label more.
+module _ (rs : List Resource) (labels : Labels) (l : Label) (old : Names) (finds : Finds rs labels old) (unique : P1 rs (set.insert labels l)) where
+  -- a note or another name, or one of an owner that is no concept
+  pub finds_other : ((scheme : ℕ) → l.kind ≡ Pref → IsConceptOf rs scheme l.owner → ⊥) → Finds rs (set.insert labels l) old
+  finds_other none scheme n tag text h = elim (inserted_cases labels l _ h.1) [
+    | inl is ↦ absurd (none scheme (sym (ap (λ (x : Label). x.kind) is)) (subst (IsConceptOf rs scheme) (ap (λ (x : Label). x.owner) is) h.0))
+    | inr held ↦ finds scheme n tag text (h.0, held)
+  ]
+
+  module _ (scheme : ℕ) (concept : IsConceptOf rs scheme l.owner) (pref : l.kind ≡ Pref) (new : Names) (put : IsPut old new scheme l.tag l.text (Some l.owner)) where
+    owner_has : HasLabel (set.insert labels l) l.owner Pref l.tag l.text
+    owner_has = subst (λ k. HasLabel (set.insert labels l) l.owner k l.tag l.text) pref (inserted_new labels l)
+
+    -- whoever has the name is the owner
+    is_owner : (n : ℕ) → IsHolder rs (set.insert labels l) scheme l.tag l.text n → n ≡ l.owner
+    is_owner n h = unique n l.owner scheme l.tag l.text h.0.0 concept.0 h.0.1 concept.1 h.1 owner_has
+
+    -- the name is noted, and the label not added
+    pub finds_noted : Finds rs labels new
+    finds_noted s n t x h = found_put old new scheme l.tag l.text l.owner put s n t x (λ same. is_owner n (moved rs (set.insert labels l) s scheme n t l.tag x l.text same (h.0, inserted_kept labels l _ h.1))) (λ _. finds s n t x h)
+
+    pub finds_added : Finds rs (set.insert labels l) new
+    finds_added s n t x h = found_put old new scheme l.tag l.text l.owner put s n t x (λ same. is_owner n (moved rs (set.insert labels l) s scheme n t l.tag x l.text same h)) (λ apart. other apart (inserted_cases labels l _ h.1))
+      where
+        other : ((s ≡ scheme) × (t ≡ l.tag) × (x ≡ l.text) → ⊥) → (label n Pref t x ≡ l) ⊎ HasLabel labels n Pref t x → holder_in old s t x ≡ Some n
+        other apart (inl is) =
+            let owner = ap (λ (y : Label). y.owner) is in
+            absurd (apart (one_scheme rs l.owner scheme s concept (subst (λ k. scheme_of rs k ≡ Some s) owner h.0.1), ap (λ (y : Label). y.tag) is, ap (λ (y : Label). y.text) is))
+        other apart (inr held) = finds s n t x (h.0, held)
+
+-- One label less.
+module _ (rs : List Resource) (labels : Labels) (l : Label) (old : Names) (finds : Finds rs labels old) where
+  pub finds_less : Finds rs (set.remove labels l) old
+  finds_less s n t x h = finds s n t x (h.0, (removed_cases labels l _ h.1).1)
+
+  pub finds_dropped : (scheme : ℕ) → IsConceptOf rs scheme l.owner → set.contains labels l ≡ true → l.kind ≡ Pref → P1 rs labels → (new : Names) → IsPut old new scheme l.tag l.text None → Finds rs (set.remove labels l) new
+  finds_dropped scheme concept held pref unique new put s n t x h = found_forgotten old new scheme l.tag l.text put s n t x apart (finds s n t x (h.0, before.1))
+    where
+      before : (label n Pref t x ≢ l) × HasLabel labels n Pref t x
+      before = removed_cases labels l _ h.1
+
+      apart : (s ≡ scheme) × (t ≡ l.tag) × (x ≡ l.text) → ⊥
+      apart same =
+          let at = moved rs labels s scheme n t l.tag x l.text same (h.0, before.1) in
+          let owner = unique n l.owner scheme l.tag l.text at.0.0 concept.0 at.0.1 concept.1 at.1 (subst (λ k. HasLabel labels l.owner k l.tag l.text) pref held) in
+          before.0 (λ i. label (owner i) (sym pref i) (same.1 i) (same.2 i))
+
+-- Another name in place of the old one.
+module _ (rs : List Resource) (labels : Labels) (owner : ℕ) (tag text was : List ℕ) (keep : Bool) (old : Names) (finds : Finds rs labels old) (unique : P1 rs (renamed owner tag text keep was labels)) where
+  abbrev after : Labels
+  after = renamed owner tag text keep was labels
+
+  not_kept : (n : ℕ) (t x : List ℕ) → label n Pref t x ≡ label owner Alt tag was → ⊥
+  not_kept n t x e = let k = ap (λ (l : Label). l.kind) e in cc
+
+  -- an owner that is no concept
+  pub finds_unnamed : ((scheme : ℕ) → IsConceptOf rs scheme owner → ⊥) → Finds rs after old
+  finds_unnamed none s n t x h = elim (renamed_cases labels owner tag text was keep _ h.1) [
+    | inl is ↦ absurd (none s (subst (IsConceptOf rs s) (ap (λ (l : Label). l.owner) is) h.0))
+    | inr (inl (_, is)) ↦ absurd (not_kept n t x is)
+    | inr (inr (_, held)) ↦ finds s n t x (h.0, held)
+  ]
+
+  module _ (scheme : ℕ) (concept : IsConceptOf rs scheme owner) (noted : Names) (put : IsPut old noted scheme tag text (Some owner)) where
+    is_named : (n : ℕ) → IsHolder rs after scheme tag text n → n ≡ owner
+    is_named n h = unique n owner scheme tag text h.0.0 concept.0 h.0.1 concept.1 h.1 (renamed_fresh labels owner tag text was keep)
+
+    -- the new name is noted, and nothing else done
+    pub finds_still : Finds rs labels noted
+    finds_still s n t x h = found_put old noted scheme tag text owner put s n t x (λ same. at same (same_or_not n owner)) (λ _. finds s n t x h)
+      where
+        at : (s ≡ scheme) × (t ≡ tag) × (x ≡ text) → (n ≡ owner) ⊎ (n ≢ owner) → n ≡ owner
+        at same (inl here) = here
+        at same (inr differ) =
+            let h' = moved rs labels s scheme n t tag x text same h in
+            is_named n (h'.0, renamed_old labels owner tag text was keep (label n Pref tag text) (λ e. differ (ap (λ (l : Label). l.owner) e)) h'.1)
+
+    found_renamed : Finds rs after noted
+    found_renamed s n t x h = found_put old noted scheme tag text owner put s n t x (λ same. is_named n (moved rs after s scheme n t tag x text same h)) (λ apart. other apart (renamed_cases labels owner tag text was keep _ h.1))
+      where
+        other : ((s ≡ scheme) × (t ≡ tag) × (x ≡ text) → ⊥) → (label n Pref t x ≡ label owner Pref tag text) ⊎ ((keep ≡ true) × (label n Pref t x ≡ label owner Alt tag was)) ⊎ ((label n Pref t x ≢ label owner Pref tag was) × HasLabel labels n Pref t x) → holder_in old s t x ≡ Some n
+        other apart (inl is) =
+            let o = ap (λ (y : Label). y.owner) is in
+            absurd (apart (one_scheme rs owner scheme s concept (subst (λ k. scheme_of rs k ≡ Some s) o h.0.1), ap (λ (y : Label). y.tag) is, ap (λ (y : Label). y.text) is))
+        other apart (inr (inl (_, is))) = absurd (not_kept n t x is)
+        other apart (inr (inr (_, held))) = finds s n t x (h.0, held)
+
+    -- and the old one forgotten
+    pub finds_renamed : was ≢ text → HasLabel labels owner Pref tag was → P1 rs labels → (new : Names) → IsPut noted new scheme tag was None → Finds rs after new
+    finds_renamed differ has_old before new forgot s n t x h = found_forgotten noted new scheme tag was forgot s n t x apart (found_renamed s n t x h)
+      where
+        apart : (s ≡ scheme) × (t ≡ tag) × (x ≡ was) → ⊥
+        apart same = go (moved rs after s scheme n t tag x was same h)
+          where
+            go : IsHolder rs after scheme tag was n → ⊥
+            go g = elim (renamed_cases labels owner tag text was keep _ g.1) [
+              | inl is ↦ differ (ap (λ (l : Label). l.text) is)
+              | inr (inl (_, is)) ↦ not_kept n tag was is
+              | inr (inr (other, held)) ↦ other (ap (λ k. label k Pref tag was) (before n owner scheme tag was g.0.0 concept.0 g.0.1 concept.1 held has_old))
+            ]
+
+-- One more resource.
+
+scheme_at : (rs : List Resource) (n : ℕ) (r : Resource) → numbered rs n ≡ Some r → scheme_of rs n ≡ r.scheme
+scheme_at rs n r e = ap (option_and_then (λ (x : Resource). x.scheme)) e
+
+-- a concept of a scheme is the new resource, or was one
+concept_cases : (rs : List Resource) (r : Resource) (scheme n : ℕ) → IsConceptOf (rs ++ r ∷ []) scheme n → IsConceptOf rs scheme n ⊎ ((n ≡ length rs + 1) × IsConceptIn scheme r)
+concept_cases rs r scheme n c = elim (push_cases rs r c.0.0 n c.0.1) [
+  | inl was ↦ inl ((c.0.0, was, c.0.2), scheme_at rs n c.0.0 was ∙ sym (scheme_at (rs ++ r ∷ []) n c.0.0 c.0.1) ∙ c.1)
+  | inr new ↦ inr (new.0, subst (IsConceptIn scheme) new.1 (c.0.2, sym (scheme_at (rs ++ r ∷ []) n c.0.0 c.0.1) ∙ c.1))
+]
+
+module _ (rs : List Resource) (labels : Labels) (r : Resource) (tag text : List ℕ) (old : Names) (legal : LegalLabels rs labels) (finds : Finds rs labels old) where
+  abbrev next : ℕ
+  next = length rs + 1
+
+  abbrev grown : List Resource
+  grown = rs ++ r ∷ []
+
+  abbrev with_name : Labels
+  with_name = set.insert labels (label next Pref tag text)
+
+  not_next : (l : Label) → set.contains labels l ≡ true → l.owner ≢ next
+  not_next l held e = let b = owners_bound rs labels legal l held in omega (arith, b.1, e)
+
+  old_only : (n : ℕ) (t x : List ℕ) → n ≢ next → HasLabel with_name n Pref t x → HasLabel labels n Pref t x
+  old_only n t x apart h = elim (inserted_cases labels (label next Pref tag text) _ h) [ inl is ↦ absurd (apart (ap (λ (l : Label). l.owner) is)) | inr held ↦ held ]
+
+  exists_apart : (scheme n : ℕ) → IsConceptOf rs scheme n → n ≢ next
+  exists_apart scheme n c e = let b = numbered_bound rs n c.0.0 c.0.1 in omega (arith, b.1, e)
+
+  -- no concept is made
+  pub finds_made : ((scheme : ℕ) → IsConceptIn scheme r → ⊥) → Finds grown with_name old
+  finds_made none s n t x h = elim (concept_cases rs r s n h.0) [
+    | inl was ↦ finds s n t x (was, old_only n t x (exists_apart s n was) h.1)
+    | inr new ↦ absurd (none s new.1)
+  ]
+
+  module _ (scheme : ℕ) (concept : IsConceptIn scheme r) (free : IsTaken rs labels scheme tag text → ⊥) (new : Names) (put : IsPut old new scheme tag text (Some next)) where
+    -- the name is noted, and nothing made
+    pub finds_before : Finds rs labels new
+    finds_before s n t x h = found_put old new scheme tag text next put s n t x (λ same. let at = moved rs labels s scheme n t tag x text same h in absurd (free (n, at.0.0, at.0.1, at.1))) (λ _. finds s n t x h)
+
+    pub finds_made_concept : Finds grown with_name new
+    finds_made_concept s n t x h = elim (concept_cases rs r s n h.0) [
+      | inl was ↦
+          let held = old_only n t x (exists_apart s n was) h.1 in
+          finds_before s n t x (was, held)
+      | inr (at, is) ↦ found_put old new scheme tag text next put s n t x (λ _. at) (λ apart. absurd (let m = named at in apart (same_some (sym is.1 ∙ concept.1), m.0, m.1)))
+    ]
+      where
+        named : n ≡ next → (t ≡ tag) × (x ≡ text)
+        named at = elim (inserted_cases labels (label next Pref tag text) _ h.1) [
+          | inl is ↦ (ap (λ (l : Label). l.tag) is, ap (λ (l : Label). l.text) is)
+          | inr held ↦ absurd (not_next _ held at)
+        ]
+
+-- Everything.
+
+pub kept_named : (base : List ℕ) (rs : List Resource) (iris : Iris) (labels : Labels) (names : Names) (r : Resource) (tag text : List ℕ) → LegalResources base rs iris → LegalLabels rs labels → IsNamed rs r → IsFree rs labels r tag text → length rs + 1 < 2 ^ 32 → Finds (rs ++ r ∷ []) (set.insert labels (label (length rs + 1) Pref tag text)) names
+    → IsKept base (rs ++ r ∷ []) iris (set.insert labels (label (length rs + 1) Pref tag text)) names
+kept_named base rs iris labels names r tag text legal named is free few finds = record {
+  legal = resources_push base rs iris r legal (record { live = is.live; replaced = is.replaced; scheme = is.scheme; no_scheme = no_scheme }) few inside;
+  named = labels_made rs labels r tag text named is.owner (made_unique rs labels r tag text (owners_bound rs labels named) named.unique (λ scheme live e. free scheme (live, e)));
+  found = finds;
+}
+  where
+    inside : is_outside_kind r.kind ≡ false
+    inside = not_outside r.kind is.owner
+      where
+        not_outside : (k : ResourceKind) → (is_scheme_kind k ≡ true) ⊎ (is_concept_kind k ≡ true) ⊎ (is_collection_kind k ≡ true) → is_outside_kind k ≡ false
+        not_outside kinds.Scheme o = refl
+        not_outside kinds.Concept o = refl
+        not_outside kinds.Collection o = refl
+        not_outside kinds.Outside (inl e) = absurd (cc)
+        not_outside kinds.Outside (inr (inl e)) = absurd (cc)
+        not_outside kinds.Outside (inr (inr e)) = absurd (cc)
+
+    no_scheme : (is_scheme_kind r.kind ≡ true) ⊎ (is_outside_kind r.kind ≡ true) → r.scheme ≡ None
+    no_scheme (inl e) = is.no_scheme e
+    no_scheme (inr e) = absurd (let f = inside in cc)
+
+pub kept_outside : (base : List ℕ) (rs : List Resource) (iris : Iris) (labels : Labels) (names : Names) (iri : List ℕ) → IsKept base rs iris labels names → length rs + 1 < 2 ^ 32 → (BeginsWith iri base → ⊥) → ((n : ℕ) → dict.get iris n ≢ Some iri)
+    → IsKept base (rs ++ outside_resource ∷ []) (dict.insert iris (length rs + 1) iri) labels names
+kept_outside base rs iris labels names iri kept few foreign fresh = record {
+  legal = resources_push_outside base rs iris outside_resource kept.legal (record { live = refl; replaced = refl; scheme = λ k. absurd (no_kind k); no_scheme = λ _. refl }) iri few refl foreign fresh;
+  named = labels_push rs labels outside_resource no_owner kept.named;
+  found = λ s n t x h. elim (concept_cases rs outside_resource s n h.0) [ inl was ↦ kept.found s n t x (was, h.1) | inr new ↦ absurd (never new.1.0) ];
+}
+  where
+    never : false ≡ true → ⊥
+    never e = cc
+
+    no_kind : (false ≡ true) ⊎ (false ≡ true) → ⊥
+    no_kind (inl e) = cc
+    no_kind (inr e) = cc
+
+    no_owner : MayOwn outside_resource → ⊥
+    no_owner (inl e) = cc
+    no_owner (inr (inl e)) = cc
+    no_owner (inr (inr e)) = cc
+
+-- a new number has no IRI yet
+pub no_iri : (base : List ℕ) (rs : List Resource) (iris : Iris) → LegalResources base rs iris → dict.get iris (length rs + 1) ≡ None
+no_iri base rs iris legal = go (dict.get iris (length rs + 1)) refl
+  where
+    go : (o : Option (List ℕ)) → dict.get iris (length rs + 1) ≡ o → dict.get iris (length rs + 1) ≡ None
+    go None e = e
+    go (Some iri) e = absurd (let at = legal.outside.only (length rs + 1) iri e in let b = numbered_bound rs (length rs + 1) at.0 at.1 in omega (arith, b.1))
+
+pub kept_dead : (base : List ℕ) (rs : List Resource) (iris : Iris) (labels : Labels) (names : Names) (n : ℕ) (replaced : Option ℕ) (r : Resource) → IsKept base rs iris labels names → numbered rs n ≡ Some r → IsLiveConcept rs n → IsReplacement rs n replaced
+    → IsKept base (set_numbered rs n (dead replaced r)) iris labels names
+kept_dead base rs iris labels names n replaced r kept at live fit = record {
+  legal = resources_dead base rs iris n replaced r at kept.legal concept (fits replaced fit);
+  named = labels_dead rs n replaced r at labels kept.named;
+  found = λ s m t x h. let was = live_before rs n replaced r at m h.0.0 in kept.found s m t x ((was.1, sym was.2 ∙ h.0.1), h.1);
+}
+  where
+    concept : is_concept_kind r.kind ≡ true
+    concept = let c = concept_of_live rs n live in subst (λ (x : Resource). is_concept_kind x.kind ≡ true) (one_resource rs n c.0 r c.1 at) c.2
+
+    fits : (o : Option ℕ) → IsReplacement rs n o → (m : ℕ) → o ≡ Some m → (m ≢ n) × IsConcept rs m × IsLive rs m × (scheme_of rs m ≡ r.scheme)
+    fits None h m e = absurd (cc)
+    fits (Some k) h m e = subst (λ j. (j ≢ n) × IsConcept rs j × IsLive rs j × (scheme_of rs j ≡ r.scheme)) (same_some e) (h.0, concept_of_live rs k h.1, live_of_live rs k h.1, h.2 ∙ scheme_at rs n r at)

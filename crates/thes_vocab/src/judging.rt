@@ -108,6 +108,7 @@ impl Vocab {
 
     // Whether two live concepts of a scheme would have one preferred label with a label that the owner has not.
     fn breaks_unique(&self, owner: ResNo, label: &Label) -> bool
+        requires { P1 self.now.resources self.now.labels }
         ensures { let after = set.insert self.now.labels (owned owner label.now) in MatchBool result (P1 self.now.resources after → ⊥) (P1 self.now.resources after) }
     {
         match &label.value {
@@ -152,8 +153,7 @@ impl Vocab {
 
     // Whether the owner is a live concept, and another one of its scheme has the preferred label.
     fn has_rival(&self, owner: ResNo, tag: &Tag, text: &Text) -> bool
-        ensures rival { IsTrue result ↔ HasRival self.now.resources self.now.labels owner tag.now text.now }
-        ensures unique { P1 self.now.resources self.now.labels }
+        ensures { IsTrue result ↔ HasRival self.now.resources self.now.labels owner tag.now text.now }
     {
         let Some(scheme) = concept_scheme(self.resources.as_slice(), owner) else {
             return false;
