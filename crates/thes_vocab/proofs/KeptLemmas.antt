@@ -1,6 +1,7 @@
 -- What holds of every vocabulary is kept by each change.
 use Rattle.std.proofs.Common.{◌≡◌, ◌≢◌, ◌⊎◌, ◌<◌, ◌^◌, inl, inr, ℕ, ◌+◌, ◌-◌, length, List, [], ◌∷◌, ◌++◌, refl, sym, ap, ◌∙◌, subst, arith, Bool, true, false, ◌&&◌}
 use Rattle.std.specs.Prelude.{Option, None, Some, option_and_then}
+use Rattle.std.specs.Option.{MatchOption}
 use Rattle.std.specs.Ordering.{nat_cmp}
 use Rattle.std.specs.Cmp.{nat_cmp_total}
 use Rattle.std.specs.Cmp.Lexicographic.{slice_cmp}
@@ -11,7 +12,8 @@ use Rattle.std.proofs.lemmas.Map.Lookups.{exact_bytes}
 use Rattle.thes_base.specs.declared.data.Resource.{Resource}
 use Rattle.thes_base.specs.declared.data.ResourceKind.{ResourceKind}
 use Rattle.thes_base.specs.declared.data.ResourceKind.TheVariants as kinds
-use Rattle.thes_base.specs.declared.data.LabelKind.TheVariants.{Pref, Alt}
+use Rattle.thes_base.specs.declared.data.LabelKind.{LabelKind}
+use Rattle.thes_base.specs.declared.data.LabelKind.TheVariants.{Pref, Alt, Hidden, Scope}
 use Rattle.thes_base.specs.Resources.{Iris, numbered, set_numbered, IsConcept, IsLive, IsLiveConcept, BeginsWith, scheme_of, is_concept_kind, is_outside_kind, is_scheme_kind, is_collection_kind}
 use Rattle.thes_base.specs.Labels.{Label, Labels, HasLabel, IsTaken, P1, S13}
 use Rattle.thes_base.specs.Links.{Chain}
@@ -27,7 +29,7 @@ use Rattle.thes_base.proofs.ResourceLemmas.{same_or_not, killed_at, one_resource
 use Rattle.thes_base.proofs.MergedLabels.{labels_merged}
 use Rattle.thes_vocab.specs.declared.names.Names.{Names}
 use Rattle.thes_vocab.specs.Vocabulary.{IsConceptIn, IsConceptOf, IsHolder, IsReplacement}
-use Rattle.thes_vocab.specs.Named.{holder_in, IsPut, AreSame}
+use Rattle.thes_vocab.specs.Named.{holder_in, IsPut, AreSame, IsNoted, IsKindNoted, IsLabelNoted}
 use Rattle.thes_vocab.specs.Requests.{IsNamed, IsFree}
 use Rattle.thes_vocab.specs.Kept.{IsKept}
 use Rattle.thes_vocab.proofs.NameLemmas.{same_or_not as same_key}
@@ -299,3 +301,54 @@ kept_dead base rs iris labels names n replaced r kept at live fit = record {
     fits : (o : Option ℕ) → IsReplacement rs n o → (m : ℕ) → o ≡ Some m → (m ≢ n) × IsConcept rs m × IsLive rs m × (scheme_of rs m ≡ r.scheme)
     fits None h m e = absurd (cc)
     fits (Some k) h m e = subst (λ j. (j ≢ n) × IsConcept rs j × IsLive rs j × (scheme_of rs j ≡ r.scheme)) (same_some e) (h.0, concept_of_live rs k h.1, live_of_live rs k h.1, h.2 ∙ scheme_at rs n r at)
+
+-- By the scheme of an owner, if it is a live concept.
+
+abbrev pub IsSchemeOf : List Resource → ℕ → Option ℕ → Type 0
+IsSchemeOf rs n o = MatchOption o ((scheme : ℕ) → IsConceptOf rs scheme n → ⊥) (λ scheme. IsConceptOf rs scheme n)
+
+finds_same : (rs : List Resource) (labels : Labels) (old new : Names) → AreSame old new → Finds rs labels old → Finds rs labels new
+finds_same rs labels old new same finds s n t x h = same s t x ∙ finds s n t x h
+
+module _ (rs : List Resource) (labels : Labels) (l : Label) (old new : Names) (finds : Finds rs labels old) (unique : P1 rs (set.insert labels l)) where
+  both : (o : Option ℕ) → IsSchemeOf rs l.owner o → (k : LabelKind) → l.kind ≡ k → IsKindNoted k old new o (record { kind = k; tag = l.tag; text = l.text }) (Some l.owner) → Finds rs labels new × Finds rs (set.insert labels l) new
+  both (Some scheme) concept Pref is put = (finds_noted rs labels l old finds unique scheme concept is new put, finds_added rs labels l old finds unique scheme concept is new put)
+  both None none Pref is same = (finds_same rs labels old new same finds, finds_same rs (set.insert labels l) old new same (finds_other rs labels l old finds unique (λ scheme _ c. none scheme c)))
+  both o at Alt is same = (finds_same rs labels old new same finds, finds_same rs (set.insert labels l) old new same (finds_other rs labels l old finds unique (λ scheme e _. let f = sym is ∙ e in cc)))
+  both o at Hidden is same = (finds_same rs labels old new same finds, finds_same rs (set.insert labels l) old new same (finds_other rs labels l old finds unique (λ scheme e _. let f = sym is ∙ e in cc)))
+  both o at Scope is same = (finds_same rs labels old new same finds, finds_same rs (set.insert labels l) old new same (finds_other rs labels l old finds unique (λ scheme e _. let f = sym is ∙ e in cc)))
+
+  pub finds_label_noted : (o : Option ℕ) → IsSchemeOf rs l.owner o → IsLabelNoted old new o (record { kind = l.kind; tag = l.tag; text = l.text }) (Some l.owner) → Finds rs labels new
+  finds_label_noted o at noted = (both o at l.kind refl noted).0
+
+  pub finds_label_added : (o : Option ℕ) → IsSchemeOf rs l.owner o → IsLabelNoted old new o (record { kind = l.kind; tag = l.tag; text = l.text }) (Some l.owner) → Finds rs (set.insert labels l) new
+  finds_label_added o at noted = (both o at l.kind refl noted).1
+
+module _ (rs : List Resource) (labels : Labels) (l : Label) (old new : Names) (finds : Finds rs labels old) (unique : P1 rs labels) (held : set.contains labels l ≡ true) where
+  less : (o : Option ℕ) → IsSchemeOf rs l.owner o → (k : LabelKind) → l.kind ≡ k → IsKindNoted k old new o (record { kind = k; tag = l.tag; text = l.text }) None → Finds rs (set.remove labels l) new
+  less (Some scheme) concept Pref is put = finds_dropped rs labels l old finds scheme concept held is unique new put
+  less None none Pref is same = finds_same rs (set.remove labels l) old new same (finds_less rs labels l old finds)
+  less o at Alt is same = finds_same rs (set.remove labels l) old new same (finds_less rs labels l old finds)
+  less o at Hidden is same = finds_same rs (set.remove labels l) old new same (finds_less rs labels l old finds)
+  less o at Scope is same = finds_same rs (set.remove labels l) old new same (finds_less rs labels l old finds)
+
+  pub finds_label_dropped : (o : Option ℕ) → IsSchemeOf rs l.owner o → IsLabelNoted old new o (record { kind = l.kind; tag = l.tag; text = l.text }) None → Finds rs (set.remove labels l) new
+  finds_label_dropped o at noted = less o at l.kind refl noted
+
+module _ (rs : List Resource) (labels : Labels) (owner : ℕ) (tag text was : List ℕ) (keep : Bool) (old noted : Names) (finds : Finds rs labels old) (unique : P1 rs (renamed owner tag text keep was labels)) where
+  pub finds_name_noted : (o : Option ℕ) → IsSchemeOf rs owner o → IsNoted old noted o tag text (Some owner) → Finds rs labels noted
+  finds_name_noted None none same = finds_same rs labels old noted same finds
+  finds_name_noted (Some scheme) concept put = finds_still rs labels owner tag text was keep old finds unique scheme concept noted put
+
+  pub finds_name_changed : was ≢ text → HasLabel labels owner Pref tag was → P1 rs labels → (o : Option ℕ) → IsSchemeOf rs owner o → IsNoted old noted o tag text (Some owner) → (new : Names) → IsNoted noted new o tag was None → Finds rs (renamed owner tag text keep was labels) new
+  finds_name_changed differ has before None none same new gone = finds_same rs _ noted new gone (finds_same rs _ old noted same (finds_unnamed rs labels owner tag text was keep old finds unique none))
+  finds_name_changed differ has before (Some scheme) concept put new forgot = finds_renamed rs labels owner tag text was keep old finds unique scheme concept noted put differ has before new forgot
+
+module _ (rs : List Resource) (labels : Labels) (r : Resource) (tag text : List ℕ) (old new : Names) (legal : LegalLabels rs labels) (finds : Finds rs labels old) (free : IsFree rs labels r tag text) where
+  pub finds_new_noted : (o : Option ℕ) → MatchOption o ((scheme : ℕ) → IsConceptIn scheme r → ⊥) (λ scheme. IsConceptIn scheme r) → IsNoted old new o tag text (Some (length rs + 1)) → Finds rs labels new
+  finds_new_noted None none same = finds_same rs labels old new same finds
+  finds_new_noted (Some scheme) concept put = finds_before rs labels r tag text old legal finds scheme concept (free scheme concept) new put
+
+  pub finds_new : (o : Option ℕ) → MatchOption o ((scheme : ℕ) → IsConceptIn scheme r → ⊥) (λ scheme. IsConceptIn scheme r) → IsNoted old new o tag text (Some (length rs + 1)) → Finds (rs ++ r ∷ []) (set.insert labels (label (length rs + 1) Pref tag text)) new
+  finds_new None none same = finds_same _ _ old new same (finds_made rs labels r tag text old legal finds none)
+  finds_new (Some scheme) concept put = finds_made_concept rs labels r tag text old legal finds scheme concept (free scheme concept) new put

@@ -1,8 +1,11 @@
 -- Where the holder of a preferred label is found: by scheme, language and text.
-use Rattle.std.specs.Prelude.{◌≡◌, ℕ, List, Option, option_and_then}
+use Rattle.std.specs.Prelude.{◌≡◌, ℕ, List, Option, None, Some, option_and_then}
 use Rattle.std.specs.Ordering.{nat_cmp}
 use Rattle.std.specs.Cmp.Lexicographic.{slice_cmp}
 use Rattle.std.specs.BTreeMap.{BTreeMap, get}
+use Rattle.thes_base.specs.declared.data.LabelKind.{LabelKind}
+use Rattle.thes_base.specs.declared.data.LabelKind.TheVariants.{Pref, Alt, Hidden, Scope}
+use Rattle.thes_base.specs.Data.{LabelData}
 use Rattle.thes_vocab.specs.declared.names.Names.{Names}
 
 -- by text, and by language and text
@@ -35,3 +38,18 @@ IsPut old new scheme tag text holder =
 
 abbrev pub AreSame : Names → Names → Type 0
 AreSame old new = (scheme : ℕ) (tag text : List ℕ) → holder_in new scheme tag text ≡ holder_in old scheme tag text
+
+-- the same in a scheme, if there is one
+abbrev pub IsNoted : Names → Names → Option ℕ → List ℕ → List ℕ → Option ℕ → Type 0
+IsNoted old new None tag text holder = AreSame old new
+IsNoted old new (Some scheme) tag text holder = IsPut old new scheme tag text holder
+
+-- and of a label, if it is a preferred one
+abbrev pub IsKindNoted : LabelKind → Names → Names → Option ℕ → LabelData → Option ℕ → Type 0
+IsKindNoted Pref old new scheme l holder = IsNoted old new scheme l.tag l.text holder
+IsKindNoted Alt old new scheme l holder = AreSame old new
+IsKindNoted Hidden old new scheme l holder = AreSame old new
+IsKindNoted Scope old new scheme l holder = AreSame old new
+
+abbrev pub IsLabelNoted : Names → Names → Option ℕ → LabelData → Option ℕ → Type 0
+IsLabelNoted old new scheme l holder = IsKindNoted l.kind old new scheme l holder

@@ -46,12 +46,10 @@ impl Vocab {
         ensures err { OnErr result (self.new ≡ self.old) }
     {
         let copy = label.try_clone(self.alloc)?;
-        if let LabelValue::Pref(text) = &label.value {
-            if let Some(scheme) = concept_scheme(self.resources.as_slice(), owner) {
-                self.names.put(scheme, &label.tag, text, owner)?;
-            }
-        }
-        self.labels.insert(owner, copy)
+        let scheme = concept_scheme(self.resources.as_slice(), owner);
+        self.names.put_label(scheme, label, owner)?;
+        self.labels.insert(owner, copy)?;
+        Ok(())
     }
 
     /// Drops a label where nothing refuses it.
@@ -60,11 +58,8 @@ impl Vocab {
         requires allowed { unless_dropped self.old.labels (owned owner label.now) accepted None }
         ensures { self.new ≡ with_labels self.old (set.remove self.old.labels (owned owner label.now)) }
     {
-        if let LabelValue::Pref(text) = &label.value {
-            if let Some(scheme) = concept_scheme(self.resources.as_slice(), owner) {
-                self.names.forget(scheme, &label.tag, text);
-            }
-        }
+        let scheme = concept_scheme(self.resources.as_slice(), owner);
+        self.names.forget_label(scheme, label);
         self.labels
             .remove(owner, label.kind(), &label.tag, label.text());
     }
@@ -85,13 +80,9 @@ impl Vocab {
         }
         let old = old.try_clone(self.alloc)?;
         let scheme = concept_scheme(self.resources.as_slice(), owner);
-        if let Some(scheme) = scheme {
-            self.names.put(scheme, tag, text, owner)?;
-        }
+        self.names.put(scheme, tag, text, owner)?;
         self.labels.rename(owner, tag, &old, text, keep)?;
-        if let Some(scheme) = scheme {
-            self.names.forget(scheme, tag, &old);
-        }
+        self.names.forget(scheme, tag, &old);
         Ok(())
     }
 
@@ -154,9 +145,8 @@ impl Vocab {
     {
         let n = ResNo::new(self.resources.len() as u32 + 1);
         self.resources.try_reserve(1)?;
-        if let Some(scheme) = scheme_if_concept(&resource) {
-            self.names.put(scheme, &tag, &text, n)?;
-        }
+        let scheme = scheme_if_concept(&resource);
+        self.names.put(scheme, &tag, &text, n)?;
         let value = LabelValue::Pref(text);
         self.labels.insert(n, Label { tag, value })?;
         self.resources.push(resource).unwrap();

@@ -1,9 +1,10 @@
 // Where the holder of a preferred label is found.
 ghost use Rattle.std.specs.Prelude.{◌≡◌, ℕ, List, OnOk, OnErr, None, Some};
-ghost use Rattle.thes_vocab.specs.Named.{holder_in, IsPut, AreSame, IsTagPut, AreSameTags};
+ghost use Rattle.thes_vocab.specs.Named.{holder_in, IsNoted, IsLabelNoted, IsPut, AreSame, IsTagPut, AreSameTags};
 
 use std::alloc::{AllocError, Global};
 use std::collections::BTreeMap;
+use thes_base::data::{Label, LabelValue};
 use thes_base::number::ResNo;
 use thes_base::text::{Tag, Text};
 
@@ -37,8 +38,49 @@ impl Names {
         self.schemes.get(&scheme)?.get(tag)?.get(text).copied()
     }
 
-    // Notes that the concept is given the preferred label. An `Err` changes nothing.
-    pub(crate) fn put(&mut self, scheme: ResNo, tag: &Tag, text: &Text, concept: ResNo) -> Result<(), AllocError>
+    // Notes that the concept is given the label, if it is a preferred one and there is a scheme. An `Err` changes nothing.
+    pub(crate) fn put_label(&mut self, scheme: Option<ResNo>, label: &Label, concept: ResNo) -> Result<(), AllocError>
+        ensures ok { OnOk result (IsLabelNoted self.old self.new scheme label.now (Some concept)) }
+        ensures err { OnErr result (AreSame self.old self.new) }
+    {
+        match &label.value {
+            LabelValue::Pref(text) => self.put(scheme, &label.tag, text, concept),
+            _ => Ok(()),
+        }
+    }
+
+    // Notes that the concept is given the preferred label, if there is a scheme. An `Err` changes nothing.
+    pub(crate) fn put(&mut self, scheme: Option<ResNo>, tag: &Tag, text: &Text, concept: ResNo) -> Result<(), AllocError>
+        ensures ok { OnOk result (IsNoted self.old self.new scheme tag.now text.now (Some concept)) }
+        ensures err { OnErr result (AreSame self.old self.new) }
+    {
+        match scheme {
+            Some(scheme) => self.put_in(scheme, tag, text, concept),
+            None => Ok(()),
+        }
+    }
+
+    // Forgets the label, if it is a preferred one and there is a scheme.
+    pub(crate) fn forget_label(&mut self, scheme: Option<ResNo>, label: &Label)
+        ensures { IsLabelNoted self.old self.new scheme label.now None }
+    {
+        match &label.value {
+            LabelValue::Pref(text) => self.forget(scheme, &label.tag, text),
+            _ => {}
+        }
+    }
+
+    // Forgets the preferred label, if there is a scheme.
+    pub(crate) fn forget(&mut self, scheme: Option<ResNo>, tag: &Tag, text: &Text)
+        ensures { IsNoted self.old self.new scheme tag.now text.now None }
+    {
+        match scheme {
+            Some(scheme) => self.forget_in(scheme, tag, text),
+            None => {}
+        }
+    }
+
+    fn put_in(&mut self, scheme: ResNo, tag: &Tag, text: &Text, concept: ResNo) -> Result<(), AllocError>
         ensures ok { OnOk result (IsPut self.old self.new scheme tag.now text.now (Some concept)) }
         ensures err { OnErr result (AreSame self.old self.new) }
     {
@@ -53,8 +95,7 @@ impl Names {
         Ok(())
     }
 
-    // Forgets the preferred label.
-    pub(crate) fn forget(&mut self, scheme: ResNo, tag: &Tag, text: &Text)
+    fn forget_in(&mut self, scheme: ResNo, tag: &Tag, text: &Text)
         ensures { IsPut self.old self.new scheme tag.now text.now None }
     {
         if let Some(tags) = self.schemes.get_mut(&scheme) {

@@ -3,7 +3,7 @@ use Rattle.std.specs.Prelude.{Some, option_and_then}
 use Rattle.std.proofs.lemmas.Result.{on_ok_weaker, on_err_weaker}
 use Rattle.thes_vocab.specs.Named.{ByTag, tag_holder, IsPut}
 use Rattle.thes_vocab.proofs.NameLemmas.{Schemes, IsSchemeSet, no_tag, scheme_written, scheme_updated, scheme_put, scheme_kept}
-use Rattle.thes_vocab.proofs.names.Names.put.Goals as goal
+use Rattle.thes_vocab.proofs.names.Names.put_in.Goals as goal
 
 pub returns-in-Some-clause-ok : goal.returns-in-Some-clause-ok
 returns-in-Some-clause-ok c =

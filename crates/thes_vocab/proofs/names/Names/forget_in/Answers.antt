@@ -2,7 +2,7 @@ use Rattle.std.proofs.Common.{◌≡◌, ap, sym, List, ℕ}
 use Rattle.std.specs.Prelude.{None, option_and_then}
 use Rattle.thes_vocab.specs.Named.{ByTag, tag_holder}
 use Rattle.thes_vocab.proofs.NameLemmas.{scheme_written, scheme_put}
-use Rattle.thes_vocab.proofs.names.Names.forget.Goals as goal
+use Rattle.thes_vocab.proofs.names.Names.forget_in.Goals as goal
 
 pub returns-in-Some : goal.returns-in-Some
 returns-in-Some c =
