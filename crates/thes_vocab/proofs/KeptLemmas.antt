@@ -14,12 +14,16 @@ use Rattle.thes_base.specs.declared.data.ResourceKind.{ResourceKind}
 use Rattle.thes_base.specs.declared.data.ResourceKind.TheVariants as kinds
 use Rattle.thes_base.specs.declared.data.LabelKind.{LabelKind}
 use Rattle.thes_base.specs.declared.data.LabelKind.TheVariants.{Pref, Alt, Hidden, Scope}
-use Rattle.thes_base.specs.Resources.{Iris, numbered, set_numbered, IsConcept, IsLive, IsLiveConcept, BeginsWith, scheme_of, is_concept_kind, is_outside_kind, is_scheme_kind, is_collection_kind}
-use Rattle.thes_base.specs.Labels.{Label, Labels, HasLabel, IsTaken, P1, S13}
+use Rattle.thes_base.specs.Resources.{Iris, numbered, set_numbered, IsConcept, IsLive, IsLiveConcept, BeginsWith, CanOwn, scheme_of, is_concept_kind, is_outside_kind, is_scheme_kind, is_collection_kind}
+use Rattle.thes_base.specs.Labels.{Label, Labels, HasLabel, IsTaken, P1, S13, S14}
 use Rattle.thes_base.specs.Links.{Chain}
 use Rattle.thes_base.specs.Legal.{LegalResources, LegalLabels, AreLegalIris}
-use Rattle.thes_base.specs.Changes.{label, dead, killed, renamed, outside_resource, taken_labels}
-use Rattle.thes_base.specs.Refusals.{LeavesName}
+use Rattle.thes_base.specs.Changes.{label, dead, renamed, labels_relabelled, outside_resource, taken_labels}
+use Rattle.thes_base.specs.Data.{LabelData}
+use Rattle.thes_base.specs.Machine.{owned}
+use Rattle.thes_base.specs.Rows.{accepted}
+use Rattle.thes_base.specs.Refusals.{unless_label, unless_dropped, unless_relabelled}
+use Rattle.thes_base.proofs.RowLemmas.{passed_if, passed_unless}
 use Rattle.thes_base.proofs.LabelSets.{inserted_cases, inserted_kept, inserted_new}
 use Rattle.thes_base.proofs.LabelsKept.{labels_made, labels_push, labels_added, labels_dropped, labels_renamed, labels_dead, removed_cases, MayOwn}
 use Rattle.thes_base.proofs.ResourcesKept.{IsFit, resources_push, resources_push_outside, resources_dead}
@@ -33,7 +37,7 @@ use Rattle.thes_vocab.specs.Named.{holder_in, IsPut, AreSame, IsNoted, IsKindNot
 use Rattle.thes_vocab.specs.Requests.{IsNamed, IsFree}
 use Rattle.thes_vocab.specs.Kept.{IsKept}
 use Rattle.thes_vocab.proofs.NameLemmas.{same_or_not as same_key}
-use Rattle.thes_vocab.proofs.JudgingLemmas.{owners_bound, renamed_cases, renamed_fresh, renamed_old}
+use Rattle.thes_vocab.proofs.JudgingLemmas.{owners_bound, relabelled_is, renamed_cases, renamed_fresh, renamed_old}
 
 -- The index of names.
 
@@ -352,3 +356,65 @@ module _ (rs : List Resource) (labels : Labels) (r : Resource) (tag text : List 
   pub finds_new : (o : Option ℕ) → MatchOption o ((scheme : ℕ) → IsConceptIn scheme r → ⊥) (λ scheme. IsConceptIn scheme r) → IsNoted old new o tag text (Some (length rs + 1)) → Finds (rs ++ r ∷ []) (set.insert labels (label (length rs + 1) Pref tag text)) new
   finds_new None none same = finds_same _ _ old new same (finds_made rs labels r tag text old legal finds none)
   finds_new (Some scheme) concept put = finds_made_concept rs labels r tag text old legal finds scheme concept (free scheme concept) new put
+
+-- All of it, by the calls.
+
+module _ (base : List ℕ) (rs : List Resource) (iris : Iris) (labels : Labels) (old new : Names) (kept : IsKept base rs iris labels old) where
+  abbrev Same : Type 0
+  Same = IsKept base rs iris labels new
+
+  kept_finding : Finds rs labels new → Same
+  kept_finding finds = record { legal = kept.legal; named = kept.named; found = finds }
+
+  module _ (owner : ℕ) (o : Option ℕ) (at : IsSchemeOf rs owner o) where
+    module _ (d : LabelData) where
+      abbrev l : Label
+      l = owned owner d
+
+      module _ (can : CanOwn rs owner) (row : unless_label labels rs (set.insert labels l) l accepted None) (noted : IsLabelNoted old new o d (Some owner)) where
+        row_s13 : S13 (set.insert labels l) × (S14 (set.insert labels l) × P1 rs (set.insert labels l))
+        row_s13 = let s13 = passed_unless (passed_if row).1 in let s14 = passed_unless s13.1 in (s13.0, (s14.0, (passed_unless s14.1).0))
+
+        pub kept_noted : Same
+        kept_noted = kept_finding (finds_label_noted rs labels l old new kept.found row_s13.1.1 o at noted)
+
+        pub kept_added : IsKept base rs iris (set.insert labels l) new
+        kept_added = record {
+          legal = kept.legal;
+          named = labels_added rs labels l can row_s13.0 row_s13.1.0 row_s13.1.1 kept.named;
+          found = finds_label_added rs labels l old new kept.found row_s13.1.1 o at noted;
+        }
+
+      pub kept_dropped : unless_dropped labels l accepted None → IsLabelNoted old new o d None → IsKept base rs iris (set.remove labels l) new
+      kept_dropped row noted =
+          let there = passed_unless row in
+          let leaves = passed_unless there.1 in
+          record {
+            legal = kept.legal;
+            named = labels_dropped rs labels l leaves.0 kept.named;
+            found = finds_label_dropped rs labels l old new kept.found kept.named.unique there.0 o at noted;
+          }
+
+    module _ (tag text was : List ℕ) (keep : Bool) (has : HasLabel labels owner Pref tag was) (row : unless_relabelled labels rs (labels_relabelled owner tag text keep labels) owner tag accepted None) (noted : IsNoted old new o tag text (Some owner)) where
+      renamed_row : S13 (renamed owner tag text keep was labels) × P1 rs (renamed owner tag text keep was labels)
+      renamed_row =
+          let here = subst (λ (after : Labels). unless_relabelled labels rs after owner tag accepted None) (relabelled_is labels owner tag text was keep kept.named.one_preferred has) row in
+          let s13 = passed_unless (passed_unless here).1 in
+          (s13.0, (passed_unless s13.1).0)
+
+      pub kept_name_noted : Same
+      kept_name_noted = kept_finding (finds_name_noted rs labels owner tag text was keep old new kept.found renamed_row.1 o at noted)
+
+      pub kept_renamed : CanOwn rs owner → was ≢ text → (last : Names) → IsNoted new last o tag was None → IsKept base rs iris (renamed owner tag text keep was labels) last
+      kept_renamed can differ last gone = record {
+        legal = kept.legal;
+        named = labels_renamed rs labels owner tag text keep was kept.named has can renamed_row.0 renamed_row.1;
+        found = finds_name_changed rs labels owner tag text was keep old new kept.found renamed_row.1 differ has kept.named.unique o at noted last gone;
+      }
+
+  module _ (r : Resource) (tag text : List ℕ) (is : IsNamed rs r) (free : IsFree rs labels r tag text) (o : Option ℕ) (at : MatchOption o ((scheme : ℕ) → IsConceptIn scheme r → ⊥) (λ scheme. IsConceptIn scheme r)) (noted : IsNoted old new o tag text (Some (length rs + 1))) where
+    pub kept_new_noted : Same
+    kept_new_noted = kept_finding (finds_new_noted rs labels r tag text old new kept.named kept.found free o at noted)
+
+    pub kept_new : length rs + 1 < 2 ^ 32 → IsKept base (rs ++ r ∷ []) iris (set.insert labels (label (length rs + 1) Pref tag text)) new
+    kept_new few = kept_named base rs iris labels new r tag text kept.legal kept.named is free few (finds_new rs labels r tag text old new kept.named kept.found free o at noted)

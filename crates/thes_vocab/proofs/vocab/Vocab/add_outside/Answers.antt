@@ -1,4 +1,3 @@
-use Rattle.std.proofs.Common.{rules}
 use Rattle.thes_vocab.proofs.vocab.Vocab.add_outside.Goals as goal
 
 pub invariant_of-self-2 : goal.invariant_of-self-2

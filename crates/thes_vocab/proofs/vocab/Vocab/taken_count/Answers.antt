@@ -1,5 +1,5 @@
 use Rattle.std.proofs.Common.{rules}
 use Rattle.thes_vocab.proofs.vocab.Vocab.taken_count.Goals as goal
 
-pub returns : goal.returns
-returns c = ?
+pub overflow_add-count : goal.overflow_add-count
+overflow_add-count c = ?
