@@ -1,6 +1,6 @@
 -- What holds of every vocabulary is kept by each change.
-use Rattle.std.proofs.Common.{◌≡◌, ◌≢◌, ◌⊎◌, ◌<◌, ◌^◌, inl, inr, ℕ, ◌+◌, ◌-◌, length, List, [], ◌∷◌, ◌++◌, refl, sym, ap, ◌∙◌, subst, arith, Bool, true, false, ◌&&◌}
-use Rattle.std.specs.Prelude.{Option, None, Some, option_and_then}
+use Rattle.std.proofs.Common.{◌≡◌, ◌≢◌, ◌⊎◌, ◌<◌, ◌^◌, inl, inr, ℕ, zero, suc, get_or, ◌+◌, ◌-◌, length, List, [], ◌∷◌, ◌++◌, refl, sym, ap, ◌∙◌, subst, arith, Bool, true, false, ◌&&◌}
+use Rattle.std.specs.Prelude.{Option, None, Some, slice_get, option_and_then}
 use Rattle.std.specs.Option.{MatchOption}
 use Rattle.std.specs.Ordering.{nat_cmp}
 use Rattle.std.specs.Cmp.{nat_cmp_total}
@@ -14,20 +14,20 @@ use Rattle.thes_base.specs.declared.data.ResourceKind.{ResourceKind}
 use Rattle.thes_base.specs.declared.data.ResourceKind.TheVariants as kinds
 use Rattle.thes_base.specs.declared.data.LabelKind.{LabelKind}
 use Rattle.thes_base.specs.declared.data.LabelKind.TheVariants.{Pref, Alt, Hidden, Scope}
-use Rattle.thes_base.specs.Resources.{Iris, numbered, set_numbered, IsConcept, IsLive, IsLiveConcept, BeginsWith, CanOwn, scheme_of, is_concept_kind, is_outside_kind, is_scheme_kind, is_collection_kind}
-use Rattle.thes_base.specs.Labels.{Label, Labels, HasLabel, IsTaken, P1, S13, S14}
-use Rattle.thes_base.specs.Links.{Chain}
-use Rattle.thes_base.specs.Legal.{LegalResources, LegalLabels, AreLegalIris}
-use Rattle.thes_base.specs.Changes.{label, dead, renamed, labels_relabelled, outside_resource, taken_labels}
+use Rattle.thes_base.specs.Resources.{Iris, numbered, set_numbered, IsConcept, IsLive, IsLiveConcept, IsReplacedBy, BeginsWith, CanOwn, scheme_of, is_concept_kind, is_outside_kind, is_scheme_kind, is_collection_kind}
+use Rattle.thes_base.specs.Labels.{Label, Labels, label_cmp, HasLabel, IsTaken, P1, S13, S14}
+use Rattle.thes_base.specs.Links.{Path}
+use Rattle.thes_base.specs.Legal.{LegalResources, LegalLabels}
+use Rattle.thes_base.specs.Changes.{label, dead, renamed, labels_relabelled, outside_resource, concept_resource, taken_labels}
 use Rattle.thes_base.specs.Data.{LabelData}
 use Rattle.thes_base.specs.Machine.{owned}
 use Rattle.thes_base.specs.Rows.{accepted}
-use Rattle.thes_base.specs.Refusals.{unless_label, unless_dropped, unless_relabelled}
+use Rattle.thes_base.specs.Refusals.{unless_scheme, unless_unique, unless_label, unless_dropped, unless_relabelled}
 use Rattle.thes_base.proofs.RowLemmas.{passed_if, passed_unless}
 use Rattle.thes_base.proofs.LabelSets.{inserted_cases, inserted_kept, inserted_new}
 use Rattle.thes_base.proofs.LabelsKept.{labels_made, labels_push, labels_added, labels_dropped, labels_renamed, labels_dead, removed_cases, MayOwn}
 use Rattle.thes_base.proofs.ResourcesKept.{IsFit, resources_push, resources_push_outside, resources_dead}
-use Rattle.thes_base.proofs.Uniqueness.{made_unique, live_before}
+use Rattle.thes_base.proofs.Uniqueness.{made_unique, taken_breaks, live_before}
 use Rattle.thes_base.proofs.NumberedLemmas.{push_cases, push_old, numbered_bound}
 use Rattle.thes_base.proofs.ResourceLemmas.{same_or_not, killed_at, one_resource, concept_of_live, live_of_live, scheme_push}
 use Rattle.thes_base.proofs.MergedLabels.{labels_merged}
@@ -37,6 +37,7 @@ use Rattle.thes_vocab.specs.Named.{holder_in, IsPut, AreSame, IsNoted, IsKindNot
 use Rattle.thes_vocab.specs.Requests.{IsNamed, IsFree}
 use Rattle.thes_vocab.specs.Kept.{IsKept}
 use Rattle.thes_vocab.proofs.NameLemmas.{same_or_not as same_key}
+use Rattle.thes_vocab.proofs.TakenLemmas.{preferred_stays}
 use Rattle.thes_vocab.proofs.JudgingLemmas.{owners_bound, relabelled_is, renamed_cases, renamed_fresh, renamed_old}
 
 -- The index of names.
@@ -418,3 +419,74 @@ module _ (base : List ℕ) (rs : List Resource) (iris : Iris) (labels : Labels) 
 
     pub kept_new : length rs + 1 < 2 ^ 32 → IsKept base (rs ++ r ∷ []) iris (set.insert labels (label (length rs + 1) Pref tag text)) new
     kept_new few = kept_named base rs iris labels new r tag text kept.legal kept.named is free few (finds_new rs labels r tag text old new kept.named kept.found free o at noted)
+
+-- a concept whose name nothing refuses is free to have it
+pub free_concept : (rs : List Resource) (labels : Labels) (scheme : ℕ) (tag text : List ℕ) → unless_scheme rs scheme (unless_unique (rs ++ concept_resource (Some scheme) ∷ []) (set.insert labels (label (length rs + 1) Pref tag text)) accepted) None → IsFree rs labels (concept_resource (Some scheme)) tag text
+free_concept rs labels scheme tag text row s is taken =
+    taken_breaks rs labels scheme (concept_resource (Some scheme)) tag text refl refl (subst (λ k. IsTaken rs labels k tag text) (sym (same_some is.1)) taken) (passed_unless (passed_unless (passed_unless row).1).1).0
+
+-- Nothing at all.
+pub kept_empty : (base : List ℕ) (names : Names) → IsKept base [] dict.empty set.empty names
+kept_empty base names = record {
+  legal = record {
+    few = omega arith;
+    each = λ n r e. absurd (none n r e);
+    no_return = λ n chain. absurd (no_path n chain.0 n chain.1);
+    outside = record {
+      each = λ n o. absurd (none n o.0 o.1);
+      only = λ n iri e. absurd (no_iri_at n iri e);
+      distinct = λ m n iri e f. absurd (no_iri_at m iri e);
+      foreign = λ n iri e b. no_iri_at n iri e;
+    };
+  };
+  named = record {
+    owners = λ l held. absurd (no_label l held);
+    disjoint = λ owner j k tag text nj nk hj hk. absurd (no_label _ hj);
+    one_preferred = λ owner tag x y hx hy. absurd (no_label _ hx);
+    unique = λ m n scheme tag text lm ln sm sn hm hn. absurd (no_label _ hm);
+    named = λ n o. absurd (no_owner n o);
+  };
+  found = λ s n t x h. absurd (no_label _ h.1);
+}
+  where
+    none : (n : ℕ) (r : Resource) → numbered [] n ≡ Some r → ⊥
+    none n r e = let b = numbered_bound [] n r e in omega (arith, b.0, b.1)
+
+    no_path : (x : ℕ) (between : List ℕ) (y : ℕ) → Path (IsReplacedBy []) x between y → ⊥
+    no_path x [] y one = none x one.0 one.1
+    no_path x (z ∷ zs) y path = none x path.0.0 path.0.1
+
+    no_iri_at : (n : ℕ) (iri : List ℕ) → dict.get (dict.empty {R = nat_cmp}) n ≡ Some iri → ⊥
+    no_iri_at n iri e = never (sym (dict.get-empty {X = List ℕ} nat_cmp n) ∙ e)
+      where
+        never : None ≡ Some iri → ⊥
+        never f = cc
+
+    no_label : (l : Label) → set.contains (set.empty {R = label_cmp}) l ≡ true → ⊥
+    no_label l held = clash _ held (set.contains-empty label_cmp l)
+      where
+        clash : (b : Bool) → b ≡ true → b ≡ false → ⊥
+        clash b e f = cc
+
+    no_owner : (n : ℕ) → CanOwn [] n → ⊥
+    no_owner n (inl o) = none n o.0 o.1
+    no_owner n (inr (inl o)) = none n o.0 o.1
+    no_owner n (inr (inr o)) = none n o.0 o.1
+
+-- a number that is one is found where it stands
+pub numbered_at : {A : Type 0} (xs : List A) (n : ℕ) (x y : A) → numbered xs n ≡ Some y → x ≡ get_or xs (n - 1) x → numbered xs n ≡ Some x
+numbered_at {A = A} xs zero x y e f = absurd (cc)
+numbered_at {A = A} xs (suc n) x y e f = go xs n e (f ∙ ap (λ k. get_or xs k x) (let q : suc n - 1 ≡ n = omega arith in q))
+  where
+    go : (xs : List A) (n : ℕ) → slice_get xs n ≡ Some y → x ≡ get_or xs n x → slice_get xs n ≡ Some x
+    go [] n e f = absurd (cc)
+    go (z ∷ xs) zero e f = ap Some (sym f)
+    go (z ∷ xs) (suc n) e f = go xs n e f
+
+-- The target of a merge takes names.
+pub kept_merged : (base : List ℕ) (rs : List Resource) (iris : Iris) (labels : Labels) (names : Names) (source target : ℕ) → IsKept base rs iris labels names → IsLiveConcept rs target → IsKept base rs iris (set.union labels (taken_labels source target labels)) names
+kept_merged base rs iris labels names source target kept live = record {
+  legal = kept.legal;
+  named = labels_merged rs labels source target kept.named (inr (inl (concept_of_live rs target live)));
+  found = λ s n t x h. kept.found s n t x (h.0, preferred_stays labels source target n t x h.1);
+}

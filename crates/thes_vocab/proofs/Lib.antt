@@ -6,3 +6,4 @@ mod NameLemmas
 mod IriLemmas
 mod JudgingLemmas
 mod KeptLemmas
+mod TakenLemmas

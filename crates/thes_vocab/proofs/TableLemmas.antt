@@ -16,7 +16,8 @@ use Rattle.std.proofs.lemmas.List.Folds.{list_any-append}
 use Rattle.std.specs.FinSet as set
 use Rattle.thes_base.specs.Data.{LabelData}
 use Rattle.thes_base.specs.Labels.{Label, Labels, HasLabel, label_cmp, label_kind_no}
-use Rattle.thes_base.specs.declared.data.LabelKind.TheVariants.{Pref}
+use Rattle.thes_base.specs.declared.data.LabelKind.TheVariants.{Pref, Alt}
+use Rattle.thes_base.specs.Changes.{label, renamed}
 use Rattle.thes_base.specs.Machine.{owned}
 use Rattle.thes_base.proofs.LabelSets.{labels_total, labels_exact}
 use Rattle.thes_vocab.specs.LabelData.{data_cmp, own_label, has_own, HasNoPreferred, HasTwo}
@@ -33,7 +34,7 @@ and_group true b c = refl
 and_group false b c = refl
 
 -- a label without its owner
-abbrev data_of : Label → LabelData
+abbrev pub data_of : Label → LabelData
 data_of q = own_label q.kind q.tag q.text
 
 -- labels are one where their owners and what is left are
@@ -134,7 +135,7 @@ written old new owner was now w e = turned old new owner now (w.3 (subst (λ o. 
 pub inserted : (old new : BTreeMap ℕ (List LabelData)) (owner : ℕ) (now : List LabelData) → Updates nat_cmp old new owner (Some now) → IsWritten old new owner now
 inserted old new owner now u = turned old new owner now u.0
 
-row_after : (old new : BTreeMap ℕ (List LabelData)) (owner : ℕ) (now : List LabelData) → IsWritten old new owner now → (n : ℕ) → row_of new n ≡ cond (eq_by_cmp nat_cmp n owner) now (row_of old n)
+pub row_after : (old new : BTreeMap ℕ (List LabelData)) (owner : ℕ) (now : List LabelData) → IsWritten old new owner now → (n : ℕ) → row_of new n ≡ cond (eq_by_cmp nat_cmp n owner) now (row_of old n)
 row_after old new owner now w n = ap (λ o. unwrap_or o []) (w n) ∙ go (eq_by_cmp nat_cmp n owner)
   where
     go : (b : Bool) → unwrap_or (cond b (Some now) (get nat_cmp old n)) [] ≡ cond b now (row_of old n)
@@ -252,3 +253,52 @@ counted_one rows count owner l is has = go count refl
     go : (n : ℕ) → count ≡ n → 1 ≤ count
     go zero e = absurd (cc (ap (λ s. set.contains s (owned owner l)) (set.empty_of_len (labels_in rows.entries) (sym is.counted ∙ e)), set.contains-empty label_cmp (owned owner l), has_label rows is.ordered (owned owner l), has))
     go (suc n) e = omega (arith, e)
+
+-- Another name in place of the old one, step by step.
+
+or_false : (a : Bool) → (a || false) ≡ a
+or_false true = refl
+or_false false = refl
+
+clash : (b : Bool) → b ≡ true → b ≡ false → ⊥
+clash b e f = cc
+
+module _ (labels : Labels) where
+  -- a label that is taken back
+  pub undone : (l : Label) → set.contains labels l ≡ false → set.remove (set.insert labels l) l ≡ labels
+  undone l new = set.same_set labels_total labels_exact _ _ (λ q. set.contains-remove labels_total (set.insert labels l) l q ∙ ap (λ b. not (eq_by_cmp label_cmp q l) && b) (set.contains-insert labels_total labels l q) ∙ go q (eq_by_cmp label_cmp q l) refl)
+    where
+      go : (q : Label) (b : Bool) → eq_by_cmp label_cmp q l ≡ b → (not b && (b || set.contains labels q)) ≡ set.contains labels q
+      go q true tie = sym (ap (set.contains labels) (labels_exact q l ((Equal-is (label_cmp q l)).0 tie)) ∙ new)
+      go q false tie = refl
+
+  -- a label put in before another is taken out
+  pub swapped : (l was : Label) → l ≢ was → set.remove (set.insert labels l) was ≡ set.insert (set.remove labels was) l
+  swapped l was apart = set.same_set labels_total labels_exact _ _ (λ q.
+      set.contains-remove labels_total (set.insert labels l) was q ∙ ap (λ b. not (eq_by_cmp label_cmp q was) && b) (set.contains-insert labels_total labels l q)
+      ∙ go q (eq_by_cmp label_cmp q was) refl (eq_by_cmp label_cmp q l) refl
+      ∙ sym (set.contains-insert labels_total (set.remove labels was) l q ∙ ap (λ b. eq_by_cmp label_cmp q l || b) (set.contains-remove labels_total labels was q)))
+    where
+      go : (q : Label) (a : Bool) → eq_by_cmp label_cmp q was ≡ a → (b : Bool) → eq_by_cmp label_cmp q l ≡ b → (not a && (b || set.contains labels q)) ≡ (b || (not a && set.contains labels q))
+      go q true e true f = absurd (apart (sym (labels_exact q l ((Equal-is (label_cmp q l)).0 f)) ∙ labels_exact q was ((Equal-is (label_cmp q was)).0 e)))
+      go q true e false f = refl
+      go q false e b f = refl
+
+module _ (labels : Labels) (owner : ℕ) (tag text old : List ℕ) (differ : old ≢ text) where
+  abbrev was : Label
+  was = label owner Pref tag old
+
+  abbrev fresh : Label
+  fresh = label owner Pref tag text
+
+  abbrev kept : Label
+  kept = label owner Alt tag old
+
+  pub renamed_plain : set.remove (set.insert labels fresh) was ≡ renamed owner tag text false old labels
+  renamed_plain = swapped labels fresh was (λ e. differ (sym (ap (λ (l : Label). l.text) e)))
+
+  pub renamed_keeping : set.remove (set.insert (set.insert labels fresh) kept) was ≡ renamed owner tag text true old labels
+  renamed_keeping = swapped (set.insert labels fresh) kept was other ∙ ap (λ (s : Labels). set.insert s kept) renamed_plain
+    where
+      other : kept ≢ was
+      other e = let k = ap (λ (l : Label). l.kind) e in cc

@@ -3,8 +3,8 @@ pub mod Requests
 pub mod Rivals
 pub mod LabelData
 pub mod Places
-pub mod Rows
 pub mod Taken
+pub mod Rows
 pub mod Named
 pub mod Numbered
 pub mod Kept

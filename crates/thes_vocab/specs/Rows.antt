@@ -8,6 +8,7 @@ use Rattle.thes_base.specs.Data.{LabelData}
 use Rattle.thes_base.specs.Labels.{Label, Labels}
 use Rattle.thes_base.specs.Machine.{owned}
 use Rattle.thes_vocab.specs.LabelData.{data_cmp, has_own}
+use Rattle.thes_vocab.specs.Taken.{gives}
 
 abbrev pub all_owned : List (ℕ × List LabelData) → List Label
 all_owned [] = []
@@ -33,6 +34,10 @@ IsPut old new owner l = (n : ℕ) (q : LabelData) → has_own (row_of new n) q �
 
 abbrev pub IsTaken : BTreeMap ℕ (List LabelData) → BTreeMap ℕ (List LabelData) → ℕ → LabelData → Type 0
 IsTaken old new owner l = (n : ℕ) (q : LabelData) → has_own (row_of new n) q ≡ (not (eq_by_cmp nat_cmp n owner && eq_by_cmp data_cmp q l) && has_own (row_of old n) q)
+
+-- the target's row with the names that it takes from the source
+abbrev pub IsMerged : BTreeMap ℕ (List LabelData) → ℕ → ℕ → List LabelData → Type 0
+IsMerged rows source target row = (l : LabelData) → has_own row l ≡ (has_own (row_of rows target) l || gives (row_of rows source) (row_of rows target) l)
 
 abbrev pub AreSame : BTreeMap ℕ (List LabelData) → BTreeMap ℕ (List LabelData) → Type 0
 AreSame old new = (n : ℕ) → row_of new n ≡ row_of old n

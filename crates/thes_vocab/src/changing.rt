@@ -72,13 +72,14 @@ impl Vocab {
         ensures ok { OnOk result (self.new ≡ with_labels self.old (labels_relabelled owner tag.now text.now keep self.old.labels)) }
         ensures err { OnErr result (self.new ≡ self.old) }
     {
+        let alloc = self.alloc;
         let Some(old) = self.labels.preferred(owner, tag) else {
             unreachable!()
         };
         if old == text {
             return Ok(());
         }
-        let old = old.try_clone(self.alloc)?;
+        let old = old.try_clone(alloc)?;
         let scheme = concept_scheme(self.resources.as_slice(), owner);
         self.names.put(scheme, tag, text, owner)?;
         self.labels.rename(owner, tag, &old, text, keep)?;
@@ -91,7 +92,7 @@ impl Vocab {
         ensures { set.len self.now.labels + result ≡ set.len (set.union self.now.labels (taken_labels source target self.now.labels)) }
     {
         let mut count = 0u64;
-        for label in self.labels_of(source) {
+        for label in self.labels.of_owner(source) {
             if self.takes(target, label) {
                 count += 1;
             }
@@ -102,7 +103,7 @@ impl Vocab {
     /// Gives the target the names of the source that it lacks, preferred ones as alternative ones, and answers how many
     /// those are. An `Err` changes nothing.
     pub fn take_labels(&mut self, source: ResNo, target: ResNo) -> Result<u64, AllocError>
-        requires target { IsLiveConcept self.old.resources target }
+        requires { IsLiveConcept self.old.resources target }
         ensures gained { IfOk result (λ k. set.len self.old.labels + k ≡ set.len self.new.labels) }
         ensures ok { OnOk result (self.new ≡ with_labels self.old (set.union self.old.labels (taken_labels source target self.old.labels))) }
         ensures err { OnErr result (self.new ≡ self.old) }

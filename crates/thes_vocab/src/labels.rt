@@ -8,7 +8,7 @@ ghost use Rattle.thes_base.specs.Labels.{HasLabel};
 ghost use Rattle.thes_base.specs.Machine.{owned};
 ghost use Rattle.thes_vocab.specs.Rivals.{HasTwoPreferred, Clashes};
 ghost use Rattle.thes_vocab.specs.LabelData.{own_label, has_own, AreLabelsOf};
-ghost use Rattle.thes_vocab.specs.Rows.{Owns, OwnsNone, row_of, IsPut, IsTaken, AreSame};
+ghost use Rattle.thes_vocab.specs.Rows.{Owns, OwnsNone, row_of, IsPut, IsTaken, IsMerged, AreSame};
 ghost use Rattle.std.specs.Ordering.{nat_cmp};
 ghost use Rattle.std.specs.BTreeMap.{IsOrdered};
 
@@ -191,13 +191,7 @@ impl LabelTable {
         ensures err { OnErr result (self.new ≡ self.old) }
     {
         let count = self.count.checked_add(gained).ok_or(AllocError)?;
-        let Some(from) = self.rows.get(&source) else {
-            return Ok(());
-        };
-        let row = match self.rows.get(&target) {
-            Some(row) => merged(self.alloc, from, row)?,
-            None => merged(self.alloc, from, &Row::new(self.alloc))?,
-        };
+        let row = merged_row(&self.rows, self.alloc, source, target)?;
         self.rows.insert(target, row)?;
         self.count = count;
         Ok(())
@@ -230,4 +224,14 @@ fn take(rows: &mut BTreeMap<ResNo, Row>, owner: ResNo, kind: LabelKind, tag: &Ta
         Some(row) => row.remove(kind, tag, text),
         None => false,
     }
+}
+
+// The target's row with the names that it takes from the source.
+fn merged_row(rows: &BTreeMap<ResNo, Row>, alloc: Global, source: ResNo, target: ResNo) -> Result<Row, AllocError>
+    ensures { IfOk result (IsMerged rows.now source target) }
+{
+    let none = Row::new(alloc);
+    let from = rows.get(&source).unwrap_or(&none);
+    let to = rows.get(&target).unwrap_or(&none);
+    merged(alloc, from, to)
 }

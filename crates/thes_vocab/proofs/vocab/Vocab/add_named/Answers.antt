@@ -39,5 +39,5 @@ invariant_of-self-2 c =
     let few = subst (λ (v : Vocabulary). length v.resources + 1 < 2 ^ 32) (sym c.self.view_is) c.requires.room in
     let kept = kept_new inside.base rs inside.iris inside.labels inside.names c.put.new.self c.self.invariant c.args.resource c.args.tag c.args.text is free scheme c.scheme_if_concept-scheme.ensures noted few in
     let items : c.push.new.self.items ≡ rs ++ c.args.resource ∷ [] = search rules in
-    let labels : c.insert.new.self ≡ set.insert inside.labels (label (length rs + 1) Pref c.args.tag c.args.text) = c.in_ok-insert.ensures.ok ∙ ? in
+    let labels : c.insert.new.self ≡ set.insert inside.labels (label (length rs + 1) Pref c.args.tag c.args.text) = c.in_ok-insert.ensures.ok ∙ ap (λ k. set.insert inside.labels (label k Pref c.args.tag c.args.text)) n in
     subst (λ (p : List Resource × Labels). IsKept inside.base p.0 inside.iris p.1 c.put.new.self) (λ i. (sym items i, sym labels i)) kept
