@@ -38,7 +38,8 @@ use Rattle.thes_vocab.specs.Requests.{IsNamed, IsFree}
 use Rattle.thes_vocab.specs.Kept.{IsKept}
 use Rattle.thes_vocab.proofs.NameLemmas.{same_or_not as same_key}
 use Rattle.thes_vocab.proofs.TakenLemmas.{preferred_stays}
-use Rattle.thes_vocab.proofs.JudgingLemmas.{owners_bound, relabelled_is, renamed_cases, renamed_fresh, renamed_old}
+use Rattle.thes_vocab.proofs.TableLemmas.{put_back}
+use Rattle.thes_vocab.proofs.JudgingLemmas.{owners_bound, relabelled_is, renamed_breaks_s13, renamed_cases, renamed_fresh, renamed_old}
 
 -- The index of names.
 
@@ -490,3 +491,21 @@ kept_merged base rs iris labels names source target kept live = record {
   named = labels_merged rs labels source target kept.named (inr (inl (concept_of_live rs target live)));
   found = λ s n t x h. kept.found s n t x (h.0, preferred_stays labels source target n t x h.1);
 }
+
+-- a number has one scheme, or none
+pub one_scheme_of : (rs : List Resource) (n : ℕ) (o p : Option ℕ) → IsSchemeOf rs n o → IsSchemeOf rs n p → o ≡ p
+one_scheme_of rs n None None a b = refl
+one_scheme_of rs n None (Some t) a b = absurd (a t b)
+one_scheme_of rs n (Some s) None a b = absurd (b s a)
+one_scheme_of rs n (Some s) (Some t) a b = ap Some (one_scheme rs n t s b a.1)
+
+-- A preferred label in place of itself.
+pub unchanged : (rs : List Resource) (labels : Labels) (owner : ℕ) (tag text old : List ℕ) (keep : Bool) → LegalLabels rs labels → HasLabel labels owner Pref tag old → old ≡ text → unless_relabelled labels rs (labels_relabelled owner tag text keep labels) owner tag accepted None → labels ≡ labels_relabelled owner tag text keep labels
+unchanged rs labels owner tag text old keep legal has same row =
+    let is = relabelled_is labels owner tag text old keep legal.one_preferred has in
+    let here = subst (λ (after : Labels). unless_relabelled labels rs after owner tag accepted None) is row in
+    go keep ((passed_unless (passed_unless here).1).0) ∙ sym is
+  where
+    go : (b : Bool) → S13 (renamed owner tag text b old labels) → labels ≡ renamed owner tag text b old labels
+    go true s13 = absurd (renamed_breaks_s13 labels owner tag text old true (inr (inr (refl, same))) s13)
+    go false s13 = sym (ap (λ x. set.insert (set.remove labels (label owner Pref tag old)) (label owner Pref tag x)) (sym same) ∙ put_back labels (label owner Pref tag old) has)

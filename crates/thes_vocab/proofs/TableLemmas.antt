@@ -272,6 +272,14 @@ module _ (labels : Labels) where
       go q true tie = sym (ap (set.contains labels) (labels_exact q l ((Equal-is (label_cmp q l)).0 tie)) ∙ new)
       go q false tie = refl
 
+  -- a label that is put back
+  pub put_back : (l : Label) → set.contains labels l ≡ true → set.insert (set.remove labels l) l ≡ labels
+  put_back l held = set.same_set labels_total labels_exact _ _ (λ q. set.contains-insert labels_total (set.remove labels l) l q ∙ ap (λ b. eq_by_cmp label_cmp q l || b) (set.contains-remove labels_total labels l q) ∙ go q (eq_by_cmp label_cmp q l) refl)
+    where
+      go : (q : Label) (b : Bool) → eq_by_cmp label_cmp q l ≡ b → (b || (not b && set.contains labels q)) ≡ set.contains labels q
+      go q true tie = sym (ap (set.contains labels) (labels_exact q l ((Equal-is (label_cmp q l)).0 tie)) ∙ held)
+      go q false tie = refl
+
   -- a label put in before another is taken out
   pub swapped : (l was : Label) → l ≢ was → set.remove (set.insert labels l) was ≡ set.insert (set.remove labels was) l
   swapped l was apart = set.same_set labels_total labels_exact _ _ (λ q.

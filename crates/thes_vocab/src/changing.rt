@@ -72,17 +72,14 @@ impl Vocab {
         ensures ok { OnOk result (self.new ≡ with_labels self.old (labels_relabelled owner tag.now text.now keep self.old.labels)) }
         ensures err { OnErr result (self.new ≡ self.old) }
     {
-        let alloc = self.alloc;
-        let Some(old) = self.labels.preferred(owner, tag) else {
-            unreachable!()
-        };
-        if old == text {
+        let old = self.labels.preferred_clone(owner, tag)?;
+        if old == *text {
             return Ok(());
         }
-        let old = old.try_clone(alloc)?;
         let scheme = concept_scheme(self.resources.as_slice(), owner);
         self.names.put(scheme, tag, text, owner)?;
         self.labels.rename(owner, tag, &old, text, keep)?;
+        let scheme = concept_scheme(self.resources.as_slice(), owner);
         self.names.forget(scheme, tag, &old);
         Ok(())
     }

@@ -108,6 +108,17 @@ impl LabelTable {
         }
     }
 
+    // The text of the owner's preferred label in the language, or of one of them.
+    pub(crate) fn preferred_clone(&self, owner: ResNo, tag: &Tag) -> Result<Text, AllocError>
+        requires { (text : List ℕ) × HasLabel self.now owner Pref tag.now text }
+        ensures { IfOk result (λ text. HasLabel self.now owner Pref tag.now text) }
+    {
+        match self.preferred(owner, tag) {
+            Some(text) => text.try_clone(self.alloc),
+            None => unreachable!(),
+        }
+    }
+
     // Whether a text would stand under two kinds in place of the old preferred label.
     pub(crate) fn clashes(&self, owner: ResNo, tag: &Tag, old: &Text, text: &Text, keep: bool) -> bool
         ensures { IsTrue result ↔ Clashes self.now owner tag.now text.now old.now keep }
