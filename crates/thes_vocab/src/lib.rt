@@ -7,6 +7,8 @@ mod judging;
 mod labels;
 mod names;
 mod row;
+#[cfg(test)]
+mod tests;
 pub mod vocab;
 
 pub use thes_base::data::NewResource;
