@@ -1,6 +1,7 @@
 -- Lists of histories that are numbered from 1, and the moves pushed onto those listed and taken back.
 use Rattle.std.proofs.Common.{◌≡◌, ◌≢◌, ◌⊎◌, ◌<◌, ◌≤◌, ℕ, zero, suc, ◌+◌, ◌-◌, length, List, [], ◌∷◌, ◌++◌, refl, sym, ap, ◌∙◌, subst, arith, inl, inr, ⊎_elim, Bool, true, false, cond, not, ◌||◌, eqb, eqb-true, ne_eqb, map, take, drop, get_or, length-append}
 use borrow.Author.Tests.{eqb-false, eq-eqb}
+use Rattle.std.proofs.Math.Seq.{take-append_seam}
 use Rattle.std.specs.Prelude.{Some, slice_get, slice_set}
 use Rattle.thes_base.specs.declared.data.History.{History}
 use Rattle.thes_base.specs.declared.data.Move.{Move}
@@ -63,23 +64,87 @@ above_least : (least : ℕ) (ns : List ℕ) (n : ℕ) → RisesTo least ns n →
 above_least least [] n r = r
 above_least least (m ∷ ns) n r = let q = above_least (m + 1) ns n r.1 in let p = r.0 in omega arith
 
-not_yet : (least : ℕ) (ns : List ℕ) (n : ℕ) → RisesTo least ns n → has ns n ≡ false
+listed_above : (least : ℕ) (ns : List ℕ) (n : ℕ) (g : History) → RisesTo least ns n → g.number < least → is_listed ns g ≡ false
+listed_above least [] n g r l = refl
+listed_above least (m ∷ ns) n g r l = let q = r.0 in ap (λ b. b || is_listed ns g) (ne_eqb m g.number (omega arith)) ∙ listed_above (m + 1) ns n g r.1 (omega arith)
+
+pub not_yet : (least : ℕ) (ns : List ℕ) (n : ℕ) → RisesTo least ns n → has ns n ≡ false
 not_yet least [] n r = refl
 not_yet least (m ∷ ns) n r = ap (λ b. b || has ns n) (ne_eqb m n (let q = above_least (m + 1) ns n r.1 in omega arith)) ∙ not_yet (m + 1) ns n r.1
 
--- one number more: the history of that number is as it was, and moves next
-pub moved_next : (target number first : ℕ) (ns : List ℕ) (hs : List History) (i : ℕ) (h : History) → AreNumberedFrom first hs → RisesTo first ns (first + i) → slice_get hs i ≡ Some h
-    → (slice_get (moved_those (is_listed ns) target number hs) i ≡ Some h) × (moved_those (is_listed (ns ++ (first + i) ∷ [])) target number hs ≡ slice_set (moved_those (is_listed ns) target number hs) i (moved (number + length ns) target h))
-moved_next target number first ns [] i h n r e = absurd (cc)
-moved_next target number first [] (g ∷ hs) zero h n r e = ?
-moved_next target number first (m ∷ ns) (g ∷ hs) zero h n r e = absurd (let q = above_least (m + 1) ns (first + 0) r.1 in let p = r.0 in omega arith)
-moved_next target number first [] (g ∷ hs) (suc i) h n r e = ?
-moved_next target number first (m ∷ ns) (g ∷ hs) (suc i) h n r e = ?
+-- What stands of one number more: the history of that number is as it was, and moves next.
+abbrev pub MovesNext : (History → Bool) → (History → Bool) → ℕ → ℕ → ℕ → List History → ℕ → History → Type 0
+MovesNext before after target number count hs i h =
+    (slice_get (moved_those before target number hs) i ≡ Some h) × (moved_those after target number hs ≡ slice_set (moved_those before target number hs) i (moved (number + count) target h))
+
+-- behind a history that moves in both, or in neither
+module _ (before after : History → Bool) (target : ℕ) (g : History) (hs : List History) (i : ℕ) (h : History) where
+  behind_moved : (number count : ℕ) → before g ≡ true → after g ≡ true → MovesNext before after target (number + 1) count hs i h → MovesNext before after target number (suc count) (g ∷ hs) (suc i) h
+  behind_moved number count b a next = (
+    ap (λ l. slice_get l (suc i)) (λ j. cond (b j) (moved number target g ∷ moved_those before target (number + 1) hs) (g ∷ moved_those before target number hs)) ∙ next.0,
+    (λ j. cond (a j) (moved number target g ∷ moved_those after target (number + 1) hs) (g ∷ moved_those after target number hs))
+    ∙ ap (λ l. moved number target g ∷ l) (next.1 ∙ ap (λ k. slice_set (moved_those before target (number + 1) hs) i (moved k target h)) (let z : number + 1 + count ≡ number + suc count = omega arith in z))
+    ∙ (λ j. slice_set (cond (sym b j) (moved number target g ∷ moved_those before target (number + 1) hs) (g ∷ moved_those before target number hs)) (suc i) (moved (number + suc count) target h))
+  )
+
+  behind_kept : (number count : ℕ) → before g ≡ false → after g ≡ false → MovesNext before after target number count hs i h → MovesNext before after target number count (g ∷ hs) (suc i) h
+  behind_kept number count b a next = (
+    ap (λ l. slice_get l (suc i)) (λ j. cond (b j) (moved number target g ∷ moved_those before target (number + 1) hs) (g ∷ moved_those before target number hs)) ∙ next.0,
+    (λ j. cond (a j) (moved number target g ∷ moved_those after target (number + 1) hs) (g ∷ moved_those after target number hs))
+    ∙ ap (λ l. g ∷ l) next.1
+    ∙ (λ j. slice_set (cond (sym b j) (moved number target g ∷ moved_those before target (number + 1) hs) (g ∷ moved_those before target number hs)) (suc i) (moved (number + count) target h))
+  )
+
+-- a number that stands before the others of the list, and before these histories, doesn't matter to them
+next_behind : (first : ℕ) (ns : List ℕ) (n : ℕ) (target number count : ℕ) (hs : List History) (i : ℕ) (h : History) → AreNumberedFrom (first + 1) hs
+    → MovesNext (is_listed ns) (is_listed (ns ++ n ∷ [])) target number count hs i h → MovesNext (is_listed (first ∷ ns)) (is_listed (first ∷ ns ++ n ∷ [])) target number count hs i h
+next_behind first ns n target number count hs i h num next = (
+  ap (λ l. slice_get l i) (none_above target number first ns hs num) ∙ next.0,
+  none_above target number first (ns ++ n ∷ []) hs num ∙ next.1 ∙ ap (λ l. slice_set l i (moved (number + count) target h)) (sym (none_above target number first ns hs num))
+)
+
+listed_end : (ns : List ℕ) (n : ℕ) (h : History) → is_listed ns h ≡ false → eqb n h.number ≡ false → is_listed (ns ++ n ∷ []) h ≡ false
+listed_end [] n h e apart = ap (λ b. b || false) apart
+listed_end (m ∷ ns) n h e apart = ⊎_elim
+    (λ (hit : eqb m h.number ≡ true). absurd (let t : true ≡ false = sym (ap (λ b. b || is_listed ns h) hit) ∙ e in cc))
+    (λ (miss : eqb m h.number ≡ false). ap (λ b. b || is_listed (ns ++ n ∷ []) h) miss ∙ listed_end ns n h (sym (ap (λ b. b || is_listed ns h) miss) ∙ e) apart) (decided (eqb m h.number))
+
+pub moved_next : (target number first : ℕ) (ns : List ℕ) (hs : List History) (i n : ℕ) (h : History) → AreNumberedFrom first hs → n ≡ first + i → RisesTo first ns n → slice_get hs i ≡ Some h → MovesNext (is_listed ns) (is_listed (ns ++ n ∷ [])) target number (length ns) hs i h
+moved_next target number first ns [] i n h num at r e = absurd (cc)
+moved_next target number first [] (g ∷ hs) zero n h num at r e =
+    let same : g ≡ h = cc in
+    let here : n ≡ first = omega arith in
+    let hit : is_listed (n ∷ []) g ≡ true = ap (λ b. b || false) (eq-eqb n g.number (here ∙ sym num.0)) in
+    (
+      ap (λ l. slice_get l 0) (none_moved target number (g ∷ hs)) ∙ e,
+      (λ j. cond (hit j) (moved number target g ∷ moved_those (is_listed (n ∷ [])) target (number + 1) hs) (g ∷ moved_those (is_listed (n ∷ [])) target number hs))
+      ∙ (λ j. moved (let z : number ≡ number + 0 = omega arith in z j) target (same j) ∷ (ap (λ k. moved_those (is_listed (k ∷ [])) target (number + 1) hs) here ∙ none_above target (number + 1) first [] hs num.1 ∙ none_moved target (number + 1) hs) j)
+      ∙ ap (λ l. slice_set l 0 (moved (number + 0) target h)) (sym (none_moved target number (g ∷ hs)))
+    )
+moved_next target number first (m ∷ ns) (g ∷ hs) zero n h num at r e = absurd (let q = above_least (m + 1) ns n r.1 in let p = r.0 in omega arith)
+moved_next target number first [] (g ∷ hs) (suc i) n h num at r e =
+    let miss : is_listed (n ∷ []) g ≡ false = ap (λ b. b || false) (ne_eqb n g.number (let q = num.0 in omega arith)) in
+    behind_kept (is_listed []) (is_listed (n ∷ [])) target g hs i h number 0 refl miss (moved_next target number (first + 1) [] hs i n h num.1 (let z : n ≡ first + 1 + i = omega arith in z) (omega arith) e)
+moved_next target number first (m ∷ ns) (g ∷ hs) (suc i) n h num at r e = elim (decided (eqb m g.number)) [
+  | inl hit ↦
+      let here : m ≡ first = eqb-true m g.number hit ∙ num.0 in
+      let rest = moved_next target (number + 1) (first + 1) ns hs i n h num.1 (let z : n ≡ first + 1 + i = omega arith in z) (subst (λ k. RisesTo (k + 1) ns n) here r.1) e in
+      behind_moved (is_listed (m ∷ ns)) (is_listed (m ∷ ns ++ n ∷ [])) target g hs i h number (length ns)
+      (ap (λ b. b || is_listed ns g) hit)
+      (ap (λ b. b || is_listed (ns ++ n ∷ []) g) hit)
+      (subst (λ k. MovesNext (is_listed (k ∷ ns)) (is_listed (k ∷ ns ++ n ∷ [])) target (number + 1) (length ns) hs i h) (sym here) (next_behind first ns n target (number + 1) (length ns) hs i h num.1 rest))
+  | inr miss ↦
+      let more : first + 1 ≤ m = (let d = eqb-false m g.number miss in let q = num.0 in let p = r.0 in omega (arith, d, q, p)) in
+      let below : first < n = (let q = above_least (m + 1) ns n r.1 in omega (arith, q, more)) in
+      let rest = moved_next target number (first + 1) (m ∷ ns) hs i n h num.1 (let z : n ≡ first + 1 + i = omega arith in z) (more, r.1) e in
+      let kept : is_listed (m ∷ ns) g ≡ false = ap (λ b. b || is_listed ns g) miss ∙ listed_above (m + 1) ns n g r.1 (let q = num.0 in omega (arith, q, more)) in
+      behind_kept (is_listed (m ∷ ns)) (is_listed (m ∷ ns ++ n ∷ [])) target g hs i h number (suc (length ns)) kept (listed_end (m ∷ ns) n g kept (ne_eqb n g.number (let q = num.0 in omega (arith, q, below)))) rest
+]
 
 -- Moves taken back.
 
 front : (moves : List Move) (m : Move) → take (length (moves ++ m ∷ []) - 1) (moves ++ m ∷ []) ≡ moves
-front moves m = ?
+front moves m = ap (λ n. take n (moves ++ m ∷ [])) (let a = length-append moves (m ∷ []) in let q : length (moves ++ m ∷ []) - 1 ≡ length moves = omega (arith, a) in q) ∙ take-append_seam moves (m ∷ [])
 
 pub unmoved_moved : (number target : ℕ) (h : History) → unmoved (moved number target h) ≡ h
 unmoved_moved number target h = λ i. record h { moves = front h.moves (record { number = number; source = place h; target = target }) i }

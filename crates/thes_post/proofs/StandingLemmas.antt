@@ -119,7 +119,7 @@ merged_numbers p q first (h ∷ hs) n apart =
 -- Lists of numbers.
 
 -- above all that are listed
-not_listed : (first : ℕ) (ns : List ℕ) (hs : List History) → AreNumberedFrom (first + 1) hs → EachHistory (λ h. is_listed (first ∷ ns) h ≡ is_listed ns h) hs
+pub not_listed : (first : ℕ) (ns : List ℕ) (hs : List History) → AreNumberedFrom (first + 1) hs → EachHistory (λ h. is_listed (first ∷ ns) h ≡ is_listed ns h) hs
 not_listed first ns hs n = each_map (λ h. first + 1 ≤ h.number) (λ h. is_listed (first ∷ ns) h ≡ is_listed ns h) (λ h l. ap (λ b. b || is_listed ns h) (ne_eqb first h.number (omega arith))) hs (numbers_above (first + 1) hs n)
 
 none_listed : (hs : List History) → numbers_of (is_listed []) hs ≡ []
