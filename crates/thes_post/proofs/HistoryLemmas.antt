@@ -2,6 +2,8 @@
 use Rattle.std.proofs.Common.{◌≡◌, ◌≢◌, ◌⊎◌, ◌<◌, ◌≤◌, ℕ, zero, suc, ◌+◌, ◌-◌, length, List, [], ◌∷◌, ◌++◌, refl, sym, ap, ◌∙◌, subst, arith, inl, inr, ⊎_elim, Bool, true, false, cond, not, ◌||◌, eqb, eqb-true, ne_eqb, map, take, drop, get_or, length-append}
 use borrow.Author.Tests.{eqb-false, eq-eqb}
 use Rattle.std.proofs.Math.Seq.{take-append_seam}
+use Rattle.std.proofs.lemmas.List.{take_more, length-take-le, set-get_or}
+use Rattle.std.proofs.lemmas.Option.{slice_get-get_or, get_or_from_slice_get}
 use Rattle.std.specs.Prelude.{Some, slice_get, slice_set}
 use Rattle.thes_base.specs.declared.data.History.{History}
 use Rattle.thes_base.specs.declared.data.Move.{Move}
@@ -12,7 +14,7 @@ use Rattle.thes_base.specs.Refusals.{EachListed}
 use Rattle.thes_post.specs.Indexed.{AreNumberedFrom}
 use Rattle.thes_post.specs.Moved.{unmoved, unmoved_those}
 use Rattle.thes_post.specs.Rising.{RisesFrom}
-use Rattle.thes_post.proofs.RisingLemmas.{decided, has, has_below}
+use Rattle.thes_post.proofs.RisingLemmas.{decided, has, RisesTo, rises_to, each_at}
 use Rattle.thes_post.proofs.StandingLemmas.{EachHistory, each_map, moved_agree, numbers_above, not_listed}
 
 -- the last move leads where the posting is
@@ -54,11 +56,6 @@ none_moved target number (h ∷ hs) = ap (λ l. h ∷ l) (none_moved target numb
 -- the histories with no number listed stay as they are
 none_above : (target number first : ℕ) (ns : List ℕ) (hs : List History) → AreNumberedFrom (first + 1) hs → moved_those (is_listed (first ∷ ns)) target number hs ≡ moved_those (is_listed ns) target number hs
 none_above target number first ns hs n = moved_agree (is_listed (first ∷ ns)) (is_listed ns) target number hs (not_listed first ns hs n)
-
--- what stands after a rising list's last number
-abbrev pub RisesTo : ℕ → List ℕ → ℕ → Type 0
-RisesTo least [] n = least ≤ n
-RisesTo least (m ∷ ns) n = (least ≤ m) × RisesTo (m + 1) ns n
 
 above_least : (least : ℕ) (ns : List ℕ) (n : ℕ) → RisesTo least ns n → least ≤ n
 above_least least [] n r = r
@@ -160,3 +157,89 @@ unmoved_all ns target number (h ∷ hs) =
     (λ (miss : is_listed ns h ≡ false).
     ap (unmoved_those (is_listed ns)) (λ i. cond (miss i) (moved number target h ∷ moved_those (is_listed ns) target (number + 1) hs) (h ∷ moved_those (is_listed ns) target number hs))
     ∙ (λ i. cond (miss i) (unmoved h) h ∷ less i)) (decided (is_listed ns h))
+
+pub none_unmoved : (hs : List History) → unmoved_those (is_listed []) hs ≡ hs
+none_unmoved [] = refl
+none_unmoved (h ∷ hs) = ap (λ l. h ∷ l) (none_unmoved hs)
+
+pub length_unmoved_those : (passes : History → Bool) (hs : List History) → length (unmoved_those passes hs) ≡ length hs
+length_unmoved_those passes [] = refl
+length_unmoved_those passes (h ∷ hs) = ap suc (length_unmoved_those passes hs)
+
+-- tests that agree take moves back alike
+unmoved_agree : (p q : History → Bool) (hs : List History) → EachHistory (λ h. p h ≡ q h) hs → unmoved_those p hs ≡ unmoved_those q hs
+unmoved_agree p q [] all = refl
+unmoved_agree p q (h ∷ hs) all = λ i. cond (all.0 i) (unmoved h) h ∷ unmoved_agree p q hs all.1 i
+
+-- whether a number more is listed
+listed_more : (ns : List ℕ) (n : ℕ) (h : History) → is_listed (ns ++ n ∷ []) h ≡ (is_listed ns h || eqb n h.number)
+listed_more [] n h = none (eqb n h.number)
+  where
+    none : (b : Bool) → (b || false) ≡ b
+    none true = refl
+    none false = refl
+listed_more (m ∷ ns) n h = (λ i. eqb m h.number || listed_more ns n h i) ∙ either (eqb m h.number) (is_listed ns h) (eqb n h.number)
+  where
+    either : (a b c : Bool) → (a || (b || c)) ≡ ((a || b) || c)
+    either true b c = refl
+    either false b c = refl
+
+-- one number more: the history of that number too is without its last move
+pub unmoved_next : (first : ℕ) (ns : List ℕ) (hs : List History) (i n : ℕ) (d : History) → AreNumberedFrom first hs → n ≡ first + i → has ns n ≡ false → i < length hs
+    → unmoved_those (is_listed (ns ++ n ∷ [])) hs ≡ slice_set (unmoved_those (is_listed ns) hs) i (unmoved (get_or (unmoved_those (is_listed ns) hs) i d))
+unmoved_next first ns [] i n d num at new l = absurd (omega arith)
+unmoved_next first ns (h ∷ hs) zero n d num at new l =
+    let here : n ≡ h.number = omega (arith, num.0) in
+    let before : is_listed ns h ≡ false = ap (has ns) (sym here) ∙ new in
+    let after : is_listed (ns ++ n ∷ []) h ≡ true = listed_more ns n h ∙ (λ j. before j || eq-eqb n h.number here j) in
+    let rest = unmoved_agree (is_listed (ns ++ n ∷ [])) (is_listed ns) hs (each_map (λ g. first + 1 ≤ g.number) (λ g. is_listed (ns ++ n ∷ []) g ≡ is_listed ns g) (λ g m. listed_more ns n g ∙ (λ j. is_listed ns g || ne_eqb n g.number (let q = num.0 in omega arith) j) ∙ or_false (is_listed ns g)) hs (numbers_above (first + 1) hs num.1)) in
+    (λ j. cond (after j) (unmoved h) h ∷ rest j) ∙ (λ j. unmoved (cond (sym before j) (unmoved h) h) ∷ unmoved_those (is_listed ns) hs)
+  where
+    or_false : (b : Bool) → (b || false) ≡ b
+    or_false true = refl
+    or_false false = refl
+unmoved_next first ns (h ∷ hs) (suc i) n d num at new l =
+    let rest = unmoved_next (first + 1) ns hs i n d num.1 (let z : n ≡ first + 1 + i = omega arith in z) new (omega arith) in
+    let same : is_listed (ns ++ n ∷ []) h ≡ is_listed ns h = listed_more ns n h ∙ (λ j. is_listed ns h || ne_eqb n h.number (let q = num.0 in omega arith) j) ∙ or_false (is_listed ns h) in
+    λ j. cond (same j) (unmoved h) h ∷ rest j
+  where
+    or_false : (b : Bool) → (b || false) ≡ b
+    or_false true = refl
+    or_false false = refl
+
+-- A step of the loops over a rising list: its number at this place is the item.
+module _ (old : List History) (ns : List ℕ) (i item : ℕ) (numbers : AreNumberedFrom 1 old) (rises : RisesFrom 1 ns) (within : EachListed (λ n. n ≤ length old) ns) (inside : i < length ns) (is : item ≡ get_or ns i item) where
+  to_item : RisesTo 1 (take i ns) item
+  to_item = subst (RisesTo 1 (take i ns)) (sym is) (rises_to 1 ns i item rises inside)
+
+  pub item_within : item ≤ length old
+  item_within = subst (λ n. n ≤ length old) (sym is) (each_at (λ n. n ≤ length old) ns i item within inside)
+
+  item_least : 1 ≤ item
+  item_least = above_least 1 (take i ns) item to_item
+
+  more : take (i + 1) ns ≡ take i ns ++ item ∷ []
+  more = take_more ns i item inside ∙ ap (λ n. take i ns ++ n ∷ []) (sym is)
+
+  pub pop_step : (hs : List History) (n : ℕ) (d : History) → n ≡ item → hs ≡ unmoved_those (is_listed (take i ns)) old → slice_set hs (n - 1) (unmoved (get_or hs (n - 1) d)) ≡ unmoved_those (is_listed (take (i + 1) ns)) old
+  pop_step hs n d at so_far =
+      let low = item_least in
+      let high = item_within in
+      (λ j. slice_set (so_far j) (n - 1) (unmoved (get_or (so_far j) (n - 1) d)))
+      ∙ sym (unmoved_next 1 (take i ns) old (n - 1) item d numbers (let z : item ≡ 1 + (n - 1) = omega arith in z) (not_yet 1 (take i ns) item to_item) (omega arith))
+      ∙ ap (λ l. unmoved_those (is_listed l) old) (sym more)
+
+  module _ (target number : ℕ) (hs : List History) (n : ℕ) (d : History) (at : n ≡ item) (so_far : hs ≡ moved_those (is_listed (take i ns)) target number old) where
+    next : MovesNext (is_listed (take i ns)) (is_listed (take i ns ++ item ∷ [])) target number (length (take i ns)) old (n - 1) (get_or old (n - 1) d)
+    next =
+        let low = item_least in
+        let high = item_within in
+        moved_next target number 1 (take i ns) old (n - 1) item (get_or old (n - 1) d) numbers (let z : item ≡ 1 + (n - 1) = omega arith in z) to_item (slice_get-get_or old (n - 1) d (omega arith))
+
+    pub push_step : slice_set hs (n - 1) (moved (number + i) target (get_or hs (n - 1) d)) ≡ moved_those (is_listed (take (i + 1) ns)) target number old
+    push_step =
+        let here : get_or hs (n - 1) d ≡ get_or old (n - 1) d = ap (λ l. get_or l (n - 1) d) so_far ∙ get_or_from_slice_get _ (n - 1) (get_or old (n - 1) d) d next.0 in
+        let count : i ≡ length (take i ns) = sym (length-take-le i ns (omega arith)) in
+        (λ j. slice_set (so_far j) (n - 1) (moved (number + count j) target (here j)))
+        ∙ sym next.1
+        ∙ ap (λ l. moved_those (is_listed l) target number old) (sym more)

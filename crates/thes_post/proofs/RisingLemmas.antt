@@ -1,12 +1,17 @@
 -- Rising lists of numbers.
-use Rattle.std.proofs.Common.{◌≡◌, ◌≢◌, ◌⊎◌, ◌<◌, ◌≤◌, ℕ, zero, suc, ◌+◌, ◌-◌, length, List, [], ◌∷◌, ◌++◌, refl, sym, ap, ◌∙◌, subst, arith, inl, inr, ⊎_elim, Bool, true, false, cond, not, ◌||◌, eqb, eqb-true, ne_eqb, ltb, get_or, take, drop, length-append}
+use Rattle.std.proofs.Common.{◌≡◌, ◌≢◌, ◌⊎◌, ◌<◌, ◌≤◌, ℕ, zero, suc, ◌+◌, ◌-◌, length, List, [], ◌∷◌, ◌++◌, refl, sym, ap, ◌∙◌, subst, arith, inl, inr, ⊎_elim, Bool, true, false, cond, not, ◌||◌, eqb, eqb-true, ne_eqb, ltb, get_or, take, drop, length-append, append_assoc}
+use Rattle.std.proofs.lemmas.List.{append-nil, length-drop}
+use Rattle.std.proofs.lemmas.List.Elements.{filter_more}
+use Rattle.std.proofs.Math.ListN.{drop_of_length-le}
 use borrow.Author.Tests.{eqb-false, eq-eqb}
 use Rattle.std.proofs.lemmas.Bool.{ltb-true, lt-ltb}
-use Rattle.std.specs.Prelude.{Some, slice_get, filter, count_by}
+use Rattle.std.specs.Prelude.{Some, slice_get, filter, count_by, Result, Ok, Err, MatchResult}
+use Rattle.std.specs.Result.{is_err}
+use Rattle.std.specs.Ordering.{nat_cmp}
 use Rattle.std.specs.List.{list_any}
-use Rattle.std.specs.List.Sorted.{IsPermutation, IsNonDecreasing}
+use Rattle.std.specs.List.Sorted.{IsPermutation, IsNonDecreasing, IsBinarySearchResult}
 use Rattle.std.proofs.lemmas.List.Sums.{sum_by-cons}
-use Rattle.std.proofs.lemmas.List.Sorted.{sum_by-IsPermutation, list_any-IsPermutation}
+use Rattle.std.proofs.lemmas.List.Sorted.{sum_by-IsPermutation, list_any-IsPermutation, searched}
 use Rattle.thes_base.specs.Refusals.{EachOnce, EachListed}
 use Rattle.thes_post.specs.Rising.{RisesFrom, merged, merged_into, without}
 
@@ -147,3 +152,104 @@ merged_first x xs (y ∷ ys) r = ⊎_elim
 pub merged_second : (xs ys : List ℕ) (y : ℕ) → RisesFrom (y + 1) xs → merged xs (y ∷ ys) ≡ y ∷ merged xs ys
 merged_second [] ys y r = refl
 merged_second (x ∷ xs) ys y r = let q = r.0 in ap (λ b. cond b (y ∷ merged_into x (merged xs) ys) (x ∷ merged xs (y ∷ ys))) (lt-ltb y x (omega arith))
+
+-- Places of a list.
+
+-- a rising list, and a number above its last
+abbrev pub RisesTo : ℕ → List ℕ → ℕ → Type 0
+RisesTo least [] n = least ≤ n
+RisesTo least (m ∷ ns) n = (least ≤ m) × RisesTo (m + 1) ns n
+
+pub each_at : (P : ℕ → Type 0) (ns : List ℕ) (i d : ℕ) → EachListed P ns → i < length ns → P (get_or ns i d)
+each_at P [] i d all l = absurd (omega arith)
+each_at P (n ∷ ns) zero d all l = all.0
+each_at P (n ∷ ns) (suc i) d all l = each_at P ns i d all.1 (omega arith)
+
+pub each_take : (P : ℕ → Type 0) (ns : List ℕ) (i : ℕ) → EachListed P ns → EachListed P (take i ns)
+each_take P ns zero all = tt
+each_take P [] (suc i) all = tt
+each_take P (n ∷ ns) (suc i) all = (all.0, each_take P ns i all.1)
+
+pub each_more : (P : ℕ → Type 0) (ns : List ℕ) (i d : ℕ) → i < length ns → EachListed P (take i ns) → P (get_or ns i d) → EachListed P (take (i + 1) ns)
+each_more P ns i d l all here = subst (λ k. EachListed P (take k ns)) (let z : suc i ≡ i + 1 = omega arith in z) (more ns i l all here)
+  where
+    more : (ms : List ℕ) (j : ℕ) → j < length ms → EachListed P (take j ms) → P (get_or ms j d) → EachListed P (take (suc j) ms)
+    more [] j l all here = tt
+    more (m ∷ ms) zero l all here = (here, tt)
+    more (m ∷ ms) (suc j) l all here = (all.0, more ms j (omega arith) all.1 here)
+
+-- what comes before a place rises to it
+pub rises_to : (least : ℕ) (ns : List ℕ) (i d : ℕ) → RisesFrom least ns → i < length ns → RisesTo least (take i ns) (get_or ns i d)
+rises_to least [] i d r l = absurd (omega arith)
+rises_to least (n ∷ ns) zero d r l = r.0
+rises_to least (n ∷ ns) (suc i) d r l = (r.0, rises_to (n + 1) ns i d r.1 (omega arith))
+
+pub take_whole : {A : Type 0} (n : ℕ) (xs : List A) → length xs ≤ n → take n xs ≡ xs
+take_whole zero [] l = refl
+take_whole zero (x ∷ xs) l = absurd (omega arith)
+take_whole (suc n) [] l = refl
+take_whole (suc n) (x ∷ xs) l = ap (λ l. x ∷ l) (take_whole n xs (omega arith))
+
+pub rises_take : (least : ℕ) (ns : List ℕ) (i : ℕ) → RisesFrom least ns → RisesFrom least (take i ns)
+rises_take least ns zero r = tt
+rises_take least [] (suc i) r = tt
+rises_take least (n ∷ ns) (suc i) r = (r.0, rises_take (n + 1) ns i r.1)
+
+pub merged_step_second : (x y : ℕ) (xs ys : List ℕ) → ltb y x ≡ true → merged (x ∷ xs) (y ∷ ys) ≡ y ∷ merged (x ∷ xs) ys
+merged_step_second x y xs ys less = ap (λ b. cond b (y ∷ merged_into x (merged xs) ys) (x ∷ merged xs (y ∷ ys))) less
+
+pub merged_step_first : (x y : ℕ) (xs ys : List ℕ) → ltb y x ≡ false → merged (x ∷ xs) (y ∷ ys) ≡ x ∷ merged xs (y ∷ ys)
+merged_step_first x y xs ys more = ap (λ b. cond b (y ∷ merged_into x (merged xs) ys) (x ∷ merged xs (y ∷ ys))) more
+
+pub merged_none : (xs : List ℕ) → merged xs [] ≡ xs
+merged_none [] = refl
+merged_none (x ∷ xs) = ap (λ l. x ∷ l) (merged_none xs)
+
+-- where one list ends, what is left of the other follows
+pub joined_first : (list xs ys : List ℕ) (i j : ℕ) → length xs ≤ i → (list ++ drop i xs) ++ drop j ys ≡ list ++ merged (drop i xs) (drop j ys)
+joined_first list xs ys i j l = append_assoc list (drop i xs) (drop j ys) ∙ (λ k. list ++ (drop_of_length-le xs l k ++ drop j ys)) ∙ (λ k. list ++ merged (sym (drop_of_length-le xs l) k) (drop j ys))
+
+pub joined_second : (list xs ys : List ℕ) (i j : ℕ) → length ys ≤ j → (list ++ drop i xs) ++ drop j ys ≡ list ++ merged (drop i xs) (drop j ys)
+joined_second list xs ys i j l =
+    (λ k. (list ++ drop i xs) ++ drop_of_length-le ys l k) ∙ append-nil (list ++ drop i xs) ∙ ap (λ zs. list ++ zs) (sym (merged_none (drop i xs))) ∙ (λ k. list ++ merged (drop i xs) (sym (drop_of_length-le ys l) k))
+
+-- Searches.
+
+has_at : (ns : List ℕ) (i n : ℕ) → i < length ns → get_or ns i 0 ≡ n → has ns n ≡ true
+has_at [] i n l e = absurd (omega arith)
+has_at (m ∷ ns) zero n l e = ap (λ b. b || has ns n) (eq-eqb m n e)
+has_at (m ∷ ns) (suc i) n l e = (λ j. eqb m n || has_at ns i n (omega arith) e j) ∙ or_true (eqb m n)
+  where
+    or_true : (b : Bool) → (b || true) ≡ true
+    or_true true = refl
+    or_true false = refl
+
+has_none : (ns : List ℕ) (n : ℕ) → ((k : ℕ) → k < length ns → get_or ns k 0 ≢ n) → has ns n ≡ false
+has_none [] n f = refl
+has_none (m ∷ ns) n f = ap (λ b. b || has ns n) (ne_eqb m n (f 0 (omega arith))) ∙ has_none ns n (λ k l. f (suc k) (omega arith))
+
+below_or_not : (i k : ℕ) → (i ≤ k) ⊎ (k < i)
+below_or_not zero k = inl (omega arith)
+below_or_not (suc i) zero = inr (omega arith)
+below_or_not (suc i) (suc k) = elim (below_or_not i k) [ inl l ↦ inl (omega arith) | inr l ↦ inr (omega arith) ]
+
+-- what a binary search found is there, and else nothing is
+pub has_searched : (ns : List ℕ) (n : ℕ) (r : Result ℕ ℕ) → IsBinarySearchResult (λ y. nat_cmp y n) ns r → IsNonDecreasing ns → not (has ns n) ≡ is_err r
+has_searched ns n r position up = cases r (searched ns n r position (λ i j l m. up i j 0 l m))
+  where
+    cases : (r : Result ℕ ℕ) → MatchResult r (λ i. (i < length ns) × (get_or ns i 0 ≡ n)) (λ i. (i ≤ length ns) × ((k : ℕ) → k < i → get_or ns k 0 < n) × ((k : ℕ) → i ≤ k → k < length ns → n < get_or ns k 0)) → not (has ns n) ≡ is_err r
+    cases (Ok i) found = ap not (has_at ns i n found.0 found.1)
+    cases (Err i) none = ap not (has_none ns n (λ k l e. apart k l e (below_or_not i k)))
+      where
+        apart : (k : ℕ) → k < length ns → get_or ns k 0 ≡ n → (i ≤ k) ⊎ (k < i) → ⊥
+        apart k l e (inl after) = let q = none.2 k after l in absurd (omega (arith, q, e))
+        apart k l e (inr before) = let q = none.1 k before in absurd (omega (arith, q, e))
+
+-- one number more
+pub without_more : (ns others : List ℕ) (i item : ℕ) → i < length ns → item ≡ get_or ns i item → without (take (i + 1) ns) others ≡ without (take i ns) others ++ cond (not (has others item)) (item ∷ []) []
+without_more ns others i item l is =
+    filter_more (λ n. not (has others n)) ns i item l ∙ ap (λ n. without (take i ns) others ++ cond (not (has others n)) (n ∷ []) []) (sym is)
+
+-- what a slice to the end has
+pub tail_whole : (ns : List ℕ) (i : ℕ) → take (length ns - i) (drop i ns) ≡ drop i ns
+tail_whole ns i = take_whole (length ns - i) (drop i ns) (let q = length-drop i ns in omega (arith, q))

@@ -5,7 +5,7 @@ ghost use Rattle.thes_base.specs.Resources.{numbered};
 ghost use Rattle.thes_base.specs.Postings.{place, moved_those};
 ghost use Rattle.thes_base.specs.Changes.{is_listed};
 ghost use Rattle.thes_base.specs.Rows.{accepted};
-ghost use Rattle.thes_base.specs.Refusals.{EachOnce, EachListed, IsKnownPosting, unless_standing, unless_listed};
+ghost use Rattle.thes_base.specs.Refusals.{EachOnce, EachListed, unless_standing, unless_listed};
 ghost use Rattle.thes_post.specs.Indexed.{AreNumberedFrom};
 ghost use Rattle.thes_post.specs.Moved.{unmoved_those};
 ghost use Rattle.thes_post.specs.Rising.{RisesFrom};
@@ -77,7 +77,7 @@ pub fn push_moves(
 ) -> Result<(), AllocError>
     requires numbers { AreNumberedFrom 1 histories.old }
     requires rising { RisesFrom 1 moving.now }
-    requires known { EachListed (IsKnownPosting histories.old) moving.now }
+    requires within { EachListed (λ n. n ≤ length histories.old) moving.now }
     requires least { 1 ≤ first }
     requires room { first + length moving.now ≤ 2 ^ 32 }
     ensures ok { OnOk result (histories.new ≡ moved_those (is_listed moving.now) target first histories.old) }
@@ -90,9 +90,9 @@ pub fn push_moves(
             source: place_of(history),
             target,
         };
-        if history.moves.push(step).is_err() {
+        if let Err(error) = history.moves.push(step) {
             pop_moves(histories, &moving[..i]);
-            return Err(AllocError);
+            return Err(error);
         }
     }
     Ok(())
@@ -102,7 +102,7 @@ pub fn push_moves(
 pub fn pop_moves(histories: &mut [History], moved: &[PostNo])
     requires numbers { AreNumberedFrom 1 histories.old }
     requires rising { RisesFrom 1 moved.now }
-    requires known { EachListed (IsKnownPosting histories.old) moved.now }
+    requires within { EachListed (λ n. n ≤ length histories.old) moved.now }
     ensures { histories.new ≡ unmoved_those (is_listed moved.now) histories.old }
 {
     for number in moved {
