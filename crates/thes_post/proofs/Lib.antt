@@ -1,3 +1,5 @@
 pub mod HistoryLemmas
+pub mod IndexLemmas
+pub mod ListedLemmas
 pub mod RisingLemmas
 pub mod StandingLemmas

@@ -8,11 +8,13 @@ use Rattle.std.proofs.lemmas.Bool.{ltb-true, lt-ltb}
 use Rattle.std.specs.Prelude.{Some, slice_get, filter, count_by, Result, Ok, Err, MatchResult}
 use Rattle.std.specs.Result.{is_err}
 use Rattle.std.specs.Ordering.{nat_cmp}
-use Rattle.std.specs.List.{list_any}
+use Rattle.std.specs.List.{list_any, remove}
 use Rattle.std.specs.List.Sorted.{IsPermutation, IsNonDecreasing, IsBinarySearchResult}
 use Rattle.std.proofs.lemmas.List.Sums.{sum_by-cons}
 use Rattle.std.proofs.lemmas.List.Sorted.{sum_by-IsPermutation, list_any-IsPermutation, searched}
-use Rattle.thes_base.specs.Refusals.{EachOnce, EachListed}
+use Rattle.thes_base.specs.declared.data.History.{History}
+use Rattle.thes_base.specs.Resources.{numbered}
+use Rattle.thes_base.specs.Refusals.{EachOnce, EachListed, PostingPasses}
 use Rattle.thes_post.specs.Rising.{RisesFrom, merged, merged_into, without}
 
 pub decided : (b : Bool) → (b ≡ true) ⊎ (b ≡ false)
@@ -42,7 +44,7 @@ times n ns = count_by (λ m. eqb m n) ns
 times_cons : (n m : ℕ) (ns : List ℕ) → times n (m ∷ ns) ≡ cond (eqb m n) 1 0 + times n ns
 times_cons n m ns = sum_by-cons (λ x. cond (eqb x n) 1 0) m ns
 
-abbrev as_number : Bool → ℕ
+abbrev pub as_number : Bool → ℕ
 as_number b = cond b 1 0
 
 one_or_none : (b : Bool) → b ≡ true → as_number b ≡ 1
@@ -228,7 +230,7 @@ has_none : (ns : List ℕ) (n : ℕ) → ((k : ℕ) → k < length ns → get_or
 has_none [] n f = refl
 has_none (m ∷ ns) n f = ap (λ b. b || has ns n) (ne_eqb m n (f 0 (omega arith))) ∙ has_none ns n (λ k l. f (suc k) (omega arith))
 
-below_or_not : (i k : ℕ) → (i ≤ k) ⊎ (k < i)
+pub below_or_not : (i k : ℕ) → (i ≤ k) ⊎ (k < i)
 below_or_not zero k = inl (omega arith)
 below_or_not (suc i) zero = inr (omega arith)
 below_or_not (suc i) (suc k) = elim (below_or_not i k) [ inl l ↦ inl (omega arith) | inr l ↦ inr (omega arith) ]
@@ -253,3 +255,76 @@ without_more ns others i item l is =
 -- what a slice to the end has
 pub tail_whole : (ns : List ℕ) (i : ℕ) → take (length ns - i) (drop i ns) ≡ drop i ns
 tail_whole ns i = take_whole (length ns - i) (drop i ns) (let q = length-drop i ns in omega (arith, q))
+
+-- One number less.
+
+without_none : (least n : ℕ) (ns : List ℕ) → RisesFrom least ns → n < least → without ns (n ∷ []) ≡ ns
+without_none least n [] r l = refl
+without_none least n (m ∷ ns) r l =
+    let q = r.0 in
+    (λ k. cond (not (ne_eqb n m (omega arith) k || false)) (m ∷ without ns (n ∷ [])) (without ns (n ∷ []))) ∙ ap (λ l. m ∷ l) (without_none (m + 1) n ns r.1 (omega arith))
+
+-- the number at a place of a rising list stands at no other
+pub remove_listed : (least n : ℕ) (ns : List ℕ) (i : ℕ) → RisesFrom least ns → i < length ns → get_or ns i 0 ≡ n → remove ns i ≡ without ns (n ∷ [])
+remove_listed least n [] i r l e = absurd (omega arith)
+remove_listed least n (m ∷ ns) zero r l e =
+    sym ((λ k. cond (not (eq-eqb n m (sym e) k || false)) (m ∷ without ns (n ∷ [])) (without ns (n ∷ []))) ∙ without_none (m + 1) n ns r.1 (let q = e in omega arith))
+remove_listed least n (m ∷ ns) (suc i) r l e =
+    let low : m < n = subst (λ k. m < k) e (above m ns i r.1 (omega arith)) in
+    ap (λ l. m ∷ l) (remove_listed (m + 1) n ns i r.1 (omega arith) e)
+    ∙ (λ k. cond (not (sym (ne_eqb n m (omega arith)) k || false)) (m ∷ without ns (n ∷ [])) (without ns (n ∷ [])))
+  where
+    above : (m : ℕ) (ns : List ℕ) (i : ℕ) → RisesFrom (m + 1) ns → i < length ns → m < get_or ns i 0
+    above m [] i r l = absurd (omega arith)
+    above m (x ∷ ns) zero r l = let q = r.0 in omega arith
+    above m (x ∷ ns) (suc i) r l = let q = r.0 in let h = above x ns i r.1 (omega arith) in omega arith
+
+pub without_absent : (n : ℕ) (ns : List ℕ) → has ns n ≡ false → without ns (n ∷ []) ≡ ns
+without_absent n [] e = refl
+without_absent n (m ∷ ns) e = ⊎_elim
+    (λ (hit : eqb m n ≡ true). absurd (let t : true ≡ false = sym (ap (λ b. b || has ns n) hit) ∙ e in cc))
+    (λ (miss : eqb m n ≡ false).
+    (λ k. cond (not (ne_eqb n m (λ q. eqb-false m n miss (sym q)) k || false)) (m ∷ without ns (n ∷ [])) (without ns (n ∷ [])))
+    ∙ ap (λ l. m ∷ l) (without_absent n ns (sym (ap (λ b. b || has ns n) miss) ∙ e))) (decided (eqb m n))
+
+pub in_order_of_rises : (least : ℕ) (ns : List ℕ) → RisesFrom least ns → IsNonDecreasing ns
+in_order_of_rises least [] r = λ i j d l m. absurd (omega arith)
+in_order_of_rises least (n ∷ ns) r = λ i j d l m. order n ns i j d r.1 l m (in_order_of_rises (n + 1) ns r.1)
+  where
+    above : (m : ℕ) (ns : List ℕ) (i d : ℕ) → RisesFrom (m + 1) ns → i < length ns → m < get_or ns i d
+    above m [] i d r l = absurd (omega arith)
+    above m (x ∷ ns) zero d r l = let q = r.0 in omega arith
+    above m (x ∷ ns) (suc i) d r l = let q = r.0 in let h = above x ns i d r.1 (omega arith) in omega arith
+
+    order : (n : ℕ) (ns : List ℕ) (i j d : ℕ) → RisesFrom (n + 1) ns → i ≤ j → j < length (n ∷ ns) → IsNonDecreasing ns → get_or (n ∷ ns) i d ≤ get_or (n ∷ ns) j d
+    order n ns zero zero d r l m up = omega arith
+    order n ns zero (suc j) d r l m up = let h = above n ns j d r (omega arith) in omega arith
+    order n ns (suc i) zero d r l m up = absurd (omega arith)
+    order n ns (suc i) (suc j) d r l m up = up i j d (omega arith) (omega arith)
+
+pub not_true : (b : Bool) → not b ≡ true → b ≡ false
+not_true true e = sym e
+not_true false e = refl
+
+-- A mark that is set where one of a list fails a test.
+module _ (hs : List History) (test : History → Bool) (ns : List ℕ) (i item : ℕ) (h : History) (mark fails : Bool) (inside : i < length ns) (is : item ≡ get_or ns i item) (at : numbered hs item ≡ Some h) (told : test h ≡ not fails) where
+  pub passes_more : (mark ≡ false → EachListed (PostingPasses hs test) (take i ns)) → (mark || fails) ≡ false → EachListed (PostingPasses hs test) (take (i + 1) ns)
+  passes_more so_far unset = each_more (PostingPasses hs test) ns i item inside (so_far (first mark fails unset)) (subst (PostingPasses hs test) is (h, at, told ∙ ap not (second mark fails unset)))
+    where
+      first : (a b : Bool) → (a || b) ≡ false → a ≡ false
+      first true b e = e
+      first false b e = refl
+
+      second : (a b : Bool) → (a || b) ≡ false → b ≡ false
+      second true b e = absurd (cc)
+      second false b e = e
+
+  pub passes_never : (mark ≡ true → EachListed (PostingPasses hs test) ns → ⊥) → (mark || fails) ≡ true → EachListed (PostingPasses hs test) ns → ⊥
+  passes_never so_far set all = ⊎_elim (λ (before : mark ≡ true). so_far before all) (λ (here : mark ≡ false). fails_here (ap (λ b. b || fails) (sym here) ∙ set)) (decided mark)
+    where
+      fails_here : fails ≡ true → ⊥
+      fails_here now =
+          let p = subst (PostingPasses hs test) (sym is) (each_at (PostingPasses hs test) ns i item all inside) in
+          let same : p.0 ≡ h = (let e : Some p.0 ≡ Some h = sym p.1 ∙ at in cc) in
+          let t : true ≡ false = sym p.2 ∙ ap test same ∙ told ∙ ap not now in
+          absurd (cc)

@@ -39,10 +39,22 @@ impl Standing {
         ensures same { (c : ℕ) → listed_at self.new c ≡ listed_at self.old c }
         ensures room { OnOk result (HasRoom self.new concept) }
     {
-        self.lists
-            .entry(concept)?
-            .or_insert(Vec::new(alloc))
-            .try_reserve(1)
+        self.open(alloc, concept)?;
+        if let Some(list) = self.lists.get_mut(&concept) {
+            list.try_reserve(1)?;
+        }
+        Ok(())
+    }
+
+    // Makes a list of a concept that has none.
+    fn open(&mut self, alloc: Global, concept: ResNo) -> Result<(), AllocError>
+        ensures same { (c : ℕ) → listed_at self.new c ≡ listed_at self.old c }
+        ensures list { OnOk result (HasList self.new concept) }
+    {
+        if !self.lists.contains_key(&concept) {
+            self.lists.insert(concept, Vec::new(alloc))?;
+        }
+        Ok(())
     }
 
     /// Adds a posting at the end of a concept's list.
