@@ -80,16 +80,16 @@ module _ (before after : History → Bool) (target : ℕ) (g : History) (hs : Li
   behind_moved number count b a next = (
     ap (λ l. slice_get l (suc i)) (λ j. cond (b j) (moved number target g ∷ moved_those before target (number + 1) hs) (g ∷ moved_those before target number hs)) ∙ next.0,
     (λ j. cond (a j) (moved number target g ∷ moved_those after target (number + 1) hs) (g ∷ moved_those after target number hs))
-    ∙ ap (λ l. moved number target g ∷ l) (next.1 ∙ ap (λ k. slice_set (moved_those before target (number + 1) hs) i (moved k target h)) (let z : number + 1 + count ≡ number + suc count = omega arith in z))
-    ∙ (λ j. slice_set (cond (sym b j) (moved number target g ∷ moved_those before target (number + 1) hs) (g ∷ moved_those before target number hs)) (suc i) (moved (number + suc count) target h))
+        ∙ ap (λ l. moved number target g ∷ l) (next.1 ∙ ap (λ k. slice_set (moved_those before target (number + 1) hs) i (moved k target h)) (let z : number + 1 + count ≡ number + suc count = omega arith in z))
+        ∙ (λ j. slice_set (cond (sym b j) (moved number target g ∷ moved_those before target (number + 1) hs) (g ∷ moved_those before target number hs)) (suc i) (moved (number + suc count) target h)),
   )
 
   behind_kept : (number count : ℕ) → before g ≡ false → after g ≡ false → MovesNext before after target number count hs i h → MovesNext before after target number count (g ∷ hs) (suc i) h
   behind_kept number count b a next = (
     ap (λ l. slice_get l (suc i)) (λ j. cond (b j) (moved number target g ∷ moved_those before target (number + 1) hs) (g ∷ moved_those before target number hs)) ∙ next.0,
     (λ j. cond (a j) (moved number target g ∷ moved_those after target (number + 1) hs) (g ∷ moved_those after target number hs))
-    ∙ ap (λ l. g ∷ l) next.1
-    ∙ (λ j. slice_set (cond (sym b j) (moved number target g ∷ moved_those before target (number + 1) hs) (g ∷ moved_those before target number hs)) (suc i) (moved (number + count) target h))
+        ∙ ap (λ l. g ∷ l) next.1
+        ∙ (λ j. slice_set (cond (sym b j) (moved number target g ∷ moved_those before target (number + 1) hs) (g ∷ moved_those before target number hs)) (suc i) (moved (number + count) target h)),
   )
 
 -- a number that stands before the others of the list, and before these histories, doesn't matter to them
@@ -97,7 +97,7 @@ next_behind : (first : ℕ) (ns : List ℕ) (n : ℕ) (target number count : ℕ
     → MovesNext (is_listed ns) (is_listed (ns ++ n ∷ [])) target number count hs i h → MovesNext (is_listed (first ∷ ns)) (is_listed (first ∷ ns ++ n ∷ [])) target number count hs i h
 next_behind first ns n target number count hs i h num next = (
   ap (λ l. slice_get l i) (none_above target number first ns hs num) ∙ next.0,
-  none_above target number first (ns ++ n ∷ []) hs num ∙ next.1 ∙ ap (λ l. slice_set l i (moved (number + count) target h)) (sym (none_above target number first ns hs num))
+  none_above target number first (ns ++ n ∷ []) hs num ∙ next.1 ∙ ap (λ l. slice_set l i (moved (number + count) target h)) (sym (none_above target number first ns hs num)),
 )
 
 listed_end : (ns : List ℕ) (n : ℕ) (h : History) → is_listed ns h ≡ false → eqb n h.number ≡ false → is_listed (ns ++ n ∷ []) h ≡ false
@@ -111,12 +111,11 @@ moved_next target number first ns [] i n h num at r e = absurd (cc)
 moved_next target number first [] (g ∷ hs) zero n h num at r e =
     let same : g ≡ h = cc in
     let here : n ≡ first = omega arith in
-    let hit : is_listed (n ∷ []) g ≡ true = ap (λ b. b || false) (eq-eqb n g.number (here ∙ sym num.0)) in
-    (
+    let hit : is_listed (n ∷ []) g ≡ true = ap (λ b. b || false) (eq-eqb n g.number (here ∙ sym num.0)) in (
       ap (λ l. slice_get l 0) (none_moved target number (g ∷ hs)) ∙ e,
       (λ j. cond (hit j) (moved number target g ∷ moved_those (is_listed (n ∷ [])) target (number + 1) hs) (g ∷ moved_those (is_listed (n ∷ [])) target number hs))
-      ∙ (λ j. moved (let z : number ≡ number + 0 = omega arith in z j) target (same j) ∷ (ap (λ k. moved_those (is_listed (k ∷ [])) target (number + 1) hs) here ∙ none_above target (number + 1) first [] hs num.1 ∙ none_moved target (number + 1) hs) j)
-      ∙ ap (λ l. slice_set l 0 (moved (number + 0) target h)) (sym (none_moved target number (g ∷ hs)))
+          ∙ (λ j. moved (let z : number ≡ number + 0 = omega arith in z j) target (same j) ∷ (ap (λ k. moved_those (is_listed (k ∷ [])) target (number + 1) hs) here ∙ none_above target (number + 1) first [] hs num.1 ∙ none_moved target (number + 1) hs) j)
+          ∙ ap (λ l. slice_set l 0 (moved (number + 0) target h)) (sym (none_moved target number (g ∷ hs))),
     )
 moved_next target number first (m ∷ ns) (g ∷ hs) zero n h num at r e = absurd (let q = above_least (m + 1) ns n r.1 in let p = r.0 in omega arith)
 moved_next target number first [] (g ∷ hs) (suc i) n h num at r e =

@@ -1,13 +1,13 @@
 -- The index of what stands at each concept, when one concept's list is written.
-use Rattle.std.proofs.Common.{◌≡◌, ◌⊎◌, ◌≤◌, ◌<◌, ℕ, arith, inl, inr, List, [], refl, sym, ap, ◌∙◌, ⊎_elim, Bool, true, false, cond, eqb, eqb-true, ne_eqb, ltb, Vec, Global, Less, Equal, Greater}
+use Rattle.std.proofs.Common.{◌≡◌, ◌⊎◌, ◌≤◌, ◌<◌, ℕ, arith, inl, inr, List, [], refl, sym, ap, ◌∙◌, subst, ⊎_elim, Bool, true, false, cond, eqb, eqb-true, ne_eqb, ltb, Vec, Global, Less, Equal, Greater}
 use borrow.Author.Tests.{eqb-false, eq-eqb}
 use Rattle.std.specs.Prelude.{Some}
-use Rattle.std.specs.Option.{option_map_or}
+use Rattle.std.specs.Option.{option_map_or, is_some}
 use Rattle.std.specs.Ordering.{nat_cmp, is_eq}
 use Rattle.std.specs.Cmp.{nat_cmp_is}
 use Rattle.std.specs.BTreeMap.{UpdatesBy, get}
 use Rattle.thes_post.specs.declared.standing.Standing.{Standing}
-use Rattle.thes_post.specs.Standing.{listed_at, Lists}
+use Rattle.thes_post.specs.Standing.{listed_at, HasList, Lists}
 use Rattle.thes_post.proofs.RisingLemmas.{decided, below_or_not}
 
 is_eq_cmp : (a b : ℕ) → is_eq (nat_cmp a b) ≡ eqb a b
@@ -36,3 +36,12 @@ lists_at old new concept numbers lists = lists concept ∙ (λ i. cond (eq-eqb c
 
 pub lists_others : (old new : Standing) (concept c : ℕ) (numbers : List ℕ) → Lists old new concept numbers → (concept ≡ c → ⊥) → listed_at new c ≡ listed_at old c
 lists_others old new concept c numbers lists apart = lists c ∙ (λ i. cond (ne_eqb concept c apart i) numbers (listed_at old c))
+
+-- no concept's list is lost
+pub has_list : (old new : Standing) (concept : ℕ) (v : Vec ℕ Global) → UpdatesBy nat_cmp (nat_cmp concept) old.lists new.lists (Some v) → (c : ℕ) → HasList old c → HasList new c
+has_list old new concept v updates c has =
+    subst (λ o. is_some o ≡ true) (sym (updates.0 c ∙ (λ i. cond (is_eq_cmp concept c i) (Some v) (get nat_cmp old.lists c)))) (either (eqb concept c))
+  where
+    either : (b : Bool) → is_some (cond b (Some v) (get nat_cmp old.lists c)) ≡ true
+    either true = refl
+    either false = has

@@ -94,7 +94,7 @@ times_once (m ∷ ns) f = (
       let most = f m in
       absurd (omega (arith, some, here, both, most)))
       (λ (none : has ns m ≡ false). none) (decided (has ns m)),
-  times_once ns (λ n. let both = times_cons n m ns in let most = f n in omega (arith, both, most))
+  times_once ns (λ n. let both = times_cons n m ns in let most = f n in omega (arith, both, most)),
 )
 
 -- the order of a list doesn't matter
@@ -110,7 +110,7 @@ pub rises_of_once : (least : ℕ) (ns : List ℕ) → ((k : ℕ) → k < length 
 rises_of_once least [] low up e = tt
 rises_of_once least (n ∷ ns) low up e = (
   low 0 (omega arith),
-  rises_of_once (n + 1) ns above (λ i j d l m. up (suc i) (suc j) d (omega arith) (omega arith)) e.1
+  rises_of_once (n + 1) ns above (λ i j d l m. up (suc i) (suc j) d (omega arith) (omega arith)) e.1,
 )
   where
     above : (k : ℕ) → k < length ns → n + 1 ≤ get_or ns k 0
@@ -126,22 +126,24 @@ rises_of_once least (n ∷ ns) low up e = (
 pub rises_sorted : (ms ns : List ℕ) → IsPermutation ms ns → IsNonDecreasing ns → EachOnce ms → RisesFrom 0 ns
 rises_sorted ms ns p up e = rises_of_once 0 ns (λ k l. omega arith) up (once_permutation ms ns p e)
 
+-- a number that is listed has what each number listed has
+pub has_of_each : (P : ℕ → Type 0) (ls : List ℕ) → EachListed P ls → (n : ℕ) → has ls n ≡ true → P n
+has_of_each P [] each n e = absurd (cc)
+has_of_each P (l ∷ ls) each n e = ⊎_elim (λ (same : eqb l n ≡ true). subst P (eqb-true l n same) each.0)
+    (λ (apart : eqb l n ≡ false). has_of_each P ls each.1 n (sym (ap (λ b. b || has ls n) apart) ∙ e)) (decided (eqb l n))
+
+-- and the other way
+pub each_of_has : (P : ℕ → Type 0) (ls : List ℕ) → ((n : ℕ) → has ls n ≡ true → P n) → EachListed P ls
+each_of_has P [] f = tt
+each_of_has P (l ∷ ls) f = (f l (ap (λ b. b || has ls l) (eq-eqb l l refl)), each_of_has P ls (λ n e. f n (either (eqb l n) (has ls n) e)))
+  where
+    either : (a b : Bool) → b ≡ true → (a || b) ≡ true
+    either true b e = refl
+    either false b e = e
+
 -- what each number listed has, each has in any order
 pub each_permutation : (P : ℕ → Type 0) (ms ns : List ℕ) → IsPermutation ms ns → EachListed P ms → EachListed P ns
-each_permutation P ms ns p all = each_of_has ns (λ n e. has_of_each ms all n (list_any-IsPermutation (λ m. eqb m n) ms ns p ∙ e))
-  where
-    has_of_each : (ls : List ℕ) → EachListed P ls → (n : ℕ) → has ls n ≡ true → P n
-    has_of_each [] each n e = absurd (cc)
-    has_of_each (l ∷ ls) each n e = ⊎_elim (λ (same : eqb l n ≡ true). subst P (eqb-true l n same) each.0)
-        (λ (apart : eqb l n ≡ false). has_of_each ls each.1 n (sym (ap (λ b. b || has ls n) apart) ∙ e)) (decided (eqb l n))
-
-    each_of_has : (ls : List ℕ) → ((n : ℕ) → has ls n ≡ true → P n) → EachListed P ls
-    each_of_has [] f = tt
-    each_of_has (l ∷ ls) f = (f l (ap (λ b. b || has ls l) (eq-eqb l l refl)), each_of_has ls (λ n e. f n (either (eqb l n) (has ls n) e)))
-      where
-        either : (a b : Bool) → b ≡ true → (a || b) ≡ true
-        either true b e = refl
-        either false b e = e
+each_permutation P ms ns p all = each_of_has P ns (λ n e. has_of_each P ms all n (list_any-IsPermutation (λ m. eqb m n) ms ns p ∙ e))
 
 -- Two rising lists as one.
 

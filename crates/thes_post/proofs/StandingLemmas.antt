@@ -156,7 +156,7 @@ pub listed_numbers : (passes : History → Bool) (first : ℕ) (hs : List Histor
 listed_numbers passes first [] n = tt
 listed_numbers passes first (h ∷ hs) n = (
   ap (λ l. is_listed l h) (numbers_cons passes h hs) ∙ here,
-  subst (λ l. EachHistory (λ g. is_listed l g ≡ passes g) hs) (sym (numbers_cons passes h hs)) (there (listed_numbers passes (first + 1) hs n.1))
+  subst (λ l. EachHistory (λ g. is_listed l g ≡ passes g) hs) (sym (numbers_cons passes h hs)) (there (listed_numbers passes (first + 1) hs n.1)),
 )
   where
     rise : RisesFrom (h.number + 1) (numbers_of passes hs)

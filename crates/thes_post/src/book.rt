@@ -10,7 +10,7 @@ ghost use Rattle.thes_base.specs.Refusals.{IsOfKey, EachListed, PostingPasses, u
 ghost use Rattle.thes_post.specs.Known.{IsKnownAs};
 ghost use Rattle.thes_post.specs.Rising.{RisesFrom};
 
-use crate::histories::{history_at, judge_moving, judge_standing, place_of, push_moves};
+use crate::histories::{history_at, judge_moving, judge_standing, place_of, push_moves_in};
 use crate::rising::{difference, is_rising, joined, sorted};
 use crate::standing::Standing;
 use std::alloc::{AllocError, Global};
@@ -190,13 +190,13 @@ impl Book {
         let alloc = *self.histories.allocator();
         let stay = difference(alloc, self.standing.at(source), moving)?;
         let there = joined(alloc, self.standing.at(target), moving)?;
-        self.standing.reserve(alloc, source)?;
-        self.standing.reserve(alloc, target)?;
-        push_moves(
-            self.histories.as_mut_slice(),
+        self.standing.open(alloc, source)?;
+        self.standing.open(alloc, target)?;
+        push_moves_in(
+            &mut self.histories,
             moving,
             target,
-            self.moves + 1,
+            u64::from(self.moves) + 1,
         )?;
         self.standing.put(source, stay);
         self.standing.put(target, there);

@@ -73,7 +73,7 @@ pub fn push_moves(
     histories: &mut [History],
     moving: &[PostNo],
     target: ResNo,
-    first: u32,
+    first: u64,
 ) -> Result<(), AllocError>
     requires numbers { AreNumberedFrom 1 histories.old }
     requires rising { RisesFrom 1 moving.now }
@@ -86,7 +86,7 @@ pub fn push_moves(
     for i in 0..moving.len() {
         let history = &mut histories[moving[i].get() as usize - 1];
         let step = Move {
-            number: MoveNo::new(first + i as u32),
+            number: MoveNo::new((first + i as u64) as u32),
             source: place_of(history),
             target,
         };
@@ -96,6 +96,24 @@ pub fn push_moves(
         }
     }
     Ok(())
+}
+
+/// The same in a vector.
+pub fn push_moves_in(
+    histories: &mut Vec<History>,
+    moving: &[PostNo],
+    target: ResNo,
+    first: u64,
+) -> Result<(), AllocError>
+    requires numbers { AreNumberedFrom 1 histories.old.items }
+    requires rising { RisesFrom 1 moving.now }
+    requires within { EachListed (λ n. n ≤ length histories.old.items) moving.now }
+    requires least { 1 ≤ first }
+    requires room { first + length moving.now ≤ 2 ^ 32 }
+    ensures ok { OnOk result (histories.new.items ≡ moved_those (is_listed moving.now) target first histories.old.items) }
+    ensures err { OnErr result (histories.new.items ≡ histories.old.items) }
+{
+    push_moves(histories.as_mut_slice(), moving, target, first)
 }
 
 /// Takes the last move of each posting listed back.

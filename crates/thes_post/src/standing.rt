@@ -46,10 +46,11 @@ impl Standing {
         Ok(())
     }
 
-    // Makes a list of a concept that has none.
-    fn open(&mut self, alloc: Global, concept: ResNo) -> Result<(), AllocError>
+    /// Makes a list of a concept that has none.
+    pub fn open(&mut self, alloc: Global, concept: ResNo) -> Result<(), AllocError>
         ensures same { (c : ℕ) → listed_at self.new c ≡ listed_at self.old c }
         ensures list { OnOk result (HasList self.new concept) }
+        ensures kept { (c : ℕ) → HasList self.old c → HasList self.new c }
     {
         if !self.lists.contains_key(&concept) {
             self.lists.insert(concept, Vec::new(alloc))?;
@@ -70,7 +71,8 @@ impl Standing {
     /// Sets a concept's list.
     pub fn put(&mut self, concept: ResNo, numbers: Vec<PostNo>)
         requires { HasList self.old concept }
-        ensures { Lists self.old self.new concept numbers.items }
+        ensures list { Lists self.old self.new concept numbers.items }
+        ensures kept { (c : ℕ) → HasList self.old c → HasList self.new c }
     {
         if let Some(list) = self.lists.get_mut(&concept) {
             *list = numbers;

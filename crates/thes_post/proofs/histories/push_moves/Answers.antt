@@ -43,4 +43,3 @@ loop-i-preserved c =
     let step = pushed ∙ (λ k. (get_or c.loop-i.histories (c.get.result - 1) c.index-histories-get.result).moves ++ record { number = c.new.ensures k; source = c.place_of.ensures k; target = c.args.target } ∷ []) in
     ap (λ moves. slice_set c.loop-i.histories (c.get.result - 1) (record (get_or c.loop-i.histories (c.get.result - 1) c.index-histories-get.result) { moves = moves })) step
     ∙ push_step c.args.histories.now c.args.moving.now c.loop-i.i c.index-moving-i.result c.requires.numbers c.requires.rising c.requires.within c.loop-i-test.true c.index-moving-i.is c.args.target c.args.first c.loop-i.histories c.get.result c.index-histories-get.result c.get.ensures.value c.loop-i.invariant
-

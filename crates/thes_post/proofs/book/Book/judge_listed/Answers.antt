@@ -12,7 +12,7 @@ returns-then-not-is_rising c =
           let rises = c.is_rising.ensures.1 (subst (RisesFrom 0) (sym c.as_slice.ensures.value) (rises_sorted c.args.postings.now ordered c.in_ok-sorted.ensures.permutation c.in_ok-sorted.ensures.in_order once)) in
           let t : true ≡ false = sym rises ∙ c.if-not-is_rising.true in
           absurd (cc),
-      refl
+      refl,
     )
 
 pub judge_moving-requires : goal.judge_moving-requires

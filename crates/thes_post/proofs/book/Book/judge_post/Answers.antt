@@ -35,9 +35,13 @@ returns-else-eq c =
     let found : get (slice_cmp nat_cmp) c.self.inside.numbers c.args.key.now ≡ Some c.in_ok-number.field-0.now = search rules in
     let at : numbered c.self.inside.histories.items c.in_ok-number.field-0.now ≡ Some c.in_ok-history.history.now = search rules in
     let is = found_of_key c.self.inside.histories.items _ _ _ _ c.self.invariant c.args.key.now c.in_ok-number.field-0.now c.in_ok-history.history.now found at in
-    rw (← c.self.view_is) (c.in_ok-history.history.now, is.0, λ same. elim c.else-eq.branch [
-      | else-eq-via-then-eq+else-eq-2 w ↦ eqb-false c.in_ok-history.history.now.first c.args.concept (sym w.eq-then-eq.ensures ∙ w.if-eq-2.false) same.1
-      | else-eq-via-else-eq w ↦
-          let t : true ≡ false = sym (nat_list_eq_equiv.refl c.args.rec.now) ∙ ap (λ r. pointwise eqb r c.args.rec.now) (sym same.0) ∙ sym c.eq.ensures ∙ w.if-eq.false in
-          absurd (cc)
-    ])
+    rw (← c.self.view_is) (
+      c.in_ok-history.history.now,
+      is.0,
+      λ same. elim c.else-eq.branch [
+        | else-eq-via-then-eq+else-eq-2 w ↦ eqb-false c.in_ok-history.history.now.first c.args.concept (sym w.eq-then-eq.ensures ∙ w.if-eq-2.false) same.1
+        | else-eq-via-else-eq w ↦
+            let t : true ≡ false = sym (nat_list_eq_equiv.refl c.args.rec.now) ∙ ap (λ r. pointwise eqb r c.args.rec.now) (sym same.0) ∙ sym c.eq.ensures ∙ w.if-eq.false in
+            absurd (cc)
+      ],
+    )
