@@ -21,8 +21,8 @@ use Rattle.thes_post.specs.Indexed.{IsIndexed, AreNumberedFrom}
 use Rattle.thes_post.specs.Rising.{RisesFrom, merged, without}
 use Rattle.thes_post.specs.Standing.{standing_numbers}
 use Rattle.thes_post.proofs.HistoryLemmas.{number_at, numbered_push, numbered_set, numbered_moved_those}
-use Rattle.thes_post.proofs.RisingLemmas.{decided, rises_weaker, each_of_has, as_number, has_of_each, not_true}
-use Rattle.thes_post.proofs.StandingLemmas.{EachHistory, moved_agree, listed_numbers, numbers_rise, numbers_listed, standing_source, standing_target, standing_other, numbers_push, standing_withdrawn, standing_kept}
+use Rattle.thes_post.proofs.RisingLemmas.{decided, rises_weaker, as_number, has_of_each, not_true}
+use Rattle.thes_post.proofs.StandingLemmas.{EachHistory, numbers_cons, moved_agree, listed_numbers, numbers_rise, numbers_listed, standing_source, standing_target, standing_other, numbers_push, standing_withdrawn, standing_kept}
 
 same_some : {A : Type 0} {x y : A} → Some x ≡ Some y → x ≡ y
 same_some e = cc
@@ -326,9 +326,20 @@ module _ (hs : List History) (posting_of : List ℕ → Option ℕ) (listed_at :
         (indexed_withdrawn hs posting_of listed_at withdrawn_number moves_number indexed n withdrawing.0 withdrawing.1 withdrawing.2 listed
         (subst (λ p. (c : ℕ) → listed c ≡ cond (eqb p c) (without (listed_at p) (n ∷ [])) (listed_at c)) (at ∙ ap place is_it) lists))
 
--- a list of the numbers of those that stand at a concept
+-- each number of those that pass is of one that passes
 pub standing_passes : (concept : ℕ) (hs : List History) → AreNumberedFrom 1 hs → EachListed (PostingPasses hs (stands_at concept)) (standing_numbers concept hs)
-standing_passes concept hs num = each_of_has (PostingPasses hs (stands_at concept)) (standing_numbers concept hs) (λ n e. ?)
+standing_passes concept hs num = passing hs (λ i h e. ap (numbered hs) (number_at 1 hs i h num e ∙ (let z : 1 + i ≡ suc i = omega arith in z)) ∙ e)
+  where
+    passing : (gs : List History) → ((i : ℕ) (h : History) → slice_get gs i ≡ Some h → numbered hs h.number ≡ Some h) → EachListed (PostingPasses hs (stands_at concept)) (standing_numbers concept gs)
+    passing [] f = tt
+    passing (g ∷ gs) f = head g (f 0 g refl) (passing gs (λ i h e. f (suc i) h e)) (decided (stands_at concept g))
+      where
+        head : (g : History) → numbered hs g.number ≡ Some g → EachListed (PostingPasses hs (stands_at concept)) (standing_numbers concept gs) → (stands_at concept g ≡ true) ⊎ (stands_at concept g ≡ false) → EachListed (PostingPasses hs (stands_at concept)) (standing_numbers concept (g ∷ gs))
+        head g at rest (inl hit) = subst (EachListed (PostingPasses hs (stands_at concept))) (sym (numbers_cons (stands_at concept) g gs ∙ (λ i. cond (hit i) (g.number ∷ standing_numbers concept gs) (standing_numbers concept gs)))) ((g, at, hit), rest)
+        head g at rest (inr miss) = subst (EachListed (PostingPasses hs (stands_at concept))) (sym (numbers_cons (stands_at concept) g gs ∙ (λ i. cond (miss i) (g.number ∷ standing_numbers concept gs) (standing_numbers concept gs)))) rest
+
+pub length_standing : (concept : ℕ) (hs : List History) → length (standing_numbers concept hs) ≡ standing_count concept hs
+length_standing concept hs = length-map _ _ ∙ length-filter (stands_at concept) hs
 
 -- the postings of the same numbers move, whatever the order of the list
 pub split_sorted : (ms ns : List ℕ) (target : ℕ) (hs : List History) → IsPermutation ms ns → histories_split ns target hs ≡ histories_split ms target hs
