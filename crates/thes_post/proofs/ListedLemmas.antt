@@ -1,5 +1,5 @@
 -- The index of what stands at each concept, when one concept's list is written.
-use Rattle.std.proofs.Common.{◌≡◌, ◌⊎◌, ◌≤◌, ◌<◌, ℕ, arith, inl, inr, List, [], refl, sym, ap, ◌∙◌, subst, ⊎_elim, Bool, true, false, cond, eqb, eqb-true, ne_eqb, ltb, Vec, Global, Less, Equal, Greater}
+use Rattle.std.proofs.Common.{◌≡◌, ◌⊎◌, ◌≤◌, ◌<◌, ℕ, arith, inl, inr, List, [], refl, sym, ap, ◌∙◌, subst, ⊎_elim, Bool, true, false, cond, eqb, eqb-true, ne_eqb, Vec, Global, Less, Equal, Greater}
 use borrow.Author.Tests.{eqb-false, eq-eqb}
 use Rattle.std.specs.Prelude.{Some}
 use Rattle.std.specs.Option.{option_map_or, is_some}
