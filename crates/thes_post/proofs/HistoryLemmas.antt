@@ -161,10 +161,6 @@ pub none_unmoved : (hs : List History) → unmoved_those (is_listed []) hs ≡ h
 none_unmoved [] = refl
 none_unmoved (h ∷ hs) = ap (λ l. h ∷ l) (none_unmoved hs)
 
-pub length_unmoved_those : (passes : History → Bool) (hs : List History) → length (unmoved_those passes hs) ≡ length hs
-length_unmoved_those passes [] = refl
-length_unmoved_those passes (h ∷ hs) = ap suc (length_unmoved_those passes hs)
-
 -- tests that agree take moves back alike
 unmoved_agree : (p q : History → Bool) (hs : List History) → EachHistory (λ h. p h ≡ q h) hs → unmoved_those p hs ≡ unmoved_those q hs
 unmoved_agree p q [] all = refl

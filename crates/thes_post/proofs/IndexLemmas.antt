@@ -203,9 +203,6 @@ listed_least test hs [] all r = tt
 listed_least test hs (n ∷ ns) all r = ((numbered_bound hs n all.0.0 all.0.1).0, r.1)
 
 module _ (hs : List History) (posting_of : List ℕ → Option ℕ) (listed_at : ℕ → List ℕ) (withdrawn_number moves_number : ℕ) (indexed : IsIndexed hs posting_of listed_at withdrawn_number moves_number) (source target : ℕ) (ns : List ℕ) (apart : source ≢ target) (rises : RisesFrom 0 ns) (all : EachListed (PostingPasses hs (stands_at source)) ns) where
-  abbrev pub after_moves : List History
-  after_moves = moved_those (is_listed ns) target (move_count hs + 1) hs
-
   passing : EachHistory (λ h. is_listed ns h ≡ true → stands_at source h ≡ true) hs
   passing = each_listed (stands_at source) hs ns indexed.numbers all
 
@@ -289,9 +286,6 @@ module _ (hs : List History) (posting_of : List ℕ → Option ℕ) (listed_at :
 
     pub withdrawing_fits : withdrawn_number + 1 < 2 ^ 32
     withdrawing_fits = let below = withdrawn_below hs posting_of listed_at withdrawn_number moves_number indexed n withdrawing.0 withdrawing.1 withdrawing.2 in let few = indexed.few in omega (arith, below, few)
-
-    pub withdrawing_within : n ≤ length hs
-    withdrawing_within = (numbered_bound hs n withdrawing.0 withdrawing.1).1
 
     pub withdrawing_is : slice_set hs (k - 1) (withdraw g) ≡ histories_withdrawn n hs
     withdrawing_is = written ∙ sym (withdrawn_at hs posting_of listed_at withdrawn_number moves_number indexed n withdrawing.0 withdrawing.1 withdrawing.2)

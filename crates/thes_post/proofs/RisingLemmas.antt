@@ -110,12 +110,6 @@ rises_take least ns zero r = tt
 rises_take least [] (suc i) r = tt
 rises_take least (n ∷ ns) (suc i) r = (r.0, rises_take (n + 1) ns i r.1)
 
-pub merged_step_second : (x y : ℕ) (xs ys : List ℕ) → ltb y x ≡ true → merged (x ∷ xs) (y ∷ ys) ≡ y ∷ merged (x ∷ xs) ys
-merged_step_second x y xs ys less = ap (λ b. cond b (y ∷ merged_into x (merged xs) ys) (x ∷ merged xs (y ∷ ys))) less
-
-pub merged_step_first : (x y : ℕ) (xs ys : List ℕ) → ltb y x ≡ false → merged (x ∷ xs) (y ∷ ys) ≡ x ∷ merged xs (y ∷ ys)
-merged_step_first x y xs ys more = ap (λ b. cond b (y ∷ merged_into x (merged xs) ys) (x ∷ merged xs (y ∷ ys))) more
-
 pub merged_none : (xs : List ℕ) → merged xs [] ≡ xs
 merged_none [] = refl
 merged_none (x ∷ xs) = ap (λ l. x ∷ l) (merged_none xs)

@@ -244,9 +244,6 @@ module _ (passes : History → Bool) (target : ℕ) where
 
 -- Postings listed, which stand at the source, are moved to another concept.
 module _ (source target : ℕ) (ns : List ℕ) (number : ℕ) (hs : List History) where
-  abbrev after : List History
-  after = moved_those (is_listed ns) target number hs
-
   -- those that are left
   pub standing_source : source ≢ target → standing_numbers source (moved_those (is_listed ns) target number hs) ≡ without (standing_numbers source hs) ns
   standing_source apart =
