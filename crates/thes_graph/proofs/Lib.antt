@@ -1,0 +1,15 @@
+mod NumberLemmas
+mod MetLemmas
+mod StepLemmas
+mod ReachLemmas
+mod PivotLemmas
+mod WeightLemmas
+mod ReadLemmas
+mod CountLemmas
+mod SightLemmas
+mod WalkLemmas
+mod ProbeLemmas
+mod JudgeLemmas
+mod NormLemmas
+mod SetLemmas
+mod ContractLemmas

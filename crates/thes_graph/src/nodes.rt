@@ -1,5 +1,5 @@
 //! The nodes that a walk met.
-ghost use Rattle.std.specs.Prelude.{◌≡◌, ◌∷◌, [], Contains, IfOk, OnOk, IfSome, MatchBool, length, slice_get};
+ghost use Rattle.std.specs.Prelude.{◌≡◌, ◌<◌, ◌^◌, ◌∷◌, [], Contains, IfOk, OnOk, IfSome, MatchBool, length, slice_get};
 ghost use Rattle.thes_graph.specs.Steps.{GrowsBy};
 
 use std::alloc::{AllocError, Global};
@@ -38,7 +38,8 @@ impl Nodes {
 
     /// The i-th node that was met.
     pub fn get(&self, i: usize) -> Option<ResNo>
-        ensures { result ≡ slice_get self.now i }
+        ensures node { result ≡ slice_get self.now i }
+        ensures small { length self.now < 2 ^ 63 }
     {
         self.list.get(i).copied()
     }

@@ -138,8 +138,9 @@ pub fn gather<L: Links>(
     let mut nodes = Nodes::only(alloc, start)?;
     let mut found = Vec::new(alloc);
     for i in 0..usize::MAX {
-        let Some(x) = nodes.get(i) else {
-            break;
+        let x = match nodes.get(i) {
+            Some(x) => x,
+            None => break,
         };
         let raw = read(alloc, links, sight, x)?;
         let row = show(alloc, sight, raw)?;
