@@ -13,3 +13,4 @@ mod JudgeLemmas
 mod NormLemmas
 mod SetLemmas
 mod ContractLemmas
+mod OrderLemmas
