@@ -14,3 +14,7 @@ mod NormLemmas
 mod SetLemmas
 mod ContractLemmas
 mod OrderLemmas
+mod LinkOrderLemmas
+mod RowLemmas
+mod IndexLemmas
+mod MarkLemmas

@@ -24,7 +24,7 @@ sorted_cons : {K : Type 0} (c : K → K → Ordering) (k : K) (ks : List K) → 
 unfolding IsStrictlySortedBy
 sorted_cons c k ks above rest = (above, rest)
 
-sorted_none : {K : Type 0} (c : K → K → Ordering) → IsStrictlySortedBy c []
+pub sorted_none : {K : Type 0} (c : K → K → Ordering) → IsStrictlySortedBy c []
 unfolding IsStrictlySortedBy
 sorted_none c = tt
 

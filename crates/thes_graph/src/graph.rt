@@ -78,9 +78,18 @@ impl Graph {
         row(&self.rows, n)
     }
 
+    // The i-th of these links.
+    fn nth_at(&self, n: ResNo, i: usize) -> Option<Link>
+        ensures link { result ≡ slice_get (links_at self.now.links n) i }
+        ensures two_ends { HaveTwoEnds (HeldIn self.now.links) }
+    {
+        self.at(n).get(i).copied()
+    }
+
     // Whether the link is held as it is handed in.
     fn holds(&self, link: &Link) -> bool
-        ensures { result ≡ contains self.now.links link.now }
+        ensures holds { result ≡ contains self.now.links link.now }
+        ensures two_ends { HaveTwoEnds (HeldIn self.now.links) }
     {
         self.held.contains(link)
     }
@@ -327,13 +336,11 @@ impl<'a> Links for Walk<'a> {
     ghost count = { λ w. w.visits };
 
     fn link_at(&mut self, node: ResNo, i: usize) -> Option<Link> {
-        match self.graph.at(node).get(i) {
-            Some(link) => {
-                self.visits = self.visits.saturating_add(1);
-                Some(*link)
-            }
-            None => None,
+        let found = self.graph.nth_at(node, i);
+        if found.is_some() {
+            self.visits = self.visits.saturating_add(1);
         }
+        found
     }
 
     fn holds(&mut self, link: &Link) -> bool {

@@ -54,8 +54,9 @@ pub fn list_mapping(
     requires { IsStrictlySortedBy mapping_cmp list.old.items }
     ensures { OnOk result (list.new.items ≡ insert_key mapping_cmp list.old.items mapping) }
 {
-    if let Err(i) = list.binary_search_by(|m| compare(m, &mapping)) {
-        list.insert(i, mapping)?;
+    match list.binary_search_by(|m| compare(m, &mapping)) {
+        Ok(_) => {}
+        Err(i) => list.insert(i, mapping)?,
     }
     Ok(())
 }

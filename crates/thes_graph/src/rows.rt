@@ -1,10 +1,11 @@
 //! The rows of links by their ends: in the row of a node stand the links that have an end there, in their order.
-ghost use Rattle.std.specs.Prelude.{◌≡◌, ◌≢◌, ◌<◌, ℕ, OnOk};
+ghost use Rattle.std.specs.Prelude.{◌≡◌, ◌≢◌, ◌<◌, ℕ, OnOk, IsSome};
 ghost use Rattle.std.specs.List.Sorted.{IsStrictlySortedBy};
 ghost use Rattle.std.specs.BTreeSet.{insert_key};
 ghost use Rattle.std.specs.Set.{remove_key};
 ghost use Rattle.std.specs.Vec.{vec_len, vec_capacity};
-ghost use Rattle.std.specs.BTreeMap.{is_at};
+ghost use Rattle.std.specs.BTreeMap.{is_at, get};
+ghost use Rattle.std.specs.Ordering.{nat_cmp};
 ghost use Rattle.thes_base.specs.Links.{link_cmp};
 ghost use Rattle.thes_graph.specs.Rows.{row_at, HasRoom};
 
@@ -25,17 +26,28 @@ pub fn row(rows: &Rows, n: ResNo) -> &[Link]
     }
 }
 
-/// Makes room in the row of the node for one link more.
-pub fn make_room(rows: &mut Rows, alloc: Global, n: ResNo) -> Result<(), AllocError>
+// Sees to it that the node has a row.
+fn open_row(rows: &mut Rows, alloc: Global, n: ResNo) -> Result<(), AllocError>
     ensures same { (m : ℕ) → row_at rows.new m ≡ row_at rows.old m }
-    ensures room { OnOk result (HasRoom rows.new n) }
-    ensures others { (m : ℕ) → HasRoom rows.old m → HasRoom rows.new m }
+    ensures rooms { (m : ℕ) → HasRoom rows.old m → HasRoom rows.new m }
+    ensures there { OnOk result (IsSome (get nat_cmp rows.new n)) }
 {
     if !rows.contains_key(&n) {
         rows.insert(n, Vec::new(alloc))?;
     }
-    if let Some(row) = rows.get_mut(&n) {
-        row.reserve(1)?;
+    Ok(())
+}
+
+/// Makes room in the row of the node for one link more.
+pub fn make_room(rows: &mut Rows, alloc: Global, n: ResNo) -> Result<(), AllocError>
+    ensures same { (m : ℕ) → row_at rows.new m ≡ row_at rows.old m }
+    ensures rooms { (m : ℕ) → HasRoom rows.old m → HasRoom rows.new m }
+    ensures room { OnOk result (HasRoom rows.new n) }
+{
+    open_row(rows, alloc, n)?;
+    match rows.get_mut(&n) {
+        Some(row) => row.reserve(1)?,
+        None => {}
     }
     Ok(())
 }
@@ -48,8 +60,9 @@ pub fn put(rows: &mut Rows, n: ResNo, link: &Link)
     ensures others { (m : ℕ) → m ≢ n → row_at rows.new m ≡ row_at rows.old m }
     ensures rooms { (m : ℕ) → m ≢ n → HasRoom rows.old m → HasRoom rows.new m }
 {
-    if let Some(row) = rows.get_mut(&n) {
-        put_in(row, link);
+    match rows.get_mut(&n) {
+        Some(row) => put_in(row, link),
+        None => {}
     }
 }
 
@@ -59,8 +72,11 @@ fn put_in(row: &mut Vec<Link>, link: &Link)
     requires sorted { IsStrictlySortedBy link_cmp row.old.items }
     ensures { row.new.items ≡ insert_key link_cmp row.old.items link.now }
 {
-    if let Err(i) = row.binary_search(link) {
-        let _ = row.insert(i, *link);
+    match row.binary_search(link) {
+        Ok(_) => {}
+        Err(i) => {
+            let _ = row.insert(i, *link);
+        }
     }
 }
 
@@ -70,8 +86,9 @@ pub fn take(rows: &mut Rows, n: ResNo, link: &Link)
     ensures here { row_at rows.new n ≡ remove_key (is_at (link_cmp link.now)) (row_at rows.old n) }
     ensures others { (m : ℕ) → m ≢ n → row_at rows.new m ≡ row_at rows.old m }
 {
-    if let Some(row) = rows.get_mut(&n) {
-        take_out(row, link);
+    match rows.get_mut(&n) {
+        Some(row) => take_out(row, link),
+        None => {}
     }
 }
 
@@ -80,7 +97,10 @@ fn take_out(row: &mut Vec<Link>, link: &Link)
     requires { IsStrictlySortedBy link_cmp row.old.items }
     ensures { row.new.items ≡ remove_key (is_at (link_cmp link.now)) row.old.items }
 {
-    if let Ok(i) = row.binary_search(link) {
-        row.remove(i);
+    match row.binary_search(link) {
+        Ok(i) => {
+            row.remove(i);
+        }
+        Err(_) => {}
     }
 }
