@@ -134,6 +134,13 @@ IsRow-links_at links n = record {
 pub row_is : (ks : List Link) (n : ℕ) → IsSorted ks → filter (ends_at n) ks ≡ links_at (from_list ks) n
 row_is ks n sorted = ap (filter (ends_at n)) (sym (listed_is ks sorted))
 
+-- what the set's own order has put in
+pub with_computed : (ks : List Link) (l : Link) (keys : List Link) → keys ≡ insert_key computed ks l → keys ≡ with_key ks l
+with_computed ks l keys is = let P : (Link → Link → Ordering) → Type 0 = λ cmp. keys ≡ insert_key cmp ks l in subst P computed_is is
+
+pub without_computed : (ks : List Link) (l : Link) (keys : List Link) → keys ≡ remove_key (is_at (computed l)) ks → keys ≡ without_key l ks
+without_computed ks l keys is = let P : (Link → Link → Ordering) → Type 0 = λ cmp. keys ≡ remove_key (is_at (cmp l)) ks in subst P computed_is is
+
 -- a look-up in the keys is one in the set
 pub looked_up : (ks : List Link) (l : Link) (b : Bool) → b ≡ list_any (λ k. is_eq (computed l k)) ks → b ≡ contains (from_list {R = link_cmp} ks) l
 looked_up ks l b e =
@@ -309,3 +316,29 @@ IsIndexed-none ks rows outside none no_rows =
       normal = λ l held. absurd (Contains-none l (listed_of_held [] l held));
       rows = λ n. ap (λ (es : List (ℕ × Vec Link Global)). items_of (lookup (is_at (nat_cmp n)) es)) no_rows;
     })
+
+-- rows that have the same links
+pub IsIndexed-same : (ks : List Link) (outside : List ℕ) (old new : Rows) → ((m : ℕ) → row_at new m ≡ row_at old m) → IsIndexed ks old outside → IsIndexed ks new outside
+IsIndexed-same ks outside old new same index = record { ordered = index.ordered; two_ends = index.two_ends; normal = index.normal; rows = λ n. same n ∙ index.rows n }
+
+pub row_sorted : (ks : List Link) (outside : List ℕ) (rows : Rows) → IsIndexed ks rows outside → (n : ℕ) → IsSorted (row_at rows n)
+row_sorted ks outside rows index n = subst IsSorted (sym (index.rows n)) (IsStrictlySortedBy-filter link_cmp (ends_at n) ks index.ordered)
+
+-- the second of two ends has its row as it was
+pub other_sorted : (a b : ℕ) (old new : Rows) → a ≢ b → ((m : ℕ) → m ≢ a → row_at new m ≡ row_at old m) → IsSorted (row_at old b) → IsSorted (row_at new b)
+other_sorted a b old new two others sorted = subst IsSorted (sym (others b (λ e. two (sym e)))) sorted
+
+-- a graph with one link more, and with one less
+module _ (ks : List Link) (outside : List ℕ) (old one both : Rows) (l : Link) (index : IsIndexed ks old outside) (two : l.a ≢ l.b)
+  (others1 : (m : ℕ) → m ≢ l.a → row_at one m ≡ row_at old m) (others2 : (m : ℕ) → m ≢ l.b → row_at both m ≡ row_at one m) (keys : List Link) where
+  pub IsIndexed-added : norm (contains (from_list {R = nat_cmp} outside)) l ≡ l → row_at one l.a ≡ with_key (row_at old l.a) l → row_at both l.b ≡ with_key (row_at one l.b) l
+      → keys ≡ insert_key computed ks l → IsIndexed keys both outside
+  IsIndexed-added is_normal here1 here2 is =
+      subst (λ (xs : List Link). IsIndexed xs both outside) (sym (with_computed ks l keys is))
+      (IsIndexed-with ks outside old both l index two is_normal (at_both (λ row. with_key row l) l.a l.b old one both two here1 others1 here2 others2))
+
+  pub IsIndexed-taken : row_at one l.a ≡ without_key l (row_at old l.a) → row_at both l.b ≡ without_key l (row_at one l.b)
+      → keys ≡ remove_key (is_at (computed l)) ks → IsIndexed keys both outside
+  IsIndexed-taken here1 here2 is =
+      subst (λ (xs : List Link). IsIndexed xs both outside) (sym (without_computed ks l keys is))
+      (IsIndexed-without ks outside old both l index (at_both (without_key l) l.a l.b old one both two here1 others1 here2 others2))

@@ -1,4 +1,5 @@
-use Rattle.std.proofs.Common.{◌≡◌, ◌≢◌, ◌⊎◌, inl, inr, ℕ, List, [], ◌∷◌, Option, Some, None, refl, sym, subst, ap, ◌∙◌, Bool, true, false, not, ◌&&◌, ◌||◌, nat_lt, if◌then◌else◌}
+use Rattle.std.proofs.Common.{◌≡◌, ◌≢◌, ◌⊎◌, inl, inr, ℕ, List, [], ◌∷◌, Option, Some, None, refl, sym, subst, ap, ◌∙◌, Bool, true, false, not, ◌&&◌, ◌||◌, nat_lt, if◌then◌else◌, arith}
+use Rattle.std.proofs.lemmas.Bool.Decides.{nat_tests}
 use Rattle.thes_base.specs.declared.data.Link.{Link}
 use Rattle.thes_base.specs.declared.data.LinkKind.{LinkKind}
 use Rattle.thes_base.specs.declared.data.Direction.TheVariants.{Either}
@@ -6,6 +7,7 @@ use Rattle.thes_base.specs.declared.fault.Refusal.{Refusal}
 use Rattle.thes_base.specs.Links.{broader_way, related_way, exact_way, apart_way, is_symmetric, exchanged, norm, Leads, Joined, IsBroader, IsAbove, IsRelated, IsExact, IsApart, NoCycle, S27, S46, IsFirstBroken}
 use Rattle.thes_base.specs.declared.fault.Refusal.TheVariants as no
 use Rattle.thes_base.specs.declared.data.LinkKind.TheVariants.{Broader, Related, Exact, Close, Broad, Narrow, RelMatch, Member}
+use Rattle.thes_graph.specs.Reading.{EndsAt}
 use Rattle.thes_graph.proofs.PivotLemmas.{Chain-map}
 
 -- what l says, m says too
@@ -83,3 +85,50 @@ IsFirstBroken-same P Q to back (Some no.Cycle) (x, above) = (x, above_to P Q to 
 IsFirstBroken-same P Q to back (Some no.S27) (c1, (x, y, related, above)) = (no_cycle_back Q P back c1, (x, y, related_to P Q to x y related, above_to P Q to x y above))
 IsFirstBroken-same P Q to back (Some no.S46) (c1, s27, (x, y, exact, apart)) = (no_cycle_back Q P back c1, s27_back Q P back s27, (x, y, exact_to P Q to x y exact, apart_to P Q to x y apart))
 IsFirstBroken-same P Q to back (Some _) h = absurd h
+
+-- the norm again changes nothing, and keeps two ends
+
+norm_cases : (f : ℕ → Bool) (l : Link) → (norm f l ≡ l) ⊎ ((norm f l ≡ exchanged l) × (nat_lt l.b l.a ≡ true))
+norm_cases f l = go (is_symmetric (f l.a || f l.b) l.kind) (nat_lt l.b l.a)
+  where
+    go : (s t : Bool) → ((if s && t then exchanged l else l) ≡ l) ⊎ (((if s && t then exchanged l else l) ≡ exchanged l) × (t ≡ true))
+    go true true = inr (refl, refl)
+    go true false = inl refl
+    go false t = inl refl
+
+lt_one_way : (a b : ℕ) → nat_lt b a ≡ true → nat_lt a b ≡ false
+lt_one_way a b e = grind (arith, nat_tests)
+
+pub norm_again : (f : ℕ → Bool) (l : Link) → norm f (norm f l) ≡ norm f l
+norm_again f l = go (norm_cases f l)
+  where
+    stays : (s : Bool) → (if s && false then exchanged (exchanged l) else exchanged l) ≡ exchanged l
+    stays true = refl
+    stays false = refl
+
+    go : (norm f l ≡ l) ⊎ ((norm f l ≡ exchanged l) × (nat_lt l.b l.a ≡ true)) → norm f (norm f l) ≡ norm f l
+    go (inl same) = ap (norm f) same
+    go (inr (is, lt)) =
+        ap (norm f) is
+        ∙ ap (λ t. if is_symmetric (f l.b || f l.a) l.kind && t then exchanged (exchanged l) else exchanged l) (lt_one_way l.a l.b lt)
+        ∙ stays (is_symmetric (f l.b || f l.a) l.kind)
+        ∙ sym is
+
+pub norm_two : (f : ℕ → Bool) (l : Link) → l.a ≢ l.b → (norm f l).a ≢ (norm f l).b
+norm_two f l two = go (norm_cases f l)
+  where
+    go : (norm f l ≡ l) ⊎ ((norm f l ≡ exchanged l) × (nat_lt l.b l.a ≡ true)) → (norm f l).a ≢ (norm f l).b
+    go (inl same) = subst (λ (w : Link). w.a ≢ w.b) (sym same) two
+    go (inr (is, _)) = subst (λ (w : Link). w.a ≢ w.b) (sym is) (λ e. two (sym e))
+
+-- its ends are the link's
+pub norm_ends : (f : ℕ → Bool) (l : Link) (n : ℕ) → EndsAt n (norm f l) → EndsAt n l
+norm_ends f l n = go (norm_cases f l)
+  where
+    turn : EndsAt n (exchanged l) → EndsAt n l
+    turn (inl at) = inr at
+    turn (inr at) = inl at
+
+    go : (norm f l ≡ l) ⊎ ((norm f l ≡ exchanged l) × (nat_lt l.b l.a ≡ true)) → EndsAt n (norm f l) → EndsAt n l
+    go (inl same) at = subst (EndsAt n) same at
+    go (inr (is, _)) at = turn (subst (EndsAt n) is at)

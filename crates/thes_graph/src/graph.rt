@@ -336,11 +336,13 @@ impl<'a> Links for Walk<'a> {
     ghost count = { λ w. w.visits };
 
     fn link_at(&mut self, node: ResNo, i: usize) -> Option<Link> {
-        let found = self.graph.nth_at(node, i);
-        if found.is_some() {
-            self.visits = self.visits.saturating_add(1);
+        match self.graph.nth_at(node, i) {
+            Some(link) => {
+                self.visits = self.visits.saturating_add(1);
+                Some(link)
+            }
+            None => None,
         }
-        found
     }
 
     fn holds(&mut self, link: &Link) -> bool {
