@@ -18,3 +18,5 @@ mod LinkOrderLemmas
 mod RowLemmas
 mod IndexLemmas
 mod MarkLemmas
+mod ChangeLemmas
+mod MovedLemmas

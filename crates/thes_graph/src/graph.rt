@@ -9,7 +9,7 @@ ghost use Rattle.thes_base.specs.Listing.{IsListing};
 ghost use Rattle.thes_graph.specs.Reading.{HaveTwoEnds, EndsAt};
 ghost use Rattle.thes_graph.specs.Net.{is_marked, links_at};
 ghost use Rattle.thes_graph.specs.Mapped.{HasLink, IsMapping, mapping_cmp};
-ghost use Rattle.thes_graph.specs.Moved.{IsMoved, with_all, without_all};
+ghost use Rattle.thes_graph.specs.Moved.{AreNormal, AreMoved, AreNew, merged_link, with_all, without_all};
 
 use crate::judge::in_order;
 use crate::links::Links;
@@ -74,6 +74,7 @@ impl Graph {
     fn at(&self, n: ResNo) -> &[Link]
         ensures row { result.now ≡ links_at self.now.links n }
         ensures two_ends { HaveTwoEnds (HeldIn self.now.links) }
+        ensures normal { AreNormal self.now }
     {
         row(&self.rows, n)
     }
@@ -208,17 +209,25 @@ impl Graph {
         }
     }
 
+    // The link as it would be kept after a merge, unless it joins the target to itself then or is held already.
+    fn merged(&self, link: &Link, source: ResNo, target: ResNo) -> Option<Link>
+        ensures { result ≡ merged_link self.now source target link.now }
+    {
+        let new = self.normal(&merge(link, source, target)?);
+        if self.holds(&new) { None } else { Some(new) }
+    }
+
     // The links at the source as they are after a merge, without those that are held already.
     fn moved(&self, source: ResNo, target: ResNo) -> Result<Vec<Link>, AllocError>
-        ensures { IfOk result (λ moved. (m : Link) → Contains moved.items m ↔ IsMoved self.now source target m) }
+        requires { source ≢ target }
+        ensures moved { IfOk result (λ moved. AreMoved self.now source target moved.items) }
+        ensures two_ends { HaveTwoEnds (HeldIn self.now.links) }
+        ensures normal { AreNormal self.now }
     {
         let mut moved = Vec::new(self.alloc);
         for link in self.at(source) {
-            if let Some(m) = merge(link, source, target) {
-                let new = self.normal(&m);
-                if !self.holds(&new) {
-                    moved.push(new)?;
-                }
+            if let Some(new) = self.merged(link, source, target) {
+                moved.push(new)?;
             }
         }
         Ok(moved)
@@ -226,9 +235,7 @@ impl Graph {
 
     // Adds these links, none of which is held, or none of them.
     fn add_all(&mut self, links: &[Link]) -> Result<(), AllocError>
-        requires two_ends { HaveTwoEnds (Contains links.now) }
-        requires normal { (l : Link) → Contains links.now l → norm (is_marked self.old) l ≡ l }
-        requires new { (l : Link) → Contains links.now l → HeldIn self.old.links l → ⊥ }
+        requires { AreNew self.old links.now }
         ensures ok { OnOk result (self.new ≡ record self.old { links = with_all self.old.links links.now }) }
         ensures err { OnErr result (self.new ≡ self.old) }
     {
