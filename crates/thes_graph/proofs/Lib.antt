@@ -20,3 +20,5 @@ mod IndexLemmas
 mod MarkLemmas
 mod ChangeLemmas
 mod MovedLemmas
+mod MappingLemmas
+mod ReaderLemmas

@@ -20,7 +20,7 @@ less_equal e = cc
 less_greater : Less ≡ Greater → ⊥
 less_greater e = cc
 
-sorted_cons : {K : Type 0} (c : K → K → Ordering) (k : K) (ks : List K) → AllByRecursion (λ y. c k y ≡ Less) ks → IsStrictlySortedBy c ks → IsStrictlySortedBy c (k ∷ ks)
+pub sorted_cons : {K : Type 0} (c : K → K → Ordering) (k : K) (ks : List K) → AllByRecursion (λ y. c k y ≡ Less) ks → IsStrictlySortedBy c ks → IsStrictlySortedBy c (k ∷ ks)
 unfolding IsStrictlySortedBy
 sorted_cons c k ks above rest = (above, rest)
 
@@ -39,7 +39,7 @@ module _ {K : Type 0} (c : K → K → Ordering) (o : IsTotalOrder c) (exact : I
   all_get P [] x all has = absurd (Contains-none x has)
   all_get P (k ∷ ks) x all has = elim (Contains-cons_cases k ks x has) [ inl same ↦ subst P same all.0 | inr later ↦ all_get P ks x all.1 later ]
 
-  all_make : (P : K → Type 0) (ks : List K) → ((x : K) → Contains ks x → P x) → AllByRecursion P ks
+  pub all_make : (P : K → Type 0) (ks : List K) → ((x : K) → Contains ks x → P x) → AllByRecursion P ks
   all_make P [] each = tt
   all_make P (k ∷ ks) each = (each k (Contains-head k ks), all_make P ks (λ x has. each x (Contains-later k ks x has)))
 

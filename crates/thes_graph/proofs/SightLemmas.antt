@@ -11,7 +11,7 @@ use Rattle.thes_graph.proofs.WeightLemmas.{Contains-none, Contains-head, Contain
 
 module _ {X Y : Type 0} (h : X → Option Y) where
   -- the first item gives one or none
-  map_head : (x : X) (xs : List X) → ((y : Y) × (h x ≡ Some y) × (filter_map h (x ∷ xs) ≡ y ∷ filter_map h xs)) ⊎ ((h x ≡ None) × (filter_map h (x ∷ xs) ≡ filter_map h xs))
+  pub map_head : (x : X) (xs : List X) → ((y : Y) × (h x ≡ Some y) × (filter_map h (x ∷ xs) ≡ y ∷ filter_map h xs)) ⊎ ((h x ≡ None) × (filter_map h (x ∷ xs) ≡ filter_map h xs))
   map_head x xs = elim (h x) as (λ o. ((y : Y) × (o ≡ Some y) × (cons_option o (filter_map h xs) ≡ y ∷ filter_map h xs)) ⊎ ((o ≡ None) × (cons_option o (filter_map h xs) ≡ filter_map h xs))) [
     | None ↦ inr (refl, refl)
     | Some y ↦ inl (y, refl, refl)

@@ -9,18 +9,20 @@ ghost use Rattle.thes_base.specs.Listing.{IsListing};
 ghost use Rattle.thes_graph.specs.Reading.{HaveTwoEnds, EndsAt};
 ghost use Rattle.thes_graph.specs.Net.{is_marked, links_at};
 ghost use Rattle.thes_graph.specs.Mapped.{HasLink, IsMapping, mapping_cmp};
+ghost use Rattle.thes_graph.specs.Linked.{IsLinked, KeepsOrder};
 ghost use Rattle.thes_graph.specs.Moved.{AreNormal, AreMoved, AreNew, merged_link, with_all, without_all};
 
 use crate::judge::in_order;
 use crate::links::Links;
 use crate::mapped::{as_seen, list_mapping};
+use crate::linked::lead_by;
 use crate::rows::{Rows, make_room, put, row, take};
 use crate::sight::merge;
 use crate::whole::check_all;
 use std::alloc::{AllocError, Global};
 use std::collections::{BTreeMap, BTreeSet};
 use std::marker::Model;
-use thes_base::data::{Link, LinkKind};
+use thes_base::data::{Direction, Link, LinkKind};
 use thes_base::fault::Refusal;
 use thes_base::number::ResNo;
 
@@ -116,48 +118,52 @@ impl Graph {
         self.held.len() as u64
     }
 
-    /// The concepts that are broader than this one in its own scheme.
+    // What the links of this kind, taken this way, lead to from the node.
+    fn linked(
+        &self,
+        alloc: Global,
+        n: ResNo,
+        kind: LinkKind,
+        way: Direction,
+    ) -> Result<Vec<ResNo>, AllocError>
+        requires { KeepsOrder way kind }
+        ensures { IfOk result (λ found. IsListing nat_cmp (IsLinked self.now.links kind way n) found.items) }
+    {
+        let mut found = Vec::new(alloc);
+        for link in self.at(n) {
+            if let Some(m) = lead_by(kind, way, link, n) {
+                found.push(m)?;
+            }
+        }
+        Ok(found)
+    }
+
+    /// The concepts that are broader than this one in its own scheme, their numbers rising.
     pub fn broader_of(&self, alloc: Global, n: ResNo) -> Result<Vec<ResNo>, AllocError>
         ensures { IfOk result (λ found. IsListing nat_cmp (λ b. HasLink self.now.links kinds.Broader n b) found.items) }
     {
-        self.at(n)
-            .iter()
-            .filter(|link| link.kind == LinkKind::Broader && link.a == n)
-            .map(|link| link.b)
-            .collect(alloc)
+        self.linked(alloc, n, LinkKind::Broader, Direction::Forward)
     }
 
-    /// The concepts that are narrower than this one in its own scheme.
+    /// The concepts that are narrower than this one in its own scheme, their numbers rising.
     pub fn narrower_of(&self, alloc: Global, n: ResNo) -> Result<Vec<ResNo>, AllocError>
         ensures { IfOk result (λ found. IsListing nat_cmp (λ a. HasLink self.now.links kinds.Broader a n) found.items) }
     {
-        self.at(n)
-            .iter()
-            .filter(|link| link.kind == LinkKind::Broader && link.b == n)
-            .map(|link| link.a)
-            .collect(alloc)
+        self.linked(alloc, n, LinkKind::Broader, Direction::Backward)
     }
 
-    /// The concepts related to this one in its own scheme.
+    /// The concepts related to this one in its own scheme, their numbers rising.
     pub fn related_of(&self, alloc: Global, n: ResNo) -> Result<Vec<ResNo>, AllocError>
         ensures { IfOk result (λ found. IsListing nat_cmp (λ m. HasLink self.now.links kinds.Related n m ⊎ HasLink self.now.links kinds.Related m n) found.items) }
     {
-        self.at(n)
-            .iter()
-            .filter(|link| link.kind == LinkKind::Related)
-            .map(|link| if link.a == n { link.b } else { link.a })
-            .collect(alloc)
+        self.linked(alloc, n, LinkKind::Related, Direction::Either)
     }
 
-    /// The collections that the resource is a member of.
+    /// The collections that the resource is a member of, their numbers rising.
     pub fn collections_of(&self, alloc: Global, n: ResNo) -> Result<Vec<ResNo>, AllocError>
         ensures { IfOk result (λ found. IsListing nat_cmp (λ c. HasLink self.now.links kinds.Member c n) found.items) }
     {
-        self.at(n)
-            .iter()
-            .filter(|link| link.kind == LinkKind::Member && link.b == n)
-            .map(|link| link.a)
-            .collect(alloc)
+        self.linked(alloc, n, LinkKind::Member, Direction::Backward)
     }
 
     /// The mappings of the concept as seen from it, in the order of their words, broad, close, exact, narrow and relMatch, and then by number.

@@ -5,7 +5,6 @@ ghost use Rattle.std.specs.List.Sorted.{IsStrictlySortedBy};
 ghost use Rattle.thes_graph.specs.Mapped.{as_seen_from, mapping_cmp, word_place};
 
 use std::alloc::AllocError;
-use std::cmp::Ordering;
 use thes_base::data::{Link, LinkKind};
 use thes_base::number::ResNo;
 
@@ -19,15 +18,17 @@ fn place_of(kind: LinkKind) -> u8
         LinkKind::Exact => 3,
         LinkKind::Narrow => 4,
         LinkKind::RelMatch => 5,
-        _ => 0,
+        LinkKind::Broader => 6,
+        LinkKind::Related => 7,
+        LinkKind::Member => 8,
     }
 }
 
-// The order of mappings.
-fn compare(x: &(LinkKind, ResNo), y: &(LinkKind, ResNo)) -> Ordering
-    ensures { result ≡ mapping_cmp x.now y.now }
+// By what mappings are ordered: where the word stands, then the number.
+fn key_of(mapping: &(LinkKind, ResNo)) -> (u8, ResNo)
+    ensures { result ≡ (word_place mapping.now.0, mapping.now.1) }
 {
-    place_of(x.0).cmp(&place_of(y.0)).then(x.1.cmp(&y.1))
+    (place_of(mapping.0), mapping.1)
 }
 
 /// The mapping that a link at the node is, as seen from there, if it is one.
@@ -54,7 +55,7 @@ pub fn list_mapping(
     requires { IsStrictlySortedBy mapping_cmp list.old.items }
     ensures { OnOk result (list.new.items ≡ insert_key mapping_cmp list.old.items mapping) }
 {
-    match list.binary_search_by(|m| compare(m, &mapping)) {
+    match list.binary_search_by_key(&key_of(&mapping), |other| key_of(other)) {
         Ok(_) => {}
         Err(i) => list.insert(i, mapping)?,
     }

@@ -1,6 +1,6 @@
 //! What links say of two nodes.
 ghost use Rattle.std.specs.Prelude.{◌≡◌};
-ghost use Rattle.thes_graph.specs.Steps.{way_of, step_along};
+ghost use Rattle.thes_graph.specs.Steps.{way_of, step_in, step_along};
 
 use thes_base::data::{Direction, Link, LinkKind};
 use thes_base::number::ResNo;
@@ -33,15 +33,22 @@ pub fn way(relation: Relation, kind: LinkKind) -> Direction
     }
 }
 
-/// The node that the link leads to from `x`.
-pub fn step(relation: Relation, link: &Link, x: ResNo) -> Option<ResNo>
-    ensures { result ≡ step_along relation link.now x }
+/// The node that the link, taken this way, leads to from `x`.
+pub fn lead(way: Direction, link: &Link, x: ResNo) -> Option<ResNo>
+    ensures { result ≡ step_in way link.now.a link.now.b x }
 {
-    match way(relation, link.kind) {
+    match way {
         Direction::Forward if link.a == x => Some(link.b),
         Direction::Backward if link.b == x => Some(link.a),
         Direction::Either if link.a == x => Some(link.b),
         Direction::Either if link.b == x => Some(link.a),
         _ => None,
     }
+}
+
+/// The node that the link leads to from `x` in the relation.
+pub fn step(relation: Relation, link: &Link, x: ResNo) -> Option<ResNo>
+    ensures { result ≡ step_along relation link.now x }
+{
+    lead(way(relation, link.kind), link, x)
 }
