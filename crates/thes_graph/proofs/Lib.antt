@@ -22,3 +22,4 @@ mod ChangeLemmas
 mod MovedLemmas
 mod MappingLemmas
 mod ReaderLemmas
+mod WholeLemmas

@@ -1,11 +1,25 @@
--- The worst of what single probes find.
-use Rattle.std.specs.Prelude.{Option, None, Some}
-use Rattle.thes_base.specs.declared.fault.Refusal.{Refusal}
-use Rattle.thes_base.specs.declared.fault.Refusal.TheVariants as no
+-- All links, and what breaks a rule somewhere in them.
+use Rattle.std.specs.Prelude.{◌≡◌, ◌≢◌, ℕ, List, Contains}
+use Rattle.thes_base.specs.declared.data.Link.{Link}
+use Rattle.thes_base.specs.declared.data.Direction.TheVariants.{Never}
+use Rattle.thes_base.specs.Links.{Links, HeldIn, IsAbove, IsRelated, IsExact, IsApart}
+use Rattle.thes_graph.specs.declared.relation.Relation.{Relation}
+use Rattle.thes_graph.specs.Steps.{way_of}
 
--- the one that comes first in the order of the rules
-abbrev pub worse_of : Option Refusal → Option Refusal → Option Refusal
-worse_of None s = s
-worse_of (Some no.S27) (Some no.Cycle) = Some no.Cycle
-worse_of (Some no.S46) (Some s) = Some s
-worse_of r s = r
+-- the list has just the links held
+pub record AreAll (held : Links) (all : List Link) : Type 0 where
+  pub sound : (l : Link) → Contains all l → HeldIn held l
+  pub complete : (l : Link) → HeldIn held l → Contains all l
+
+-- the link leads some way in the relation
+abbrev pub HasWay : Relation → Link → Type 0
+HasWay relation l = way_of relation l.kind ≢ Never
+
+abbrev pub IsSomeCycle : (Link → Type 0) → Type 0
+IsSomeCycle Held = (x : ℕ) × IsAbove Held x x
+
+abbrev pub IsSomeS27 : (Link → Type 0) → Type 0
+IsSomeS27 Held = (x : ℕ) × (y : ℕ) × IsRelated Held x y × IsAbove Held x y
+
+abbrev pub IsSomeS46 : (Link → Type 0) → Type 0
+IsSomeS46 Held = (x : ℕ) × (y : ℕ) × IsExact Held x y × IsApart Held x y

@@ -315,8 +315,10 @@ impl Graph {
     pub fn check_whole(&self, alloc: Global) -> Result<Option<Refusal>, AllocError>
         ensures { IfOk result (IsFirstBroken (HeldIn self.now.links)) }
     {
+        let all: Vec<Link> = self.held.iter().copied().collect(alloc)?;
         let mut walk = self.walk();
-        check_all(alloc, &mut walk, &self.held)
+        let first = check_all(alloc, &mut walk, &all)?;
+        Ok(first)
     }
 }
 

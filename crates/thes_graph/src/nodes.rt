@@ -26,6 +26,16 @@ impl Model for Nodes {
 }
 
 impl Nodes {
+    /// No nodes.
+    pub fn none(alloc: Global) -> Nodes
+        ensures { result ≡ [] }
+    {
+        Nodes {
+            list: Vec::new(alloc),
+            met: BTreeSet::new(alloc),
+        }
+    }
+
     /// The start alone.
     pub fn only(alloc: Global, start: ResNo) -> Result<Nodes, AllocError>
         ensures { IfOk result (λ nodes. nodes ≡ start ∷ []) }
@@ -34,6 +44,13 @@ impl Nodes {
         let mut met = BTreeSet::new(alloc);
         met.insert(start)?;
         Ok(Nodes { list, met })
+    }
+
+    /// The nodes in the order in which they were met.
+    pub fn as_slice(&self) -> &[ResNo]
+        ensures { result.now ≡ self.now }
+    {
+        self.list.as_slice()
     }
 
     /// The i-th node that was met.
