@@ -20,6 +20,7 @@ use Rattle.thes_base.specs.Links.{Links, link_cmp, HeldIn, norm}
 use Rattle.thes_base.proofs.LinkSets.{links_total, links_exact, link_inserted_cases}
 use Rattle.thes_graph.specs.Reading.{HaveTwoEnds, EndsAt, IsRow}
 use Rattle.thes_graph.specs.Net.{ends_at, in_order, listed, links_at}
+use Rattle.thes_graph.specs.Whole.{AreAll}
 use Rattle.thes_graph.specs.Rows.{Rows, items_of, row_at, IsIndexed}
 use Rattle.thes_graph.proofs.PivotLemmas.{same_or_not}
 use Rattle.thes_graph.proofs.WeightLemmas.{Contains-none}
@@ -330,7 +331,7 @@ other_sorted a b old new two others sorted = subst IsSorted (sym (others b (λ e
 
 -- a graph with one link more, and with one less
 module _ (ks : List Link) (outside : List ℕ) (old one both : Rows) (l : Link) (index : IsIndexed ks old outside) (two : l.a ≢ l.b)
-  (others1 : (m : ℕ) → m ≢ l.a → row_at one m ≡ row_at old m) (others2 : (m : ℕ) → m ≢ l.b → row_at both m ≡ row_at one m) (keys : List Link) where
+    (others1 : (m : ℕ) → m ≢ l.a → row_at one m ≡ row_at old m) (others2 : (m : ℕ) → m ≢ l.b → row_at both m ≡ row_at one m) (keys : List Link) where
   pub IsIndexed-added : norm (contains (from_list {R = nat_cmp} outside)) l ≡ l → row_at one l.a ≡ with_key (row_at old l.a) l → row_at both l.b ≡ with_key (row_at one l.b) l
       → keys ≡ insert_key computed ks l → IsIndexed keys both outside
   IsIndexed-added is_normal here1 here2 is =
@@ -342,3 +343,7 @@ module _ (ks : List Link) (outside : List ℕ) (old one both : Rows) (l : Link) 
   IsIndexed-taken here1 here2 is =
       subst (λ (xs : List Link). IsIndexed xs both outside) (sym (without_computed ks l keys is))
       (IsIndexed-without ks outside old both l index (at_both (without_key l) l.a l.b old one both two here1 others1 here2 others2))
+
+-- the keys are all the links of their set
+pub AreAll-keys : (ks : List Link) → AreAll (from_list {R = link_cmp} ks) ks
+AreAll-keys ks = record { sound = held_from_list ks; complete = listed_of_held ks }

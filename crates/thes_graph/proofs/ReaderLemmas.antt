@@ -102,7 +102,7 @@ led_to kind way n l m same leads =
 
 -- a list in order, each item taken to a number, where later ones are taken higher
 module _ {X : Type 0} (c : X → X → Ordering) (Good : X → Type 0) (f : X → Option ℕ)
-  (rises : (x y : X) (m n : ℕ) → Good x → Good y → c x y ≡ Less → f x ≡ Some m → f y ≡ Some n → m < n) (above : (x : X) (xs : List X) (y : X) → IsStrictlySortedBy c (x ∷ xs) → Contains xs y → c x y ≡ Less) where
+    (rises : (x y : X) (m n : ℕ) → Good x → Good y → c x y ≡ Less → f x ≡ Some m → f y ≡ Some n → m < n) (above : (x : X) (xs : List X) (y : X) → IsStrictlySortedBy c (x ∷ xs) → Contains xs y → c x y ≡ Less) where
   pub filter_map_rises : (xs : List X) → IsStrictlySortedBy c xs → ((x : X) → Contains xs x → Good x) → IsStrictlySortedBy nat_cmp (filter_map f xs)
   filter_map_rises [] sorted good = sorted_none nat_cmp
   filter_map_rises (x ∷ xs) sorted good = go (filter_map_rises xs (sorted_tail c x xs sorted) (λ y has. good y (Contains-later x xs y has))) (map_head f x xs)

@@ -92,7 +92,7 @@ module _ (old new : Rows) (n : ℕ) (row : Vec Link Global) (none : is_some (get
 
 -- a row with more room
 module _ (old new : Rows) (n : ℕ) (before row : Vec Link Global) (at : Some before ≡ get nat_cmp old n) (items : row.items ≡ before.items) (len : vec_len row ≡ vec_len before)
-  (capacity : vec_capacity before ≤ vec_capacity row) (changes : ChangesRow old new n (Some row)) where
+    (capacity : vec_capacity before ≤ vec_capacity row) (changes : ChangesRow old new n (Some row)) where
   pub grown_same : (m : ℕ) → row_at new m ≡ row_at old m
   grown_same = rows_same old new n (Some row) changes (items ∙ ap items_of at)
 

@@ -13,9 +13,9 @@ ghost use Rattle.thes_graph.specs.Linked.{IsLinked, KeepsOrder};
 ghost use Rattle.thes_graph.specs.Moved.{AreNormal, AreMoved, AreNew, merged_link, with_all, without_all};
 
 use crate::judge::in_order;
+use crate::linked::lead_by;
 use crate::links::Links;
 use crate::mapped::{as_seen, list_mapping};
-use crate::linked::lead_by;
 use crate::rows::{Rows, make_room, put, row, take};
 use crate::sight::merge;
 use crate::whole::check_all;

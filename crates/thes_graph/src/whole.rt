@@ -110,8 +110,8 @@ fn breaks_s46_at<L: Links>(
     requires two_ends { HaveTwoEnds (HeldIn (L.held links.old)) }
     ensures held { L.held links.new ≡ L.held links.old }
     ensures found { IfOk result (λ found. MatchBool found (IsSomeS46 (HeldIn (L.held links.old))) (Contains done.new n)) }
-    ensures kept { (m : ℕ) → Contains done.old m → Contains done.new m }
-    ensures done { (m : ℕ) → Contains done.new m → NoS46At (HeldIn (L.held links.old)) m }
+    ensures kept { OnOk result ((m : ℕ) → Contains done.old m → Contains done.new m) }
+    ensures done { OnOk result ((m : ℕ) → Contains done.new m → NoS46At (HeldIn (L.held links.old)) m) }
 {
     let same = gather(alloc, links, &Sight::AsHeld, n, Relation::Exact)?;
     if some_ties(Relation::Apart, &same.links, &same.nodes, &same.nodes) {
