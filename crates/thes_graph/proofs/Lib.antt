@@ -23,3 +23,4 @@ mod MovedLemmas
 mod MappingLemmas
 mod ReaderLemmas
 mod WholeLemmas
+pub mod AnswerLemmas
