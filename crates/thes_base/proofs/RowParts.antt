@@ -1,15 +1,16 @@
 -- A part of a row, judged alone, carries into the row: where it refuses, the row refuses with that name whatever
 -- its rest is; and where it refuses nothing, the row says what its rest says.
-use Rattle.std.proofs.Common.{◌≡◌, ◌≢◌, ◌⊎◌, ℕ, inl, inr}
+use Rattle.std.proofs.Common.{◌≡◌, ◌≢◌, ◌⊎◌, ℕ, inl, inr, true}
 use Rattle.std.specs.Prelude.{Option, None, Some, List}
 use Rattle.std.specs.FinMap as dict
+use Rattle.std.specs.FinSet as set
 use Rattle.thes_base.specs.declared.data.Resource.{Resource}
 use Rattle.thes_base.specs.declared.data.Link.{Link}
 use Rattle.thes_base.specs.declared.data.History.{History}
 use Rattle.thes_base.specs.declared.fault.Refusal.{Refusal}
 use Rattle.thes_base.specs.declared.fault.Refusal.TheVariants as no
 use Rattle.thes_base.specs.Rows.{Row, refused_if, refused_unless, accepted}
-use Rattle.thes_base.specs.Resources.{Iris, IsScheme}
+use Rattle.thes_base.specs.Resources.{Iris, BeginsWith, IsScheme}
 use Rattle.thes_base.specs.Labels.{Label, Labels}
 use Rattle.thes_base.specs.Refusals.{unless_unique, unless_known, unless_scheme, unless_foreign, unless_owner, unless_label, unless_dropped, unless_relabelled, unless_ends, unless_live_concept, unless_pair, unless_listed, unless_standing}
 
