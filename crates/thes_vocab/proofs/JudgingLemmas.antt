@@ -17,13 +17,13 @@ use Rattle.thes_base.specs.declared.data.LabelValue.{LabelValue}
 use Rattle.thes_base.specs.declared.data.LabelValue.TheVariants as values
 use Rattle.thes_base.specs.Data.{kind_of}
 use Rattle.thes_base.specs.Resources.{IsLiveConcept, IsScheme, Exists, scheme_of}
-use Rattle.thes_base.specs.Labels.{Label, Labels, label_cmp, label_kind_no, HasLabel, is_name, is_preferred_in, preferred_in, S13, S14, P1, IsTaken}
+use Rattle.thes_base.specs.Labels.{Label, Labels, label_cmp, label_kind_no, HasLabel, is_name, is_preferred_in, preferred_in, S13, S14, UniquePreferred, IsTaken}
 use Rattle.thes_base.specs.declared.fault.Refusal.{Refusal}
 use Rattle.thes_base.specs.declared.fault.Refusal.TheVariants as no
 use Rattle.thes_base.specs.Rows.{accepted}
 use Rattle.thes_base.specs.Legal.{LegalLabels}
 use Rattle.thes_base.specs.Changes.{label, concept_resource, has_name, renamed, labels_relabelled}
-use Rattle.thes_base.specs.Refusals.{LeavesName, unless_relabelled, unless_scheme, unless_unique}
+use Rattle.thes_base.specs.Refusals.{LeavesPreferred, unless_relabelled, unless_scheme, unless_unique}
 use Rattle.thes_base.proofs.LabelSets.{labels_total, labels_exact, inserted_cases, inserted_kept, inserted_new}
 use Rattle.thes_base.proofs.Uniqueness.{made_unique, taken_breaks}
 use Rattle.thes_base.proofs.ConditionLemmas.{owner_exists}
@@ -196,12 +196,12 @@ module _ (labels : Labels) (l : Label) where
       go (inr a) (inr b) = s14 owner tag x y a b
 
   module _ (rs : List Resource) where
-    pub breaks_unique : l.kind ≡ Pref → HasRival rs labels l.owner l.tag l.text → P1 rs more → ⊥
+    pub breaks_unique : l.kind ≡ Pref → HasRival rs labels l.owner l.tag l.text → UniquePreferred rs more → ⊥
     breaks_unique is rival p1 =
         rival.other (p1 rival.rival l.owner rival.scheme l.tag l.text rival.holder.0.0 rival.concept rival.holder.0.1 rival.within (inserted_kept labels l _ rival.holder.1)
           (subst (λ k. HasLabel more l.owner k l.tag l.text) is (inserted_new labels l)))
 
-    pub keeps_unique : P1 rs labels → (l.kind ≢ Pref) ⊎ (HasRival rs labels l.owner l.tag l.text → ⊥) → P1 rs more
+    pub keeps_unique : UniquePreferred rs labels → (l.kind ≢ Pref) ⊎ (HasRival rs labels l.owner l.tag l.text → ⊥) → UniquePreferred rs more
     keeps_unique p1 apart m n scheme tag text lm ln sm sn hm hn = go (inserted_cases labels l _ hm) (inserted_cases labels l _ hn) (same_or_not n m)
       where
         rival_at : (m n : ℕ) → label m Pref tag text ≡ l → HasLabel labels n Pref tag text → n ≢ m → IsLiveConcept rs m → scheme_of rs m ≡ Some scheme → IsLiveConcept rs n → scheme_of rs n ≡ Some scheme → (l.kind ≢ Pref) ⊎ (HasRival rs labels l.owner l.tag l.text → ⊥) → ⊥
@@ -218,13 +218,13 @@ module _ (labels : Labels) (l : Label) where
 
 -- One label less.
 
-pub leaves_of_two : (labels : Labels) (l : Label) → HasTwoPreferred labels l.owner → LeavesName labels l
+pub leaves_of_two : (labels : Labels) (l : Label) → HasTwoPreferred labels l.owner → LeavesPreferred labels l
 leaves_of_two labels l two = elim (same_label (label l.owner Pref two.first_tag two.first_text) l) [
   | inl same ↦ inr (two.second_tag, two.second_text, two.second, λ e. two.apart (same ∙ sym e))
   | inr apart ↦ inr (two.first_tag, two.first_text, two.first, apart)
 ]
 
-pub two_of_leaves : (labels : Labels) (l : Label) → set.contains labels l ≡ true → l.kind ≡ Pref → LeavesName labels l → HasTwoPreferred labels l.owner
+pub two_of_leaves : (labels : Labels) (l : Label) → set.contains labels l ≡ true → l.kind ≡ Pref → LeavesPreferred labels l → HasTwoPreferred labels l.owner
 two_of_leaves labels l held is (inl other) = absurd (other is)
 two_of_leaves labels l held is (inr (tag, text, has, apart)) = record {
   first_tag = tag;
@@ -336,12 +336,12 @@ module _ (labels : Labels) (owner : ℕ) (tag text old : List ℕ) (keep : Bool)
   never_kept n t x e = let k = ap (λ (l : Label). l.kind) e in cc
 
   module _ (rs : List Resource) where
-    pub renamed_breaks_unique : HasRival rs labels owner tag text → P1 rs after → ⊥
+    pub renamed_breaks_unique : HasRival rs labels owner tag text → UniquePreferred rs after → ⊥
     renamed_breaks_unique rival p1 =
         rival.other (p1 rival.rival owner rival.scheme tag text rival.holder.0.0 rival.concept rival.holder.0.1 rival.within
           (renamed_old (label rival.rival Pref tag text) (λ e. rival.other (ap (λ (l : Label). l.owner) e)) rival.holder.1) renamed_fresh)
 
-    pub renamed_keeps_unique : P1 rs labels → (HasRival rs labels owner tag text → ⊥) → P1 rs after
+    pub renamed_keeps_unique : UniquePreferred rs labels → (HasRival rs labels owner tag text → ⊥) → UniquePreferred rs after
     renamed_keeps_unique p1 none m n scheme t x lm ln sm sn hm hn = go (renamed_cases _ hm) (renamed_cases _ hn) (same_or_not n m)
       where
         rival_at : (m n : ℕ) → label m Pref t x ≡ fresh → HasLabel labels n Pref t x → n ≢ m → IsLiveConcept rs m → scheme_of rs m ≡ Some scheme → IsLiveConcept rs n → scheme_of rs n ≡ Some scheme → ⊥

@@ -15,7 +15,7 @@ use Rattle.thes_base.specs.declared.data.ResourceKind.TheVariants as kinds
 use Rattle.thes_base.specs.declared.data.LabelKind.{LabelKind}
 use Rattle.thes_base.specs.declared.data.LabelKind.TheVariants.{Pref, Alt, Hidden, Scope}
 use Rattle.thes_base.specs.Resources.{Iris, numbered, set_numbered, IsConcept, IsLive, IsLiveConcept, IsReplacedBy, BeginsWith, CanOwn, scheme_of, is_concept_kind, is_outside_kind, is_scheme_kind, is_collection_kind}
-use Rattle.thes_base.specs.Labels.{Label, Labels, label_cmp, HasLabel, IsTaken, P1, S13, S14}
+use Rattle.thes_base.specs.Labels.{Label, Labels, label_cmp, HasLabel, IsTaken, UniquePreferred, S13, S14}
 use Rattle.thes_base.specs.Links.{Path}
 use Rattle.thes_base.specs.Legal.{LegalResources, LegalLabels}
 use Rattle.thes_base.specs.Changes.{label, dead, renamed, labels_relabelled, outside_resource, concept_resource, taken_labels}
@@ -83,7 +83,7 @@ one_scheme : (rs : List Resource) (n s t : ℕ) → IsConceptOf rs s n → schem
 one_scheme rs n s t at e = same_some (sym e ∙ at.1)
 
 -- One label more.
-module _ (rs : List Resource) (labels : Labels) (l : Label) (old : Names) (finds : Finds rs labels old) (unique : P1 rs (set.insert labels l)) where
+module _ (rs : List Resource) (labels : Labels) (l : Label) (old : Names) (finds : Finds rs labels old) (unique : UniquePreferred rs (set.insert labels l)) where
   -- a note or another name, or one of an owner that is no concept
   pub finds_other : ((scheme : ℕ) → l.kind ≡ Pref → IsConceptOf rs scheme l.owner → ⊥) → Finds rs (set.insert labels l) old
   finds_other none scheme n tag text h = elim (inserted_cases labels l _ h.1) [
@@ -117,7 +117,7 @@ module _ (rs : List Resource) (labels : Labels) (l : Label) (old : Names) (finds
   pub finds_less : Finds rs (set.remove labels l) old
   finds_less s n t x h = finds s n t x (h.0, (removed_cases labels l _ h.1).1)
 
-  pub finds_dropped : (scheme : ℕ) → IsConceptOf rs scheme l.owner → set.contains labels l ≡ true → l.kind ≡ Pref → P1 rs labels → (new : Names) → IsPut old new scheme l.tag l.text None → Finds rs (set.remove labels l) new
+  pub finds_dropped : (scheme : ℕ) → IsConceptOf rs scheme l.owner → set.contains labels l ≡ true → l.kind ≡ Pref → UniquePreferred rs labels → (new : Names) → IsPut old new scheme l.tag l.text None → Finds rs (set.remove labels l) new
   finds_dropped scheme concept held pref unique new put s n t x h = found_forgotten old new scheme l.tag l.text put s n t x apart (finds s n t x (h.0, before.1))
     where
       before : (label n Pref t x ≢ l) × HasLabel labels n Pref t x
@@ -130,7 +130,7 @@ module _ (rs : List Resource) (labels : Labels) (l : Label) (old : Names) (finds
           before.0 (λ i. label (owner i) (sym pref i) (same.1 i) (same.2 i))
 
 -- Another name in place of the old one.
-module _ (rs : List Resource) (labels : Labels) (owner : ℕ) (tag text was : List ℕ) (keep : Bool) (old : Names) (finds : Finds rs labels old) (unique : P1 rs (renamed owner tag text keep was labels)) where
+module _ (rs : List Resource) (labels : Labels) (owner : ℕ) (tag text was : List ℕ) (keep : Bool) (old : Names) (finds : Finds rs labels old) (unique : UniquePreferred rs (renamed owner tag text keep was labels)) where
   abbrev after : Labels
   after = renamed owner tag text keep was labels
 
@@ -170,7 +170,7 @@ module _ (rs : List Resource) (labels : Labels) (owner : ℕ) (tag text was : Li
         other apart (inr (inr (_, held))) = finds s n t x (h.0, held)
 
     -- and the old one forgotten
-    pub finds_renamed : was ≢ text → HasLabel labels owner Pref tag was → P1 rs labels → (new : Names) → IsPut noted new scheme tag was None → Finds rs after new
+    pub finds_renamed : was ≢ text → HasLabel labels owner Pref tag was → UniquePreferred rs labels → (new : Names) → IsPut noted new scheme tag was None → Finds rs after new
     finds_renamed differ has_old before new forgot s n t x h = found_forgotten noted new scheme tag was forgot s n t x apart (found_renamed s n t x h)
       where
         apart : (s ≡ scheme) × (t ≡ tag) × (x ≡ was) → ⊥
@@ -316,7 +316,7 @@ IsSchemeOf rs n o = MatchOption o ((scheme : ℕ) → IsConceptOf rs scheme n �
 finds_same : (rs : List Resource) (labels : Labels) (old new : Names) → AreSame old new → Finds rs labels old → Finds rs labels new
 finds_same rs labels old new same finds s n t x h = same s t x ∙ finds s n t x h
 
-module _ (rs : List Resource) (labels : Labels) (l : Label) (old new : Names) (finds : Finds rs labels old) (unique : P1 rs (set.insert labels l)) where
+module _ (rs : List Resource) (labels : Labels) (l : Label) (old new : Names) (finds : Finds rs labels old) (unique : UniquePreferred rs (set.insert labels l)) where
   both : (o : Option ℕ) → IsSchemeOf rs l.owner o → (k : LabelKind) → l.kind ≡ k → IsKindNoted k old new o (record { kind = k; tag = l.tag; text = l.text }) (Some l.owner) → Finds rs labels new × Finds rs (set.insert labels l) new
   both (Some scheme) concept Pref is put = (finds_noted rs labels l old finds unique scheme concept is new put, finds_added rs labels l old finds unique scheme concept is new put)
   both None none Pref is same = (finds_same rs labels old new same finds, finds_same rs (set.insert labels l) old new same (finds_other rs labels l old finds unique (λ scheme _ c. none scheme c)))
@@ -330,7 +330,7 @@ module _ (rs : List Resource) (labels : Labels) (l : Label) (old new : Names) (f
   pub finds_label_added : (o : Option ℕ) → IsSchemeOf rs l.owner o → IsLabelNoted old new o (record { kind = l.kind; tag = l.tag; text = l.text }) (Some l.owner) → Finds rs (set.insert labels l) new
   finds_label_added o at noted = (both o at l.kind refl noted).1
 
-module _ (rs : List Resource) (labels : Labels) (l : Label) (old new : Names) (finds : Finds rs labels old) (unique : P1 rs labels) (held : set.contains labels l ≡ true) where
+module _ (rs : List Resource) (labels : Labels) (l : Label) (old new : Names) (finds : Finds rs labels old) (unique : UniquePreferred rs labels) (held : set.contains labels l ≡ true) where
   less : (o : Option ℕ) → IsSchemeOf rs l.owner o → (k : LabelKind) → l.kind ≡ k → IsKindNoted k old new o (record { kind = k; tag = l.tag; text = l.text }) None → Finds rs (set.remove labels l) new
   less (Some scheme) concept Pref is put = finds_dropped rs labels l old finds scheme concept held is unique new put
   less None none Pref is same = finds_same rs (set.remove labels l) old new same (finds_less rs labels l old finds)
@@ -341,12 +341,12 @@ module _ (rs : List Resource) (labels : Labels) (l : Label) (old new : Names) (f
   pub finds_label_dropped : (o : Option ℕ) → IsSchemeOf rs l.owner o → IsLabelNoted old new o (record { kind = l.kind; tag = l.tag; text = l.text }) None → Finds rs (set.remove labels l) new
   finds_label_dropped o at noted = less o at l.kind refl noted
 
-module _ (rs : List Resource) (labels : Labels) (owner : ℕ) (tag text was : List ℕ) (keep : Bool) (old noted : Names) (finds : Finds rs labels old) (unique : P1 rs (renamed owner tag text keep was labels)) where
+module _ (rs : List Resource) (labels : Labels) (owner : ℕ) (tag text was : List ℕ) (keep : Bool) (old noted : Names) (finds : Finds rs labels old) (unique : UniquePreferred rs (renamed owner tag text keep was labels)) where
   pub finds_name_noted : (o : Option ℕ) → IsSchemeOf rs owner o → IsNoted old noted o tag text (Some owner) → Finds rs labels noted
   finds_name_noted None none same = finds_same rs labels old noted same finds
   finds_name_noted (Some scheme) concept put = finds_still rs labels owner tag text was keep old finds unique scheme concept noted put
 
-  pub finds_name_changed : was ≢ text → HasLabel labels owner Pref tag was → P1 rs labels → (o : Option ℕ) → IsSchemeOf rs owner o → IsNoted old noted o tag text (Some owner) → (new : Names) → IsNoted noted new o tag was None → Finds rs (renamed owner tag text keep was labels) new
+  pub finds_name_changed : was ≢ text → HasLabel labels owner Pref tag was → UniquePreferred rs labels → (o : Option ℕ) → IsSchemeOf rs owner o → IsNoted old noted o tag text (Some owner) → (new : Names) → IsNoted noted new o tag was None → Finds rs (renamed owner tag text keep was labels) new
   finds_name_changed differ has before None none same new gone = finds_same rs _ noted new gone (finds_same rs _ old noted same (finds_unnamed rs labels owner tag text was keep old finds unique none))
   finds_name_changed differ has before (Some scheme) concept put new forgot = finds_renamed rs labels owner tag text was keep old finds unique scheme concept noted put differ has before new forgot
 
@@ -374,7 +374,7 @@ module _ (base : List ℕ) (rs : List Resource) (iris : Iris) (labels : Labels) 
       l = owned owner d
 
       module _ (can : CanOwn rs owner) (row : unless_label labels rs (set.insert labels l) l accepted None) (noted : IsLabelNoted old new o d (Some owner)) where
-        row_s13 : S13 (set.insert labels l) × (S14 (set.insert labels l) × P1 rs (set.insert labels l))
+        row_s13 : S13 (set.insert labels l) × (S14 (set.insert labels l) × UniquePreferred rs (set.insert labels l))
         row_s13 = let s13 = passed_unless (passed_if row).1 in let s14 = passed_unless s13.1 in (s13.0, (s14.0, (passed_unless s14.1).0))
 
         pub kept_noted : Same
@@ -398,7 +398,7 @@ module _ (base : List ℕ) (rs : List Resource) (iris : Iris) (labels : Labels) 
           }
 
     module _ (tag text was : List ℕ) (keep : Bool) (has : HasLabel labels owner Pref tag was) (row : unless_relabelled labels rs (labels_relabelled owner tag text keep labels) owner tag accepted None) (noted : IsNoted old new o tag text (Some owner)) where
-      renamed_row : S13 (renamed owner tag text keep was labels) × P1 rs (renamed owner tag text keep was labels)
+      renamed_row : S13 (renamed owner tag text keep was labels) × UniquePreferred rs (renamed owner tag text keep was labels)
       renamed_row =
           let here = subst (λ (after : Labels). unless_relabelled labels rs after owner tag accepted None) (relabelled_is labels owner tag text was keep kept.named.one_preferred has) row in
           let s13 = passed_unless (passed_unless here).1 in

@@ -3,7 +3,7 @@ ghost use Rattle.std.specs.Prelude.{◌≡◌, ◌↔◌, IsTrue, false};
 ghost use Rattle.std.specs.FinSet as set;
 ghost use Rattle.thes_base.specs.declared.data.NewResource.TheVariants as new_resource;
 ghost use Rattle.thes_base.specs.Rows.{accepted};
-ghost use Rattle.thes_base.specs.Labels.{S13, S14, P1};
+ghost use Rattle.thes_base.specs.Labels.{S13, S14, UniquePreferred};
 ghost use Rattle.std.specs.Bool.{MatchBool};
 ghost use Rattle.thes_base.specs.Machine.{owned};
 ghost use Rattle.thes_base.specs.Changes.{labels_relabelled};
@@ -108,8 +108,8 @@ impl Vocab {
 
     // Whether two live concepts of a scheme would have one preferred label with a label that the owner has not.
     fn breaks_unique(&self, owner: ResNo, label: &Label) -> bool
-        requires { P1 self.now.resources self.now.labels }
-        ensures { let after = set.insert self.now.labels (owned owner label.now) in MatchBool result (P1 self.now.resources after → ⊥) (P1 self.now.resources after) }
+        requires { UniquePreferred self.now.resources self.now.labels }
+        ensures { let after = set.insert self.now.labels (owned owner label.now) in MatchBool result (UniquePreferred self.now.resources after → ⊥) (UniquePreferred self.now.resources after) }
     {
         match &label.value {
             LabelValue::Pref(text) => self.has_rival(owner, &label.tag, text),
