@@ -1,2 +1,3 @@
 pub mod GrowthLemmas
 pub mod NextLemmas
+pub mod JudgeLemmas

@@ -1,0 +1,185 @@
+//! The machine: its state in memory, and one request after another.
+ghost use Rattle.std.specs.Prelude.{◌≡◌, true, false, IfOk, IfErr, IfSome, IfNone};
+ghost use Rattle.thes_base.specs.State.{State, empty_state};
+ghost use Rattle.thes_base.specs.Stands.{Stands};
+ghost use Rattle.thes_base.specs.Headline.{IsInOrder};
+ghost use Rattle.thes_base.specs.Machine.{next_state, answer_of, row_of};
+ghost use Rattle.thes_core.specs.Kept.{Holds};
+ghost use Rattle.thes_core.specs.Decides.{Accepts, Decides, IsFresh, KnownAnswer, Makes, Performs, Runs};
+
+use crate::verdict::Verdict;
+use std::alloc::{AllocError, Global};
+use std::marker::Model;
+use thes_base::data::{Known, Limits, Link, NewResource};
+use thes_base::fault::{Fault, Refusal};
+use thes_base::request::{Answer, Command};
+use thes_base::text::Base;
+use thes_graph::Graph;
+use thes_post::Book;
+use thes_vocab::Vocab;
+
+/// The state of a thesaurus: its vocabulary, its links and its postings.
+#[derive(Drop)]
+pub struct Core {
+    pub(crate) alloc: Global,
+    pub(crate) vocab: Vocab,
+    pub(crate) graph: Graph,
+    pub(crate) book: Book,
+    pub(crate) limits: Limits,
+    // Want of memory has left the parts at odds.
+    pub(crate) spent: bool,
+}
+
+impl Model for Core {
+    ghost use Rattle.std.specs.Prelude.{◌≡◌, false};
+    ghost use Rattle.std.specs.Coded.{codes};
+    ghost use Rattle.std.specs.FinSet as set;
+    ghost use Rattle.std.specs.FinMap as dict;
+    ghost use Rattle.thes_core.specs.Kept.{Kept};
+    ghost use Rattle.thes_core.specs.View.{state_of, setting_of, IsKept};
+
+    ghost Value = { Kept };
+
+    ghost coded = { Prim.hlevel (codes, set.code, dict.code) };
+
+    ghost view = { λ a. record { state = state_of a.vocab a.graph a.book; setting = setting_of a.vocab a.limits; spent = a.spent } };
+
+    ghost invariant = { λ a. a.spent ≡ false → IsKept a.vocab a.graph a.book a.limits };
+}
+
+impl Core {
+    /// The empty state.
+    pub fn new(alloc: Global, base: Base, limits: Limits) -> Core
+        ensures state { result.state ≡ empty_state }
+        ensures base { result.setting.base ≡ base }
+        ensures limits { result.setting.limits ≡ limits }
+        ensures spent { result.spent ≡ false }
+    {
+        Core {
+            alloc,
+            vocab: Vocab::new(alloc, base),
+            graph: Graph::new(alloc),
+            book: Book::new(alloc),
+            limits,
+            spent: false,
+        }
+    }
+
+    /// Whether want of memory has left the state half changed. A spent core answers nothing more.
+    pub fn is_spent(&self) -> bool
+        ensures { result ≡ self.now.spent }
+    {
+        self.spent
+    }
+
+    // The answer to a key that is known.
+    fn known(&self, command: &Command) -> Option<Answer>
+        requires { self.now.spent ≡ false }
+        ensures some { IfSome result (λ a. KnownAnswer command.now self.now.state a) }
+        ensures none { IfNone result (IsFresh command.now self.now.state) }
+    {
+        let Command::Post(key, rec, concept) = command else {
+            return None;
+        };
+        match self.book.judge_post(key, rec, *concept)? {
+            Known::Again(number) => Some(Answer::Again(number.get())),
+            Known::Reused => Some(Answer::No(Refusal::KeyReused)),
+        }
+    }
+
+    // Which refusal a request meets, but for a key that is known.
+    fn judge(&self, command: &Command) -> Result<Option<Refusal>, AllocError>
+        requires { self.now.spent ≡ false }
+        ensures { IfOk result (row_of self.now.setting self.now.state (next_state command.now self.now.state) command.now) }
+    {
+        let alloc = self.alloc;
+        match command {
+            Command::Scheme(tag, text) => {
+                let new = NewResource::Scheme(tag.try_clone(alloc)?, text.try_clone(alloc)?);
+                Ok(self.judge_new(&new))
+            }
+            Command::Concept(scheme, tag, text) => {
+                let new =
+                    NewResource::Concept(*scheme, tag.try_clone(alloc)?, text.try_clone(alloc)?);
+                Ok(self.judge_new(&new))
+            }
+            Command::Collection(scheme, tag, text) => {
+                let new =
+                    NewResource::Collection(*scheme, tag.try_clone(alloc)?, text.try_clone(alloc)?);
+                Ok(self.judge_new(&new))
+            }
+            Command::Outside(iri) => {
+                let new = NewResource::Outside(iri.try_clone(alloc)?);
+                Ok(self.judge_new(&new))
+            }
+            Command::AddLabel(owner, label) => Ok(self.judge_add_label(*owner, label)),
+            Command::DropLabel(owner, label) => Ok(self.judge_drop_label(*owner, label)),
+            Command::Relabel(owner, tag, text, keep) => {
+                Ok(self.judge_relabel(*owner, tag, text, *keep))
+            }
+            Command::Link(kind, a, b) => self.judge_link(&Link {
+                kind: *kind,
+                a: *a,
+                b: *b,
+            }),
+            Command::Unlink(kind, a, b) => Ok(self.judge_unlink(&Link {
+                kind: *kind,
+                a: *a,
+                b: *b,
+            })),
+            Command::Deprecate(concept) => Ok(self.judge_deprecate(*concept)),
+            Command::Merge(source, target) => self.judge_merge(*source, *target),
+            Command::Split(source, tag, text, postings) => {
+                self.judge_split(*source, tag, text, postings.as_slice())
+            }
+            Command::Post(_, _, concept) => Ok(self.judge_post(*concept)),
+            Command::Withdraw(posting) => Ok(self.judge_withdraw(*posting)),
+        }
+    }
+
+    /// What a request meets, before anything changes. The caller names the state that the core holds.
+    pub fn decide(&self, command: &Command) -> Result<Verdict, Fault>
+        ghost state: { State }
+        requires unspent { self.now.spent ≡ false }
+        requires holds { Holds self.now state }
+        ensures ok { IfOk result (Decides self.now.setting state command.now) }
+        ensures err { IfErr result (λ fault. fault ≡ Fault.OutOfMemory) }
+    {
+        if let Some(answer) = self.known(command) {
+            return Ok(Verdict::Settled(answer));
+        }
+        match self.judge(command)? {
+            Some(refusal) => Ok(Verdict::Settled(Answer::No(refusal))),
+            None => Ok(Verdict::Accepted),
+        }
+    }
+
+    /// Performs a request: what it is answered with, and the state after it. Want of memory changes nothing, or leaves
+    /// the core spent.
+    pub fn step(&mut self, command: &Command) -> Result<Answer, Fault>
+        requires { self.old.spent ≡ false }
+        ensures { Performs self.old command.now result self.new }
+    {
+        match self.decide(command)? {
+            Verdict::Settled(answer) => Ok(answer),
+            Verdict::Accepted => self.apply(command),
+        }
+    }
+
+    /// Performs requests in order, and adds their answers.
+    pub fn run(&mut self, commands: &[Command], answers: &mut Vec<Answer>) -> Result<(), Fault>
+        requires { self.old.spent ≡ false }
+        ensures { Runs self.old commands.now answers.old.items answers.new.items result self.new }
+    {
+        for command in commands {
+            if answers.try_reserve(1).is_err() {
+                return Err(Fault::OutOfMemory);
+            }
+            match self.step(command) {
+                Ok(answer) => answers.push(answer).unwrap(),
+                Err(fault) => return Err(fault),
+            }
+        }
+        Ok(())
+    }
+}
