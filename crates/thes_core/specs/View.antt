@@ -1,24 +1,30 @@
--- What the parts of a core stand for.
-use Rattle.std.specs.Prelude.{◌≡◌, ℕ, List}
+-- What the parts of a thesaurus stand for.
+use Rattle.std.specs.Prelude.{◌≡◌, ℕ}
 use Rattle.std.specs.FinSet as set
-use Rattle.thes_base.specs.declared.data.History.{History}
-use Rattle.thes_base.specs.declared.data.Limits.{Limits}
 use Rattle.thes_base.specs.Resources.{is_outside}
 use Rattle.thes_base.specs.State.{State}
 use Rattle.thes_base.specs.Refusals.{Setting, IsSetting}
 use Rattle.thes_base.specs.Legal.{Legal}
-use Rattle.thes_vocab.specs.Vocabulary.{Vocabulary}
-use Rattle.thes_graph.specs.Net.{Net}
+use Rattle.thes_core.specs.declared.thesaurus.Thesaurus.{Thesaurus}
 
-abbrev pub state_of : Vocabulary → Net → List History → State
-state_of vocabulary net histories =
-    record { resources = vocabulary.resources; iris = vocabulary.iris; labels = vocabulary.labels; links = net.links; histories = histories }
+abbrev pub state_of : Thesaurus → State
+state_of t = record { resources = t.vocab.resources; iris = t.vocab.iris; labels = t.vocab.labels; links = t.graph.links; histories = t.book }
 
-abbrev pub setting_of : Vocabulary → Limits → Setting
-setting_of vocabulary limits = record { base = vocabulary.base; limits = limits }
+abbrev pub setting_of : Thesaurus → Setting
+setting_of t = record { base = t.vocab.base; limits = t.limits }
 
--- What the parts of a core keep: they are a legal state together, and the graph knows which resources are outside concepts.
-pub record IsKept (vocabulary : Vocabulary) (net : Net) (histories : List History) (limits : Limits) : Type 0 where
-  pub fit : IsSetting (setting_of vocabulary limits)
-  pub legal : Legal vocabulary.base (state_of vocabulary net histories)
-  pub outside : (n : ℕ) → set.contains net.outside n ≡ is_outside vocabulary.resources n
+-- the graph knows which resources are outside concepts
+abbrev pub KnowsOutside : Thesaurus → Type 0
+KnowsOutside t = (n : ℕ) → set.contains t.graph.outside n ≡ is_outside t.vocab.resources n
+
+-- What the parts keep: they are a legal state together.
+pub record IsKept (t : Thesaurus) : Type 0 where
+  pub fit : IsSetting (setting_of t)
+  pub legal : Legal t.vocab.base (state_of t)
+  pub outside : KnowsOutside t
+
+-- The parts stand for this state, and are set as before.
+pub record Becomes (old : Thesaurus) (s : State) (new : Thesaurus) : Type 0 where
+  pub state : state_of new ≡ s
+  pub setting : setting_of new ≡ setting_of old
+  pub outside : KnowsOutside new

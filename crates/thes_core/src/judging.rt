@@ -1,26 +1,29 @@
 //! Which refusal a request meets: its row of sentences, part by part, as its arguments, the vocabulary, the graph, the
 //! book and the limits show.
-ghost use Rattle.std.specs.Prelude.{◌≡◌, false, IfOk};
+ghost use Rattle.std.specs.Prelude.{◌≡◌, IfOk, IfSome, IfNone, List, ℕ};
+ghost use Rattle.thes_core.specs.Decides.{IsFresh, KnownAnswer};
 ghost use Rattle.thes_base.specs.declared.fault.Refusal.TheVariants as no;
 ghost use Rattle.thes_base.specs.declared.request.Command.TheVariants as request;
 ghost use Rattle.thes_base.specs.Rows.{refused_unless, accepted};
 ghost use Rattle.thes_base.specs.Machine.{next_state, row_of};
 ghost use Rattle.thes_core.specs.Room.{HasRoom};
 ghost use Rattle.thes_core.specs.Requests.{command_of};
+ghost use Rattle.thes_core.specs.View.{state_of, setting_of, IsKept};
 
 use crate::arguments::{judge_ends, judge_live_concept, judge_owner, judge_pair};
-use crate::machine::Core;
 use crate::room::{Growth, may_rise};
+use crate::thesaurus::Thesaurus;
 use std::alloc::AllocError;
-use thes_base::data::{Label, Link, NewResource};
+use thes_base::data::{Known, Label, Link, NewResource};
 use thes_base::fault::Refusal;
 use thes_base::number::{PostNo, ResNo};
+use thes_base::request::{Answer, Command};
 use thes_base::text::{Tag, Text};
 
-impl Core {
+impl Thesaurus {
     // Whether the limits leave room.
     fn judge_room(&self, growth: Growth) -> Option<Refusal>
-        ensures { refused_unless (HasRoom self.now.setting.limits self.now.state growth) no.TooMany accepted result }
+        ensures { refused_unless (HasRoom self.now.limits (state_of self.now) growth) no.TooMany accepted result }
     {
         let limits = &self.limits;
         if may_rise(limits.resources, self.vocab.resource_count(), growth.resources)
@@ -37,8 +40,8 @@ impl Core {
 
     // What refuses a new resource.
     pub(crate) fn judge_new(&self, new: &NewResource) -> Option<Refusal>
-        requires { self.now.spent ≡ false }
-        ensures { row_of self.now.setting self.now.state (next_state (command_of new.now) self.now.state) (command_of new.now) result }
+        requires { IsKept self.now }
+        ensures { row_of (setting_of self.now) (state_of self.now) (next_state (command_of new.now) (state_of self.now)) (command_of new.now) result }
     {
         if let Some(refusal) = self.vocab.judge_new(new) {
             return Some(refusal);
@@ -56,8 +59,8 @@ impl Core {
 
     // What refuses one more label.
     pub(crate) fn judge_add_label(&self, owner: ResNo, label: &Label) -> Option<Refusal>
-        requires { self.now.spent ≡ false }
-        ensures { let command = request.AddLabel owner label.now in row_of self.now.setting self.now.state (next_state command self.now.state) command result }
+        requires { IsKept self.now }
+        ensures { let command = request.AddLabel owner label.now in row_of (setting_of self.now) (state_of self.now) (next_state command (state_of self.now)) command result }
     {
         if let Some(refusal) = judge_owner(self.vocab.resources(), owner) {
             return Some(refusal);
@@ -73,8 +76,8 @@ impl Core {
 
     // What refuses that a label is dropped.
     pub(crate) fn judge_drop_label(&self, owner: ResNo, label: &Label) -> Option<Refusal>
-        requires { self.now.spent ≡ false }
-        ensures { let command = request.DropLabel owner label.now in row_of self.now.setting self.now.state (next_state command self.now.state) command result }
+        requires { IsKept self.now }
+        ensures { let command = request.DropLabel owner label.now in row_of (setting_of self.now) (state_of self.now) (next_state command (state_of self.now)) command result }
     {
         if let Some(refusal) = judge_owner(self.vocab.resources(), owner) {
             return Some(refusal);
@@ -84,8 +87,8 @@ impl Core {
 
     // What refuses another preferred label.
     pub(crate) fn judge_relabel(&self, owner: ResNo, tag: &Tag, text: &Text, keep: bool) -> Option<Refusal>
-        requires { self.now.spent ≡ false }
-        ensures { let command = request.Relabel owner tag.now text.now keep in row_of self.now.setting self.now.state (next_state command self.now.state) command result }
+        requires { IsKept self.now }
+        ensures { let command = request.Relabel owner tag.now text.now keep in row_of (setting_of self.now) (state_of self.now) (next_state command (state_of self.now)) command result }
     {
         if let Some(refusal) = judge_owner(self.vocab.resources(), owner) {
             return Some(refusal);
@@ -101,8 +104,8 @@ impl Core {
 
     // What refuses a link.
     pub(crate) fn judge_link(&self, link: &Link) -> Result<Option<Refusal>, AllocError>
-        requires { self.now.spent ≡ false }
-        ensures { let command = request.Link link.now.kind link.now.a link.now.b in IfOk result (row_of self.now.setting self.now.state (next_state command self.now.state) command) }
+        requires { IsKept self.now }
+        ensures { let command = request.Link link.now.kind link.now.a link.now.b in IfOk result (row_of (setting_of self.now) (state_of self.now) (next_state command (state_of self.now)) command) }
     {
         if let Some(refusal) = judge_ends(self.vocab.resources(), link) {
             return Ok(Some(refusal));
@@ -118,8 +121,8 @@ impl Core {
 
     // What refuses that a link is taken away.
     pub(crate) fn judge_unlink(&self, link: &Link) -> Option<Refusal>
-        requires { self.now.spent ≡ false }
-        ensures { let command = request.Unlink link.now.kind link.now.a link.now.b in row_of self.now.setting self.now.state (next_state command self.now.state) command result }
+        requires { IsKept self.now }
+        ensures { let command = request.Unlink link.now.kind link.now.a link.now.b in row_of (setting_of self.now) (state_of self.now) (next_state command (state_of self.now)) command result }
     {
         if let Some(refusal) = judge_ends(self.vocab.resources(), link) {
             return Some(refusal);
@@ -132,8 +135,8 @@ impl Core {
 
     // What refuses that a concept is deprecated.
     pub(crate) fn judge_deprecate(&self, concept: ResNo) -> Option<Refusal>
-        requires { self.now.spent ≡ false }
-        ensures { let command = request.Deprecate concept in row_of self.now.setting self.now.state (next_state command self.now.state) command result }
+        requires { IsKept self.now }
+        ensures { let command = request.Deprecate concept in row_of (setting_of self.now) (state_of self.now) (next_state command (state_of self.now)) command result }
     {
         if let Some(refusal) = judge_live_concept(self.vocab.resources(), concept) {
             return Some(refusal);
@@ -146,8 +149,8 @@ impl Core {
 
     // What refuses a merge.
     pub(crate) fn judge_merge(&self, source: ResNo, target: ResNo) -> Result<Option<Refusal>, AllocError>
-        requires { self.now.spent ≡ false }
-        ensures { let command = request.Merge source target in IfOk result (row_of self.now.setting self.now.state (next_state command self.now.state) command) }
+        requires { IsKept self.now }
+        ensures { let command = request.Merge source target in IfOk result (row_of (setting_of self.now) (state_of self.now) (next_state command (state_of self.now)) command) }
     {
         if let Some(refusal) = judge_pair(self.vocab.resources(), source, target) {
             return Ok(Some(refusal));
@@ -170,8 +173,8 @@ impl Core {
         text: &Text,
         postings: &[PostNo],
     ) -> Result<Option<Refusal>, AllocError>
-        requires { self.now.spent ≡ false }
-        ensures { let command = request.Split source tag.now text.now postings.now in IfOk result (row_of self.now.setting self.now.state (next_state command self.now.state) command) }
+        requires { IsKept self.now }
+        ensures { let command = request.Split source tag.now text.now postings.now in IfOk result (row_of (setting_of self.now) (state_of self.now) (next_state command (state_of self.now)) command) }
     {
         if let Some(refusal) = judge_live_concept(self.vocab.resources(), source) {
             return Ok(Some(refusal));
@@ -192,8 +195,8 @@ impl Core {
 
     // What refuses a posting of a new key.
     pub(crate) fn judge_post(&self, concept: ResNo) -> Option<Refusal>
-        requires { self.now.spent ≡ false }
-        ensures { (key rec : List ℕ) → let command = request.Post key rec concept in row_of self.now.setting self.now.state (next_state command self.now.state) command result }
+        requires { IsKept self.now }
+        ensures { (key rec : List ℕ) → let command = request.Post key rec concept in row_of (setting_of self.now) (state_of self.now) (next_state command (state_of self.now)) command result }
     {
         if let Some(refusal) = judge_live_concept(self.vocab.resources(), concept) {
             return Some(refusal);
@@ -206,9 +209,74 @@ impl Core {
 
     // What refuses that a posting is withdrawn.
     pub(crate) fn judge_withdraw(&self, posting: PostNo) -> Option<Refusal>
-        requires { self.now.spent ≡ false }
-        ensures { let command = request.Withdraw posting in row_of self.now.setting self.now.state (next_state command self.now.state) command result }
+        requires { IsKept self.now }
+        ensures { let command = request.Withdraw posting in row_of (setting_of self.now) (state_of self.now) (next_state command (state_of self.now)) command result }
     {
         self.book.judge_withdraw(posting)
+    }
+
+    // The answer to a key that is known.
+    pub(crate) fn known(&self, command: &Command) -> Option<Answer>
+        requires { IsKept self.now }
+        ensures some { IfSome result (λ a. KnownAnswer command.now (state_of self.now) a) }
+        ensures none { IfNone result (IsFresh command.now (state_of self.now)) }
+    {
+        let Command::Post(key, rec, concept) = command else {
+            return None;
+        };
+        match self.book.judge_post(key, rec, *concept)? {
+            Known::Again(number) => Some(Answer::Again(number.get())),
+            Known::Reused => Some(Answer::No(Refusal::KeyReused)),
+        }
+    }
+
+    // Which refusal a request meets, but for a key that is known.
+    pub(crate) fn judge(&self, command: &Command) -> Result<Option<Refusal>, AllocError>
+        requires { IsKept self.now }
+        ensures { IfOk result (row_of (setting_of self.now) (state_of self.now) (next_state command.now (state_of self.now)) command.now) }
+    {
+        let alloc = self.alloc;
+        match command {
+            Command::Scheme(tag, text) => {
+                let new = NewResource::Scheme(tag.try_clone(alloc)?, text.try_clone(alloc)?);
+                Ok(self.judge_new(&new))
+            }
+            Command::Concept(scheme, tag, text) => {
+                let new =
+                    NewResource::Concept(*scheme, tag.try_clone(alloc)?, text.try_clone(alloc)?);
+                Ok(self.judge_new(&new))
+            }
+            Command::Collection(scheme, tag, text) => {
+                let new =
+                    NewResource::Collection(*scheme, tag.try_clone(alloc)?, text.try_clone(alloc)?);
+                Ok(self.judge_new(&new))
+            }
+            Command::Outside(iri) => {
+                let new = NewResource::Outside(iri.try_clone(alloc)?);
+                Ok(self.judge_new(&new))
+            }
+            Command::AddLabel(owner, label) => Ok(self.judge_add_label(*owner, label)),
+            Command::DropLabel(owner, label) => Ok(self.judge_drop_label(*owner, label)),
+            Command::Relabel(owner, tag, text, keep) => {
+                Ok(self.judge_relabel(*owner, tag, text, *keep))
+            }
+            Command::Link(kind, a, b) => self.judge_link(&Link {
+                kind: *kind,
+                a: *a,
+                b: *b,
+            }),
+            Command::Unlink(kind, a, b) => Ok(self.judge_unlink(&Link {
+                kind: *kind,
+                a: *a,
+                b: *b,
+            })),
+            Command::Deprecate(concept) => Ok(self.judge_deprecate(*concept)),
+            Command::Merge(source, target) => self.judge_merge(*source, *target),
+            Command::Split(source, tag, text, postings) => {
+                self.judge_split(*source, tag, text, postings.as_slice())
+            }
+            Command::Post(_, _, concept) => Ok(self.judge_post(*concept)),
+            Command::Withdraw(posting) => Ok(self.judge_withdraw(*posting)),
+        }
     }
 }

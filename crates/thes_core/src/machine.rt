@@ -7,6 +7,7 @@ ghost use Rattle.thes_base.specs.Machine.{next_state, answer_of, row_of};
 ghost use Rattle.thes_core.specs.Kept.{Holds};
 ghost use Rattle.thes_core.specs.Decides.{Accepts, Decides, IsFresh, KnownAnswer, Makes, Performs, Runs};
 
+use crate::thesaurus::Thesaurus;
 use crate::verdict::Verdict;
 use std::alloc::{AllocError, Global};
 use std::marker::Model;
@@ -21,13 +22,9 @@ use thes_vocab::Vocab;
 /// The state of a thesaurus: its vocabulary, its links and its postings.
 #[derive(Drop)]
 pub struct Core {
-    pub(crate) alloc: Global,
-    pub(crate) vocab: Vocab,
-    pub(crate) graph: Graph,
-    pub(crate) book: Book,
-    pub(crate) limits: Limits,
+    pub(crate) thesaurus: Thesaurus,
     // Want of memory has left the parts at odds.
-    pub(crate) spent: bool,
+    spent: bool,
 }
 
 impl Model for Core {
@@ -42,9 +39,9 @@ impl Model for Core {
 
     ghost coded = { Prim.hlevel (codes, set.code, dict.code) };
 
-    ghost view = { λ a. record { state = state_of a.vocab a.graph a.book; setting = setting_of a.vocab a.limits; spent = a.spent } };
+    ghost view = { λ a. record { state = state_of a.thesaurus; setting = setting_of a.thesaurus; spent = a.spent } };
 
-    ghost invariant = { λ a. a.spent ≡ false → IsKept a.vocab a.graph a.book a.limits };
+    ghost invariant = { λ a. a.spent ≡ false → IsKept a.thesaurus };
 }
 
 impl Core {
@@ -56,11 +53,13 @@ impl Core {
         ensures spent { result.spent ≡ false }
     {
         Core {
-            alloc,
-            vocab: Vocab::new(alloc, base),
-            graph: Graph::new(alloc),
-            book: Book::new(alloc),
-            limits,
+            thesaurus: Thesaurus {
+                alloc,
+                vocab: Vocab::new(alloc, base),
+                graph: Graph::new(alloc),
+                book: Book::new(alloc),
+                limits,
+            },
             spent: false,
         }
     }
@@ -72,71 +71,6 @@ impl Core {
         self.spent
     }
 
-    // The answer to a key that is known.
-    fn known(&self, command: &Command) -> Option<Answer>
-        requires { self.now.spent ≡ false }
-        ensures some { IfSome result (λ a. KnownAnswer command.now self.now.state a) }
-        ensures none { IfNone result (IsFresh command.now self.now.state) }
-    {
-        let Command::Post(key, rec, concept) = command else {
-            return None;
-        };
-        match self.book.judge_post(key, rec, *concept)? {
-            Known::Again(number) => Some(Answer::Again(number.get())),
-            Known::Reused => Some(Answer::No(Refusal::KeyReused)),
-        }
-    }
-
-    // Which refusal a request meets, but for a key that is known.
-    fn judge(&self, command: &Command) -> Result<Option<Refusal>, AllocError>
-        requires { self.now.spent ≡ false }
-        ensures { IfOk result (row_of self.now.setting self.now.state (next_state command.now self.now.state) command.now) }
-    {
-        let alloc = self.alloc;
-        match command {
-            Command::Scheme(tag, text) => {
-                let new = NewResource::Scheme(tag.try_clone(alloc)?, text.try_clone(alloc)?);
-                Ok(self.judge_new(&new))
-            }
-            Command::Concept(scheme, tag, text) => {
-                let new =
-                    NewResource::Concept(*scheme, tag.try_clone(alloc)?, text.try_clone(alloc)?);
-                Ok(self.judge_new(&new))
-            }
-            Command::Collection(scheme, tag, text) => {
-                let new =
-                    NewResource::Collection(*scheme, tag.try_clone(alloc)?, text.try_clone(alloc)?);
-                Ok(self.judge_new(&new))
-            }
-            Command::Outside(iri) => {
-                let new = NewResource::Outside(iri.try_clone(alloc)?);
-                Ok(self.judge_new(&new))
-            }
-            Command::AddLabel(owner, label) => Ok(self.judge_add_label(*owner, label)),
-            Command::DropLabel(owner, label) => Ok(self.judge_drop_label(*owner, label)),
-            Command::Relabel(owner, tag, text, keep) => {
-                Ok(self.judge_relabel(*owner, tag, text, *keep))
-            }
-            Command::Link(kind, a, b) => self.judge_link(&Link {
-                kind: *kind,
-                a: *a,
-                b: *b,
-            }),
-            Command::Unlink(kind, a, b) => Ok(self.judge_unlink(&Link {
-                kind: *kind,
-                a: *a,
-                b: *b,
-            })),
-            Command::Deprecate(concept) => Ok(self.judge_deprecate(*concept)),
-            Command::Merge(source, target) => self.judge_merge(*source, *target),
-            Command::Split(source, tag, text, postings) => {
-                self.judge_split(*source, tag, text, postings.as_slice())
-            }
-            Command::Post(_, _, concept) => Ok(self.judge_post(*concept)),
-            Command::Withdraw(posting) => Ok(self.judge_withdraw(*posting)),
-        }
-    }
-
     /// What a request meets, before anything changes. The caller names the state that the core holds.
     pub fn decide(&self, command: &Command) -> Result<Verdict, Fault>
         ghost state: { State }
@@ -145,13 +79,25 @@ impl Core {
         ensures ok { IfOk result (Decides self.now.setting state command.now) }
         ensures err { IfErr result (λ fault. fault ≡ Fault.OutOfMemory) }
     {
-        if let Some(answer) = self.known(command) {
+        if let Some(answer) = self.thesaurus.known(command) {
             return Ok(Verdict::Settled(answer));
         }
-        match self.judge(command)? {
+        match self.thesaurus.judge(command)? {
             Some(refusal) => Ok(Verdict::Settled(Answer::No(refusal))),
             None => Ok(Verdict::Accepted),
         }
+    }
+
+    /// Makes what an accepted request asks for, and answers it. Want of memory leaves the core spent.
+    pub fn apply(&mut self, command: &Command) -> Result<Answer, Fault>
+        requires unspent { self.old.spent ≡ false }
+        requires accepted { Accepts self.old.setting self.old.state command.now }
+        ensures { Makes self.old (next_state command.now self.old.state) (answer_of command.now self.old.state) result self.new }
+    {
+        self.spent = true;
+        let answer = self.thesaurus.change(command)?;
+        self.spent = false;
+        Ok(answer)
     }
 
     /// Performs a request: what it is answered with, and the state after it. Want of memory changes nothing, or leaves
