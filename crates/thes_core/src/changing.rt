@@ -1,5 +1,5 @@
 //! What an accepted request makes of the parts. After want of memory they may be at odds.
-ghost use Rattle.std.specs.Prelude.{◌≡◌, None, IfOk, OnOk, List, ℕ};
+ghost use Rattle.std.specs.Prelude.{◌≡◌, ◌+◌, None, IfOk, OnOk, List, ℕ, length};
 ghost use Rattle.thes_base.specs.declared.data.History.{History};
 ghost use Rattle.thes_base.specs.declared.request.Command.TheVariants as request;
 ghost use Rattle.thes_base.specs.Postings.{standing_count};

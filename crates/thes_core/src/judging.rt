@@ -1,10 +1,13 @@
 //! Which refusal a request meets: its row of sentences, part by part, as its arguments, the vocabulary, the graph, the
 //! book and the limits show.
-ghost use Rattle.std.specs.Prelude.{◌≡◌, IfOk, IfSome, IfNone, List, ℕ};
+ghost use Rattle.std.specs.Prelude.{◌≡◌, Some, IfOk, IfSome, IfNone, List, ℕ};
 ghost use Rattle.thes_core.specs.Decides.{IsFresh, KnownAnswer};
 ghost use Rattle.thes_base.specs.declared.fault.Refusal.TheVariants as no;
 ghost use Rattle.thes_base.specs.declared.request.Command.TheVariants as request;
 ghost use Rattle.thes_base.specs.Rows.{refused_unless, accepted};
+ghost use Rattle.thes_base.specs.Resources.{IsConcept, scheme_of};
+ghost use Rattle.thes_base.specs.Changes.{made, concept_resource};
+ghost use Rattle.thes_base.specs.Refusals.{unless_unique};
 ghost use Rattle.thes_base.specs.Machine.{next_state, row_of};
 ghost use Rattle.thes_core.specs.Room.{HasRoom};
 ghost use Rattle.thes_core.specs.Requests.{command_of};
@@ -14,11 +17,12 @@ use crate::arguments::{judge_ends, judge_live_concept, judge_owner, judge_pair};
 use crate::room::{Growth, may_rise};
 use crate::thesaurus::Thesaurus;
 use std::alloc::AllocError;
-use thes_base::data::{Known, Label, Link, NewResource};
+use thes_base::data::{Known, Label, Link, NewResource, Resource};
 use thes_base::fault::Refusal;
 use thes_base::number::{PostNo, ResNo};
 use thes_base::request::{Answer, Command};
 use thes_base::text::{Tag, Text};
+use thes_graph::judge::{judge_add, judge_contract};
 
 impl Thesaurus {
     // Whether the limits leave room.
@@ -110,7 +114,8 @@ impl Thesaurus {
         if let Some(refusal) = judge_ends(self.vocab.resources(), link) {
             return Ok(Some(refusal));
         }
-        if let Some(refusal) = self.graph.judge_add(self.alloc, link)? {
+        let mut walk = self.graph.walk();
+        if let Some(refusal) = judge_add(self.alloc, &mut walk, link)? {
             return Ok(Some(refusal));
         }
         Ok(self.judge_room(Growth {
@@ -155,7 +160,8 @@ impl Thesaurus {
         if let Some(refusal) = judge_pair(self.vocab.resources(), source, target) {
             return Ok(Some(refusal));
         }
-        if let Some(refusal) = self.graph.judge_contract(self.alloc, source, target)? {
+        let mut walk = self.graph.walk();
+        if let Some(refusal) = judge_contract(self.alloc, &mut walk, source, target)? {
             return Ok(Some(refusal));
         }
         Ok(self.judge_room(Growth {
@@ -163,6 +169,34 @@ impl Thesaurus {
             moves: self.book.count(source),
             ..Growth::NONE
         }))
+    }
+
+    // The scheme of a concept.
+    pub(crate) fn scheme(&self, concept: ResNo) -> ResNo
+        requires kept { IsKept self.now }
+        requires concept { IsConcept self.now.vocab.resources concept }
+        ensures { scheme_of self.now.vocab.resources concept ≡ Some result }
+    {
+        match self.vocab.resource(concept) {
+            Some(Resource {
+                scheme: Some(scheme),
+                ..
+            }) => *scheme,
+            _ => unreachable!(),
+        }
+    }
+
+    // Whether a new concept of the source's scheme may have this preferred label.
+    fn judge_name(&self, source: ResNo, tag: &Tag, text: &Text) -> Option<Refusal>
+        requires kept { IsKept self.now }
+        requires concept { IsConcept self.now.vocab.resources source }
+        ensures { let after = made (concept_resource (scheme_of self.now.vocab.resources source)) tag.now text.now (state_of self.now) in
+            unless_unique after.resources after.labels accepted result }
+    {
+        if self.vocab.holder(self.scheme(source), tag, text).is_some() {
+            return Some(Refusal::PreferredTaken);
+        }
+        None
     }
 
     // What refuses a split.

@@ -15,8 +15,8 @@ use thes_base::data::{Known, Limits, Link, NewResource};
 use thes_base::fault::{Fault, Refusal};
 use thes_base::request::{Answer, Command};
 use thes_base::text::Base;
-use thes_graph::Graph;
-use thes_post::Book;
+use thes_graph::graph::Graph;
+use thes_post::book::Book;
 use thes_vocab::Vocab;
 
 /// The state of a thesaurus: its vocabulary, its links and its postings.

@@ -1,8 +1,8 @@
 //! The parts of a thesaurus.
 use std::alloc::Global;
 use thes_base::data::Limits;
-use thes_graph::Graph;
-use thes_post::Book;
+use thes_graph::graph::Graph;
+use thes_post::book::Book;
 use thes_vocab::Vocab;
 
 /// A vocabulary, its links and its postings, and the limits that bind requests.
