@@ -1,6 +1,6 @@
 //! Which refusal a request meets: its row of sentences, part by part, as its arguments, the vocabulary, the graph, the
 //! book and the limits show.
-ghost use Rattle.std.specs.Prelude.{◌≡◌, Some, IfOk, IfSome, IfNone, List, ℕ};
+ghost use Rattle.std.specs.Prelude.{◌≡◌, ◌≢◌, Some, IfOk, IfSome, IfNone, List, ℕ};
 ghost use Rattle.thes_core.specs.Decides.{IsFresh, KnownAnswer};
 ghost use Rattle.thes_base.specs.declared.fault.Refusal.TheVariants as no;
 ghost use Rattle.thes_base.specs.declared.request.Command.TheVariants as request;
@@ -9,20 +9,37 @@ ghost use Rattle.thes_base.specs.Resources.{IsConcept, scheme_of};
 ghost use Rattle.thes_base.specs.Changes.{made, concept_resource};
 ghost use Rattle.thes_base.specs.Refusals.{unless_unique};
 ghost use Rattle.thes_base.specs.Machine.{next_state, row_of};
+ghost use Rattle.thes_base.specs.Links.{HeldIn, norm, contracted, IsFirstBroken};
+ghost use Rattle.thes_graph.specs.Judge.{row_of_add};
+ghost use Rattle.thes_graph.specs.Net.{is_marked};
 ghost use Rattle.thes_core.specs.Room.{HasRoom};
-ghost use Rattle.thes_core.specs.Requests.{command_of};
+ghost use Rattle.thes_core.specs.Requests.{command_of, growth_of_new};
 ghost use Rattle.thes_core.specs.View.{state_of, setting_of, IsKept};
 
 use crate::arguments::{judge_ends, judge_live_concept, judge_owner, judge_pair};
 use crate::room::{Growth, may_rise};
 use crate::thesaurus::Thesaurus;
 use std::alloc::AllocError;
-use thes_base::data::{Known, Label, Link, NewResource, Resource};
+use thes_base::data::{Known, Label, Link, NewResource};
 use thes_base::fault::Refusal;
 use thes_base::number::{PostNo, ResNo};
 use thes_base::request::{Answer, Command};
 use thes_base::text::{Tag, Text};
 use thes_graph::judge::{judge_add, judge_contract};
+
+// What a new resource adds: itself, and its label if it has one.
+fn new_growth(new: &NewResource) -> Growth
+    ensures { result ≡ growth_of_new new.now }
+{
+    Growth {
+        resources: 1,
+        labels: match new {
+            NewResource::Outside(_) => 0,
+            _ => 1,
+        },
+        ..Growth::NONE
+    }
+}
 
 impl Thesaurus {
     // Whether the limits leave room.
@@ -50,15 +67,7 @@ impl Thesaurus {
         if let Some(refusal) = self.vocab.judge_new(new) {
             return Some(refusal);
         }
-        let labels = match new {
-            NewResource::Outside(_) => 0,
-            _ => 1,
-        };
-        self.judge_room(Growth {
-            resources: 1,
-            labels,
-            ..Growth::NONE
-        })
+        self.judge_room(new_growth(new))
     }
 
     // What refuses one more label.
@@ -66,7 +75,7 @@ impl Thesaurus {
         requires { IsKept self.now }
         ensures { let command = request.AddLabel owner label.now in row_of (setting_of self.now) (state_of self.now) (next_state command (state_of self.now)) command result }
     {
-        if let Some(refusal) = judge_owner(self.vocab.resources(), owner) {
+        if let Some(refusal) = judge_owner(&self.vocab, owner) {
             return Some(refusal);
         }
         if let Some(refusal) = self.vocab.judge_label(owner, label) {
@@ -83,7 +92,7 @@ impl Thesaurus {
         requires { IsKept self.now }
         ensures { let command = request.DropLabel owner label.now in row_of (setting_of self.now) (state_of self.now) (next_state command (state_of self.now)) command result }
     {
-        if let Some(refusal) = judge_owner(self.vocab.resources(), owner) {
+        if let Some(refusal) = judge_owner(&self.vocab, owner) {
             return Some(refusal);
         }
         self.vocab.judge_drop(owner, label)
@@ -94,7 +103,7 @@ impl Thesaurus {
         requires { IsKept self.now }
         ensures { let command = request.Relabel owner tag.now text.now keep in row_of (setting_of self.now) (state_of self.now) (next_state command (state_of self.now)) command result }
     {
-        if let Some(refusal) = judge_owner(self.vocab.resources(), owner) {
+        if let Some(refusal) = judge_owner(&self.vocab, owner) {
             return Some(refusal);
         }
         if let Some(refusal) = self.vocab.judge_relabel(owner, tag, text, keep) {
@@ -106,16 +115,37 @@ impl Thesaurus {
         })
     }
 
+    // What the links held say against one more link.
+    fn judge_held(&self, link: &Link) -> Result<Option<Refusal>, AllocError>
+        requires kept { IsKept self.now }
+        requires ends { link.now.a ≢ link.now.b }
+        ensures { IfOk result (row_of_add self.now.graph.links (norm (is_marked self.now.graph) link.now)) }
+    {
+        let mut walk = self.graph.walk();
+        let answer = judge_add(self.alloc, &mut walk, link)?;
+        Ok(answer)
+    }
+
+    // What the links held say against a merge.
+    fn judge_joined(&self, source: ResNo, target: ResNo) -> Result<Option<Refusal>, AllocError>
+        requires kept { IsKept self.now }
+        requires ends { source ≢ target }
+        ensures { IfOk result (IsFirstBroken (HeldIn (contracted (is_marked self.now.graph) source target self.now.graph.links))) }
+    {
+        let mut walk = self.graph.walk();
+        let answer = judge_contract(self.alloc, &mut walk, source, target)?;
+        Ok(answer)
+    }
+
     // What refuses a link.
     pub(crate) fn judge_link(&self, link: &Link) -> Result<Option<Refusal>, AllocError>
         requires { IsKept self.now }
         ensures { let command = request.Link link.now.kind link.now.a link.now.b in IfOk result (row_of (setting_of self.now) (state_of self.now) (next_state command (state_of self.now)) command) }
     {
-        if let Some(refusal) = judge_ends(self.vocab.resources(), link) {
+        if let Some(refusal) = judge_ends(&self.vocab, link) {
             return Ok(Some(refusal));
         }
-        let mut walk = self.graph.walk();
-        if let Some(refusal) = judge_add(self.alloc, &mut walk, link)? {
+        if let Some(refusal) = self.judge_held(link)? {
             return Ok(Some(refusal));
         }
         Ok(self.judge_room(Growth {
@@ -129,7 +159,7 @@ impl Thesaurus {
         requires { IsKept self.now }
         ensures { let command = request.Unlink link.now.kind link.now.a link.now.b in row_of (setting_of self.now) (state_of self.now) (next_state command (state_of self.now)) command result }
     {
-        if let Some(refusal) = judge_ends(self.vocab.resources(), link) {
+        if let Some(refusal) = judge_ends(&self.vocab, link) {
             return Some(refusal);
         }
         if !self.graph.has(link) {
@@ -143,7 +173,7 @@ impl Thesaurus {
         requires { IsKept self.now }
         ensures { let command = request.Deprecate concept in row_of (setting_of self.now) (state_of self.now) (next_state command (state_of self.now)) command result }
     {
-        if let Some(refusal) = judge_live_concept(self.vocab.resources(), concept) {
+        if let Some(refusal) = judge_live_concept(&self.vocab, concept) {
             return Some(refusal);
         }
         if self.book.count(concept) != 0 {
@@ -157,11 +187,10 @@ impl Thesaurus {
         requires { IsKept self.now }
         ensures { let command = request.Merge source target in IfOk result (row_of (setting_of self.now) (state_of self.now) (next_state command (state_of self.now)) command) }
     {
-        if let Some(refusal) = judge_pair(self.vocab.resources(), source, target) {
+        if let Some(refusal) = judge_pair(&self.vocab, source, target) {
             return Ok(Some(refusal));
         }
-        let mut walk = self.graph.walk();
-        if let Some(refusal) = judge_contract(self.alloc, &mut walk, source, target)? {
+        if let Some(refusal) = self.judge_joined(source, target)? {
             return Ok(Some(refusal));
         }
         Ok(self.judge_room(Growth {
@@ -177,13 +206,13 @@ impl Thesaurus {
         requires concept { IsConcept self.now.vocab.resources concept }
         ensures { scheme_of self.now.vocab.resources concept ≡ Some result }
     {
-        match self.vocab.resource(concept) {
-            Some(Resource {
-                scheme: Some(scheme),
-                ..
-            }) => *scheme,
-            _ => unreachable!(),
-        }
+        let Some(resource) = self.vocab.resource(concept).copied() else {
+            unreachable!()
+        };
+        let Some(scheme) = resource.scheme else {
+            unreachable!()
+        };
+        scheme
     }
 
     // Whether a new concept of the source's scheme may have this preferred label.
@@ -210,7 +239,7 @@ impl Thesaurus {
         requires { IsKept self.now }
         ensures { let command = request.Split source tag.now text.now postings.now in IfOk result (row_of (setting_of self.now) (state_of self.now) (next_state command (state_of self.now)) command) }
     {
-        if let Some(refusal) = judge_live_concept(self.vocab.resources(), source) {
+        if let Some(refusal) = judge_live_concept(&self.vocab, source) {
             return Ok(Some(refusal));
         }
         if let Some(refusal) = self.book.judge_listed(self.alloc, source, postings)? {
@@ -232,7 +261,7 @@ impl Thesaurus {
         requires { IsKept self.now }
         ensures { (key rec : List ℕ) → let command = request.Post key rec concept in row_of (setting_of self.now) (state_of self.now) (next_state command (state_of self.now)) command result }
     {
-        if let Some(refusal) = judge_live_concept(self.vocab.resources(), concept) {
+        if let Some(refusal) = judge_live_concept(&self.vocab, concept) {
             return Some(refusal);
         }
         self.judge_room(Growth {

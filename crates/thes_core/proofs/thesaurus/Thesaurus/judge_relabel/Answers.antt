@@ -1,0 +1,8 @@
+use Rattle.thes_core.proofs.JudgeLemmas.{relabel_stops, relabel_passes}
+use Rattle.thes_core.proofs.thesaurus.Thesaurus.judge_relabel.Goals as goal
+
+pub returns-in-Some-judge_relabel : goal.returns-in-Some-judge_relabel
+returns-in-Some-judge_relabel c = relabel_stops c.args.self.now c.requires c.args.owner c.in_default.ensures c.args.tag.now c.args.text.now c.args.keep c.in-Some-judge_relabel.refusal c.in-Some-judge_relabel.ensures
+
+pub returns : goal.returns
+returns c = relabel_passes c.args.self.now c.requires c.args.owner c.in_default.ensures c.args.tag.now c.args.text.now c.args.keep c.judge_room.result c.from.result c.from.ensures c.in_default-judge_relabel.ensures c.judge_room.ensures
