@@ -6,15 +6,23 @@ ghost use Rattle.thes_base.specs.Postings.{standing_count};
 ghost use Rattle.thes_base.specs.Changes.{next_number};
 ghost use Rattle.thes_base.specs.Machine.{next_state, answer_of};
 ghost use Rattle.thes_core.specs.Decides.{Accepts};
-ghost use Rattle.thes_core.specs.Requests.{command_of};
+ghost use Rattle.thes_core.specs.Requests.{command_of, is_foreign};
 ghost use Rattle.thes_core.specs.View.{state_of, setting_of, IsKept, Becomes};
 
+use crate::judging::new_resource;
 use crate::thesaurus::Thesaurus;
 use std::alloc::AllocError;
 use thes_base::data::{Label, Link, NewResource};
 use thes_base::number::{PostNo, ResNo};
 use thes_base::request::{Answer, Command};
 use thes_base::text::{Key, RecordName, Tag, Text};
+
+// Whether the new resource is an outside concept.
+fn is_outside(new: &NewResource) -> bool
+    ensures { result ≡ is_foreign new.now }
+{
+    matches!(new, NewResource::Outside(_))
+}
 
 impl Thesaurus {
     // A new resource.
@@ -24,7 +32,7 @@ impl Thesaurus {
         ensures number { IfOk result (λ n. n ≡ next_number (state_of self.old)) }
         ensures state { OnOk result (Becomes self.old (next_state (command_of new) (state_of self.old)) self.new) }
     {
-        let is_outside = matches!(&new, NewResource::Outside(_));
+        let is_outside = is_outside(&new);
         let number = self.vocab.add_resource(new)?;
         if is_outside {
             self.graph.mark_outside(number)?;
@@ -169,22 +177,10 @@ impl Thesaurus {
         ensures answer { IfOk result (λ a. a ≡ answer_of command.now (state_of self.old)) }
         ensures state { OnOk result (Becomes self.old (next_state command.now (state_of self.old)) self.new) }
     {
-        let alloc = self.alloc;
+        if let Some(new) = new_resource(self.alloc, command)? {
+            return self.made(new);
+        }
         match command {
-            Command::Scheme(tag, text) => {
-                self.made(NewResource::Scheme(tag.try_clone(alloc)?, text.try_clone(alloc)?))
-            }
-            Command::Concept(scheme, tag, text) => self.made(NewResource::Concept(
-                *scheme,
-                tag.try_clone(alloc)?,
-                text.try_clone(alloc)?,
-            )),
-            Command::Collection(scheme, tag, text) => self.made(NewResource::Collection(
-                *scheme,
-                tag.try_clone(alloc)?,
-                text.try_clone(alloc)?,
-            )),
-            Command::Outside(iri) => self.made(NewResource::Outside(iri.try_clone(alloc)?)),
             Command::AddLabel(owner, label) => {
                 self.add_label(*owner, label)?;
                 Ok(Answer::Done)
@@ -233,6 +229,7 @@ impl Thesaurus {
                 self.withdraw(*posting);
                 Ok(Answer::Done)
             }
+            _ => unreachable!(),
         }
     }
 }

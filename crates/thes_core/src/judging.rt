@@ -13,19 +13,41 @@ ghost use Rattle.thes_base.specs.Links.{HeldIn, norm, contracted, IsFirstBroken}
 ghost use Rattle.thes_graph.specs.Judge.{row_of_add};
 ghost use Rattle.thes_graph.specs.Net.{is_marked};
 ghost use Rattle.thes_core.specs.Room.{HasRoom};
-ghost use Rattle.thes_core.specs.Requests.{command_of, growth_of_new};
+ghost use Rattle.thes_core.specs.Requests.{command_of, new_of, growth_of_new};
 ghost use Rattle.thes_core.specs.View.{state_of, setting_of, IsKept};
 
 use crate::arguments::{judge_ends, judge_live_concept, judge_owner, judge_pair};
 use crate::room::{Growth, may_rise};
 use crate::thesaurus::Thesaurus;
-use std::alloc::AllocError;
+use std::alloc::{AllocError, Global};
 use thes_base::data::{Known, Label, Link, NewResource};
 use thes_base::fault::Refusal;
 use thes_base::number::{PostNo, ResNo};
 use thes_base::request::{Answer, Command};
 use thes_base::text::{Tag, Text};
 use thes_graph::judge::{judge_add, judge_contract};
+
+// The new resource that a request asks for.
+pub(crate) fn new_resource(
+    alloc: Global,
+    command: &Command,
+) -> Result<Option<NewResource>, AllocError>
+    ensures { IfOk result (λ new. new ≡ new_of command.now) }
+{
+    Ok(Some(match command {
+        Command::Scheme(tag, text) => {
+            NewResource::Scheme(tag.try_clone(alloc)?, text.try_clone(alloc)?)
+        }
+        Command::Concept(scheme, tag, text) => {
+            NewResource::Concept(*scheme, tag.try_clone(alloc)?, text.try_clone(alloc)?)
+        }
+        Command::Collection(scheme, tag, text) => {
+            NewResource::Collection(*scheme, tag.try_clone(alloc)?, text.try_clone(alloc)?)
+        }
+        Command::Outside(iri) => NewResource::Outside(iri.try_clone(alloc)?),
+        _ => return Ok(None),
+    }))
+}
 
 // What a new resource adds: itself, and its label if it has one.
 fn new_growth(new: &NewResource) -> Growth
@@ -298,26 +320,10 @@ impl Thesaurus {
         requires { IsKept self.now }
         ensures { IfOk result (row_of (setting_of self.now) (state_of self.now) (next_state command.now (state_of self.now)) command.now) }
     {
-        let alloc = self.alloc;
+        if let Some(new) = new_resource(self.alloc, command)? {
+            return Ok(self.judge_new(&new));
+        }
         match command {
-            Command::Scheme(tag, text) => {
-                let new = NewResource::Scheme(tag.try_clone(alloc)?, text.try_clone(alloc)?);
-                Ok(self.judge_new(&new))
-            }
-            Command::Concept(scheme, tag, text) => {
-                let new =
-                    NewResource::Concept(*scheme, tag.try_clone(alloc)?, text.try_clone(alloc)?);
-                Ok(self.judge_new(&new))
-            }
-            Command::Collection(scheme, tag, text) => {
-                let new =
-                    NewResource::Collection(*scheme, tag.try_clone(alloc)?, text.try_clone(alloc)?);
-                Ok(self.judge_new(&new))
-            }
-            Command::Outside(iri) => {
-                let new = NewResource::Outside(iri.try_clone(alloc)?);
-                Ok(self.judge_new(&new))
-            }
             Command::AddLabel(owner, label) => Ok(self.judge_add_label(*owner, label)),
             Command::DropLabel(owner, label) => Ok(self.judge_drop_label(*owner, label)),
             Command::Relabel(owner, tag, text, keep) => {
@@ -340,6 +346,7 @@ impl Thesaurus {
             }
             Command::Post(_, _, concept) => Ok(self.judge_post(*concept)),
             Command::Withdraw(posting) => Ok(self.judge_withdraw(*posting)),
+            _ => unreachable!(),
         }
     }
 }

@@ -95,9 +95,13 @@ impl Core {
         ensures { Makes self.old (next_state command.now self.old.state) (answer_of command.now self.old.state) result self.new }
     {
         self.spent = true;
-        let answer = self.thesaurus.change(command)?;
-        self.spent = false;
-        Ok(answer)
+        match self.thesaurus.change(command) {
+            Ok(answer) => {
+                self.spent = false;
+                Ok(answer)
+            }
+            Err(_) => Err(Fault::OutOfMemory),
+        }
     }
 
     /// Performs a request: what it is answered with, and the state after it. Want of memory changes nothing, or leaves
