@@ -34,6 +34,9 @@ use Rattle.thes_vocab.specs.Requests.{unless_new, with_new}
 use Rattle.thes_base.proofs.Uniqueness.{scheme_at}
 use Rattle.thes_graph.specs.Net.{Net}
 use Rattle.thes_core.specs.declared.thesaurus.Thesaurus.{Thesaurus}
+use Rattle.thes_base.specs.Headline.{IsInOrder}
+use Rattle.thes_base.proofs.MachineLemmas.{legal_is_in_order}
+use Rattle.thes_core.specs.Kept.{Kept}
 use Rattle.thes_core.specs.Decides.{Accepts}
 use Rattle.thes_core.specs.Requests.{command_of, is_foreign}
 use Rattle.thes_core.specs.View.{state_of, setting_of, IsKept, Becomes, KnowsOutside}
@@ -236,3 +239,10 @@ module _ (t : Thesaurus) (kept : IsKept t) where
           is_v refl (is_b ∙ ap (λ (k : ℕ). histories_split postings k t.book) number) refl
           (λ i. record (split_off source tag text postings (state_of t)) { resources = t.vocab.resources ++ concept_resource (sym is i) ∷ [] })
           refl (knows_pushed t kept.outside (concept_resource (Some scheme)) refl)
+
+-- What is kept is in order.
+pub kept_in_order : (t : Thesaurus) → IsKept t → IsInOrder t.vocab.base (state_of t)
+kept_in_order t kept = legal_is_in_order t.vocab.base (state_of t) kept.legal
+
+pub in_order_at : (t : Thesaurus) (spent : Bool) (k : Kept) → record { state = state_of t; setting = setting_of t; spent = spent } ≡ k → k.spent ≡ false → (spent ≡ false → IsKept t) → IsInOrder k.setting.base k.state
+in_order_at t spent k is unspent kept = subst (λ (x : Kept). IsInOrder x.setting.base x.state) is (kept_in_order t (kept (ap (λ (x : Kept). x.spent) is ∙ unspent)))

@@ -5,6 +5,7 @@ mod arguments;
 mod changing;
 mod judging;
 pub mod machine;
+pub mod reading;
 mod room;
 mod thesaurus;
 pub mod verdict;

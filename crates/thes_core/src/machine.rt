@@ -1,18 +1,17 @@
 //! The machine: its state in memory, and one request after another.
-ghost use Rattle.std.specs.Prelude.{◌≡◌, true, false, IfOk, IfErr, IfSome, IfNone};
+ghost use Rattle.std.specs.Prelude.{◌≡◌, false, IfOk, IfErr, OnOk};
 ghost use Rattle.thes_base.specs.State.{State, empty_state};
-ghost use Rattle.thes_base.specs.Stands.{Stands};
 ghost use Rattle.thes_base.specs.Headline.{IsInOrder};
-ghost use Rattle.thes_base.specs.Machine.{next_state, answer_of, row_of};
+ghost use Rattle.thes_base.specs.Machine.{next_state, answer_of};
 ghost use Rattle.thes_core.specs.Kept.{Holds};
-ghost use Rattle.thes_core.specs.Decides.{Accepts, Decides, IsFresh, KnownAnswer, Makes, Performs, Runs};
+ghost use Rattle.thes_core.specs.Decides.{Accepts, Decides, Makes, Performs, Runs};
 
 use crate::thesaurus::Thesaurus;
 use crate::verdict::Verdict;
-use std::alloc::{AllocError, Global};
+use std::alloc::Global;
 use std::marker::Model;
-use thes_base::data::{Known, Limits, Link, NewResource};
-use thes_base::fault::{Fault, Refusal};
+use thes_base::data::Limits;
+use thes_base::fault::Fault;
 use thes_base::request::{Answer, Command};
 use thes_base::text::Base;
 use thes_graph::graph::Graph;
@@ -78,6 +77,7 @@ impl Core {
         requires holds { Holds self.now state }
         ensures ok { IfOk result (Decides self.now.setting state command.now) }
         ensures err { IfErr result (λ fault. fault ≡ Fault.OutOfMemory) }
+        ensures in_order { IsInOrder self.now.setting.base self.now.state }
     {
         if let Some(answer) = self.thesaurus.known(command) {
             return Ok(Verdict::Settled(answer));
@@ -92,7 +92,8 @@ impl Core {
     pub fn apply(&mut self, command: &Command) -> Result<Answer, Fault>
         requires unspent { self.old.spent ≡ false }
         requires accepted { Accepts self.old.setting self.old.state command.now }
-        ensures { Makes self.old (next_state command.now self.old.state) (answer_of command.now self.old.state) result self.new }
+        ensures made { Makes self.old (next_state command.now self.old.state) (answer_of command.now self.old.state) result self.new }
+        ensures in_order { OnOk result (IsInOrder self.new.setting.base self.new.state) }
     {
         self.spent = true;
         match self.thesaurus.change(command) {
@@ -104,11 +105,13 @@ impl Core {
         }
     }
 
-    /// Performs a request: what it is answered with, and the state after it. Want of memory changes nothing, or leaves
-    /// the core spent.
+    /// Performs a request: what it is answered with, and the state after it, in which each posting that isn't withdrawn
+    /// stands at exactly one live concept, the counts add up, and the triples meet the conditions of SKOS. Want of memory
+    /// changes nothing, or leaves the core spent.
     pub fn step(&mut self, command: &Command) -> Result<Answer, Fault>
         requires { self.old.spent ≡ false }
-        ensures { Performs self.old command.now result self.new }
+        ensures performs { Performs self.old command.now result self.new }
+        ensures in_order { OnOk result (IsInOrder self.new.setting.base self.new.state) }
     {
         match self.decide(command)? {
             Verdict::Settled(answer) => Ok(answer),
@@ -116,11 +119,16 @@ impl Core {
         }
     }
 
-    /// Performs requests in order, and adds their answers.
+    /// Performs requests in order, and adds their answers: those of the machine, which leave its state. In that state each
+    /// posting that isn't withdrawn stands at exactly one live concept, the one its moves lead to from its first; the live
+    /// concepts' counts add up to what was accepted less what was withdrawn; and the triples meet the conditions of SKOS.
     pub fn run(&mut self, commands: &[Command], answers: &mut Vec<Answer>) -> Result<(), Fault>
         requires { self.old.spent ≡ false }
-        ensures { Runs self.old commands.now answers.old.items answers.new.items result self.new }
+        ensures runs { Runs self.old commands.now answers.old.items answers.new.items result self.new }
+        ensures in_order { OnOk result (IsInOrder self.new.setting.base self.new.state) }
     {
+        // What the parts keep is known from here on.
+        let _ = &self.thesaurus;
         for command in commands {
             if answers.try_reserve(1).is_err() {
                 return Err(Fault::OutOfMemory);

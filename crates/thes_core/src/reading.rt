@@ -1,5 +1,5 @@
 //! What can be looked up in a core. No call but `is_spent` may be made of a spent one.
-ghost use Rattle.std.specs.Prelude.{◌≡◌, ◌↔◌, ◌⊎◌, ℕ, false, true, filter, length, map, IfOk, IsTrue, MatchOption, option_map};
+ghost use Rattle.std.specs.Prelude.{◌≡◌, ◌↔◌, ◌⊎◌, ℕ, Some, false, true, filter, length, map, IfOk, IsTrue, MatchOption, option_map};
 ghost use Rattle.std.specs.FinMap as dict;
 ghost use Rattle.std.specs.FinSet as set;
 ghost use Rattle.std.specs.Option.{option_copied};
@@ -11,6 +11,7 @@ ghost use Rattle.thes_base.specs.Listing.{IsListing};
 ghost use Rattle.thes_base.specs.Postings.{accepted_count, move_count, place, standing_count, stands_at, withdrawn_count};
 ghost use Rattle.thes_base.specs.Resources.{is_outside, numbered, IsLive};
 ghost use Rattle.thes_base.specs.Views.{totals_of, HasLink, IsMapping, mapping_cmp};
+ghost use Rattle.thes_vocab.specs.LabelData.{AreLabelsOf};
 ghost use Rattle.thes_vocab.specs.Vocabulary.{IsHolder};
 
 use crate::machine::Core;

@@ -8,6 +8,7 @@ use Rattle.thes_base.specs.Machine.{Step, next_state, row_of}
 use Rattle.thes_core.specs.Kept.{Kept}
 use Rattle.thes_core.specs.View.{state_of, setting_of}
 use Rattle.thes_core.proofs.NextLemmas.{step_of_refused}
+use Rattle.thes_core.proofs.ApplyLemmas.{in_order_at}
 use Rattle.thes_core.proofs.machine.Core.decide.Goals as goal
 
 pub returns-in-Some-2-clause-ok : goal.returns-in-Some-2-clause-ok
@@ -19,3 +20,15 @@ returns-in-Some-2-clause-ok g c =
     let state = ap (λ (k : Kept). k.state) c.self.view_is ∙ c.requires.1 in
     subst (λ (s : State). Step c.args.self.now.setting s c.args.command.now (reply.No c.in-Some-2.refusal) s) state
     (subst (λ (x : Setting). Step x (state_of t) c.args.command.now (reply.No c.in-Some-2.refusal) (state_of t)) setting step)
+
+pub returns-in-Some-clause-in_order : goal.returns-in-Some-clause-in_order
+returns-in-Some-clause-in_order g c = in_order_at c.self.inside.thesaurus c.self.inside.spent c.args.self.now c.self.view_is c.requires.0 c.self.invariant
+
+pub returns-in_err-refusal-clause-in_order : goal.returns-in_err-refusal-clause-in_order
+returns-in_err-refusal-clause-in_order g c = in_order_at c.self.inside.thesaurus c.self.inside.spent c.args.self.now c.self.view_is c.requires.0 c.self.invariant
+
+pub returns-in-Some-2-clause-in_order : goal.returns-in-Some-2-clause-in_order
+returns-in-Some-2-clause-in_order g c = in_order_at c.self.inside.thesaurus c.self.inside.spent c.args.self.now c.self.view_is c.requires.0 c.self.invariant
+
+pub returns-in-None-clause-in_order : goal.returns-in-None-clause-in_order
+returns-in-None-clause-in_order g c = in_order_at c.self.inside.thesaurus c.self.inside.spent c.args.self.now c.self.view_is c.requires.0 c.self.invariant
