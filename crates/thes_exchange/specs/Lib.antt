@@ -1,0 +1,4 @@
+pub mod Feed
+pub mod Replies
+pub mod Script
+pub mod Served

@@ -1,0 +1,183 @@
+//! Scripts: a request on each line, answered by a line before the next is read.
+ghost use Rattle.std.specs.Prelude.{◌≡◌, ◌≢◌, ◌⊎◌, ◌+◌, ◌<◌, ◌≤◌, true, false, List, ℕ, Option, Some, IfOk, IfErr, OnOk, OnErr, IfSome, IsErrOf, ◌↔◌, IsTrue};
+ghost use Rattle.std.specs.Io.KnownBytes.{Appends, Keeps, IsAtEnd};
+ghost use Rattle.thes_base.specs.Pipe.{failed_of, ended_of, IsFresh, unread, written, AppendsFront};
+ghost use Rattle.thes_exchange.specs.Feed.{left};
+ghost use Rattle.thes_exchange.specs.Script.{lines_limit, is_blank, StepLine, noted_reply, nothing_noted, IsScript, IsStopped, AppendsUntil};
+ghost use Rattle.thes_exchange.specs.Served.{ServesLine, CutsLine, Served};
+
+use crate::desk::Desk;
+use crate::feed::Found;
+use crate::lines::Lines;
+use crate::reply::Reply;
+use std::alloc::Global;
+use std::io::{Read, Write};
+use thes_base::fault::Fault;
+use thes_base::pipe::{Budget, Pipe, Stop};
+use thes_base::request::Answer;
+
+/// How a script ended.
+#[derive(Clone, Copy, Debug, PartialEq, Eq)]
+pub struct Ended {
+    /// Some answer was a refusal or a form fault.
+    pub refused: bool,
+    /// The last fault that stood in place of an answer.
+    pub fault: Option<Fault>,
+}
+
+/// What stops an engine before its end.
+#[derive(Clone, Copy, Debug, PartialEq, Eq)]
+pub enum PipeFault {
+    Read,
+    Write,
+    TooLong,
+    Fault(Fault),
+}
+
+impl Ended {
+    // Before any answer.
+    fn new() -> Ended
+        ensures { result ≡ nothing_noted }
+    {
+        Ended {
+            refused: false,
+            fault: None,
+        }
+    }
+
+    // Notes what an answer was.
+    fn note(&mut self, reply: &Reply)
+        ensures { self.new ≡ noted_reply self.old reply.now }
+    {
+        match reply {
+            Reply::Told(Answer::No(_)) | Reply::Bad(_) => self.refused = true,
+            Reply::Told(_) | Reply::Shown(_) => {}
+            Reply::Faulted(fault) => self.fault = Some(*fault),
+        }
+    }
+}
+
+fn is_blank(line: &[u8]) -> bool
+    ensures { result ≡ is_blank line.now }
+{
+    line.iter().all(|byte| *byte == b' ' || *byte == b'\t')
+}
+
+fn reading(stop: Stop) -> PipeFault
+    ensures read { (result ≡ PipeFault.Read) ↔ (stop ≡ Stop.Failed) }
+    ensures too_long { (result ≡ PipeFault.TooLong) ↔ (stop ≡ Stop.TooLong) }
+    ensures not_write { result ≢ PipeFault.Write }
+{
+    match stop {
+        Stop::Failed => PipeFault::Read,
+        Stop::TooLong => PipeFault::TooLong,
+    }
+}
+
+fn writing(stop: Stop) -> PipeFault
+    ensures write { (result ≡ PipeFault.Write) ↔ (stop ≡ Stop.Failed) }
+    ensures too_long { (result ≡ PipeFault.TooLong) ↔ (stop ≡ Stop.TooLong) }
+    ensures not_read { result ≢ PipeFault.Read }
+    ensures front { (old new : Option (List ℕ)) (text : List ℕ) → AppendsFront old new text → AppendsUntil result old new text }
+{
+    match stop {
+        Stop::Failed => PipeFault::Write,
+        Stop::TooLong => PipeFault::TooLong,
+    }
+}
+
+// The reply to a line that is not blank. One that there was no memory for is not performed.
+fn reply_to<D: Desk>(alloc: Global, desk: &mut D, line: &[u8], held: bool) -> Reply
+    requires { D.is_open desk.old ≡ true }
+    ensures { (text : List ℕ) → (held ≡ true → (text ≡ line.now) × (is_blank text ≡ false)) → StepLine D.serves desk.old text (Some result) desk.new }
+{
+    if held { desk.serve(alloc, line) } else { Reply::Faulted(Fault::OutOfMemory) }
+}
+
+fn is_skipped(line: &[u8], held: bool) -> bool
+    ensures skipped { result ≡ true → (held ≡ true) × (is_blank line.now ≡ true) }
+    ensures kept { result ≡ false → held ≡ true → is_blank line.now ≡ false }
+{
+    held && is_blank(line)
+}
+
+// Answers one line, if it isn't blank.
+fn serve_line<W: Write, D: Desk>(alloc: Global, writer: &mut Pipe<W>, budget: &mut Budget, desk: &mut D, line: &[u8], held: bool, ended: &mut Ended) -> Result<(), Stop>
+    requires writer { failed_of writer.old ≡ false }
+    requires open { D.is_open desk.old ≡ true }
+    ensures ok { OnOk result ((text : List ℕ) → (held ≡ true → text ≡ line.now)
+        → ServesLine D.serves text desk.old desk.new (written W.contents writer.old) (written W.contents writer.new) ended.old ended.new) }
+    ensures err { OnErr result ((text : List ℕ) → (held ≡ true → text ≡ line.now)
+        → CutsLine D.serves text desk.old desk.new (written W.contents writer.old) (written W.contents writer.new)) }
+    ensures failed { IsErrOf result Stop.Failed ↔ (failed_of writer.new ≡ true) }
+    ensures too_long { IsErrOf result Stop.TooLong → budget.new ≡ 0 }
+{
+    if is_skipped(line, held) {
+        return Ok(());
+    }
+    let reply = reply_to(alloc, desk, line, held);
+    ended.note(&reply);
+    reply.write(writer, budget)
+}
+
+// One line: whether there may be more. What was served before it and it are served after it.
+fn turn<R: Read, W: Write, D: Desk>(alloc: Global, lines: &mut Lines, reader: &mut Pipe<R>, writer: &mut Pipe<W>, budget: &mut Budget, desk: &mut D, ended: &mut Ended) -> Result<bool, PipeFault>
+    requires reader { IsFresh reader.old }
+    requires writer { failed_of writer.old ≡ false }
+    requires open { D.is_open desk.old ≡ true }
+    requires within { lines.old.count ≤ lines_limit }
+    ensures ok { OnOk result ((input : List ℕ) (start : D) (before : Option (List ℕ))
+        → Served D.serves input (left lines.old.feed (unread R.remaining reader.old)) lines.old.count start desk.old before (written W.contents writer.old) ended.old
+        → Served D.serves input (left lines.new.feed (unread R.remaining reader.new)) lines.new.count start desk.new before (written W.contents writer.new) ended.new) }
+    ensures end { IfOk result (λ going. going ≡ false → IsAtEnd (left lines.new.feed (unread R.remaining reader.new)) × (ended_of reader.new ≡ true)) }
+    ensures going { IfOk result (λ going. going ≡ true → (ended_of reader.new ≡ false) × (lines.old.count < lines.new.count)) }
+    ensures open { OnOk result (D.is_open desk.new ≡ true) }
+    ensures within { OnOk result (lines.new.count ≤ lines_limit) }
+    ensures err { IfErr result (λ fault. (input : List ℕ) (start : D) (before : Option (List ℕ))
+        → Served D.serves input (left lines.old.feed (unread R.remaining reader.old)) lines.old.count start desk.old before (written W.contents writer.old) ended.old
+        → IsStopped D.serves fault input start desk.new before (written W.contents writer.new)) }
+    ensures read { IsErrOf result PipeFault.Read ↔ (failed_of reader.new ≡ true) }
+    ensures write { IsErrOf result PipeFault.Write ↔ (failed_of writer.new ≡ true) }
+    ensures closed { (fault : Fault) → IsErrOf result (PipeFault.Fault fault) → (fault ≡ Fault.OutOfMemory) × (D.is_open desk.new ≡ false) }
+{
+    let found = match lines.next_line(reader, budget) {
+        Ok(found) => found,
+        Err(stop) => return Err(reading(stop)),
+    };
+    if found == Found::End {
+        return Ok(false);
+    }
+    if let Err(stop) = serve_line(alloc, writer, budget, desk, &lines.line, found == Found::Line, ended) {
+        return Err(writing(stop));
+    }
+    if !desk.is_open() {
+        return Err(PipeFault::Fault(Fault::OutOfMemory));
+    }
+    Ok(!reader.ended())
+}
+
+/// Answers each line of the input.
+///
+/// A line holds at most 1,048,576 bytes, and a script at most 1,000,000 lines, blank ones counted.
+pub fn script<R: Read, W: Write, D: Desk>(alloc: Global, reader: &mut Pipe<R>, writer: &mut Pipe<W>, desk: &mut D) -> Result<Ended, PipeFault>
+    requires reader { IsFresh reader.old }
+    requires writer { IsFresh writer.old }
+    requires open { D.is_open desk.old ≡ true }
+    ensures ok { IfOk result (λ ended. IfSome (unread R.remaining reader.old) (λ input.
+        IsScript D.serves input desk.old desk.new (written W.contents writer.old) (written W.contents writer.new) ended)) }
+    ensures end { OnOk result (ended_of reader.new ≡ true) }
+    ensures open { OnOk result (D.is_open desk.new ≡ true) }
+    ensures stopped { IfErr result (λ fault. IfSome (unread R.remaining reader.old) (λ input.
+        IsStopped D.serves fault input desk.old desk.new (written W.contents writer.old) (written W.contents writer.new))) }
+    ensures read { IsErrOf result PipeFault.Read ↔ (failed_of reader.new ≡ true) }
+    ensures write { IsErrOf result PipeFault.Write ↔ (failed_of writer.new ≡ true) }
+    ensures fault { (fault : Fault) → IsErrOf result (PipeFault.Fault fault) → (fault ≡ Fault.OutOfMemory) × ((desk.new ≡ desk.old) ⊎ (D.is_open desk.new ≡ false)) }
+{
+    let Ok(mut lines) = Lines::new(alloc) else {
+        return Err(PipeFault::Fault(Fault::OutOfMemory));
+    };
+    let mut budget = Budget::new();
+    let mut ended = Ended::new();
+    while turn(alloc, &mut lines, reader, writer, &mut budget, desk, &mut ended)? {}
+    Ok(ended)
+}
