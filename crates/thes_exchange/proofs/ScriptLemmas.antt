@@ -9,7 +9,7 @@ use Rattle.thes_base.specs.Pipe.{AppendsFront}
 use Rattle.thes_base.proofs.PipeLemmas.{appends_then, appends_front_then, appends_front, appends_none}
 use Rattle.thes_exchange.specs.Feed.{left, line_text, line_limit, TakesLine}
 use Rattle.thes_exchange.specs.Script.{Serving, StepLine, RunLines, AreAllowed, lines_limit, whole_lines, outcome_text, script_text, noted, ended_with, nothing_noted, IsScript, IsStopped, AppendsUntil}
-use Rattle.thes_exchange.specs.Served.{ServesLine, CutsLine, Ran, Served}
+use Rattle.thes_exchange.specs.Served.{ServesLine, StopsAtLine, Ran, Served}
 use Rattle.thes_exchange.specs.declared.reply.Reply.{Reply}
 use Rattle.thes_exchange.specs.declared.script.Ended.{Ended}
 use Rattle.thes_exchange.specs.declared.script.PipeFault.{PipeFault}
@@ -22,6 +22,13 @@ appends_until Read old new text a = a
 appends_until Write old new text a = appends_front old new text a
 appends_until TooLong old new text a = appends_front old new text a
 appends_until (Fault f) old new text a = a
+
+-- all of the first text, and then the second until it stopped
+until_then : (fault : PipeFault) (a b c : Option (List ℕ)) (xs ys : List ℕ) → Appends a b xs → AppendsUntil fault b c ys → AppendsUntil fault a c (xs ++ ys)
+until_then Read a b c xs ys f s = appends_then a b c xs ys f s
+until_then Write a b c xs ys f s = appends_front_then a b c xs ys f s
+until_then TooLong a b c xs ys f s = appends_front_then a b c xs ys f s
+until_then (Fault e) a b c xs ys f s = appends_then a b c xs ys f s
 
 run_more : {S : Type 0} (serves : Serving S) (old : S) (done : List (List ℕ)) (outcomes : List (Option Reply)) (mid new : S) (line : List ℕ) (o : Option Reply)
     → RunLines serves old done outcomes mid → StepLine serves mid line o new → RunLines serves old (done ++ line ∷ []) (outcomes ++ o ∷ []) new
@@ -36,10 +43,10 @@ allowed_more whole raw a few short = record {
   short = All-push (λ line. length line ≤ line_limit) whole raw a.short short
 }
 
-ran_more : {S : Type 0} (serves : Serving S) (input : List ℕ) (rest rest' : Option (List ℕ)) (count : ℕ) (old mid new : S) (outcomes : List (Option Reply)) (raw : List ℕ) (e : Bool) (o : Option Reply)
+ran_more : {S : Type 0} {serves : Serving S} {input : List ℕ} {rest rest' : Option (List ℕ)} {count : ℕ} {old mid new : S} {outcomes : List (Option Reply)} {raw : List ℕ} {e : Bool} (o : Option Reply)
     → Ran serves input rest count old mid outcomes → count < lines_limit → TakesLine rest rest' raw e → StepLine serves mid (line_text raw e) o new
     → Ran serves input rest' (count + 1) old new (outcomes ++ o ∷ [])
-ran_more serves input rest rest' count old mid new outcomes raw e o r few k step =
+ran_more {S} {serves} {input} {rest} {rest'} {count} {old} {mid} {new} {outcomes} {raw} {e} o r few k step =
     let after = leaves r.left rest' raw e (rw r.is_left at k) in
     let line = line_text raw e in record {
   left = after.rest;
@@ -54,9 +61,9 @@ ran_more serves input rest rest' count old mid new outcomes raw e o r few k step
   whole_count = rw (length-append r.whole (raw ∷ [])) (ap (λ n. n + 1) r.whole_count)
 }
 
-ran_stopped : {S : Type 0} (serves : Serving S) (fault : PipeFault) (input : List ℕ) (rest : Option (List ℕ)) (count : ℕ) (old new : S) (outcomes : List (Option Reply)) (before after : Option (List ℕ))
+ran_stopped : {S : Type 0} {serves : Serving S} (fault : PipeFault) {input : List ℕ} {rest : Option (List ℕ)} {count : ℕ} {old new : S} {outcomes : List (Option Reply)} {before after : Option (List ℕ)}
     → Ran serves input rest count old new outcomes → AppendsUntil fault before after (script_text outcomes) → IsStopped serves fault input old new before after
-ran_stopped serves fault input rest count old new outcomes before after r t = record {
+ran_stopped {S} {serves} fault {input} {rest} {count} {old} {new} {outcomes} r t = record {
   count = count;
   allowed = rw (r.all_whole, ← r.whole_count, take-append_seam r.whole (whole_lines r.left)) r.allowed;
   outcomes = outcomes;
@@ -65,20 +72,20 @@ ran_stopped serves fault input rest count old new outcomes before after r t = re
 }
 
 -- one more line was answered
-pub served_more : {S : Type 0} (serves : Serving S) (input : List ℕ) (rest rest' : Option (List ℕ)) (count : ℕ) (old mid new : S) (before after after' : Option (List ℕ)) (ended ended' : Ended) (raw : List ℕ) (e : Bool)
+pub served_more : {S : Type 0} {serves : Serving S} {input : List ℕ} {rest rest' : Option (List ℕ)} {count : ℕ} {old mid new : S} {before after after' : Option (List ℕ)} {ended ended' : Ended} {raw : List ℕ} {e : Bool}
     → Served serves input rest count old mid before after ended → count < lines_limit → TakesLine rest rest' raw e → ServesLine serves (line_text raw e) mid new after after' ended ended'
     → Served serves input rest' (count + 1) old new before after' ended'
-served_more serves input rest rest' count old mid new before after after' ended ended' raw e s few k v = record {
+served_more {S} {serves} {input} {rest} {rest'} {count} {old} {mid} {new} {before} {after} {after'} {ended} {ended'} {raw} {e} s few k v = record {
   outcomes = s.outcomes ++ v.outcome ∷ [];
-  ran = ran_more serves input rest rest' count old mid new s.outcomes raw e v.outcome s.ran few k v.step;
+  ran = ran_more v.outcome s.ran few k v.step;
   text = rw (flat_map-append outcome_text s.outcomes (v.outcome ∷ []), append-nil (outcome_text v.outcome)) (appends_then before after after' (script_text s.outcomes) (outcome_text v.outcome) s.text v.text);
   end = v.end ∙ (ap (λ x. noted x v.outcome) s.end ∙ sym (fold-append noted nothing_noted s.outcomes (v.outcome ∷ [])))
 }
 
 -- nothing more is left
-pub served_end : {S : Type 0} (serves : Serving S) (input : List ℕ) (rest : Option (List ℕ)) (count : ℕ) (old new : S) (before after : Option (List ℕ)) (ended : Ended)
+pub served_end : {S : Type 0} {serves : Serving S} {input : List ℕ} {rest : Option (List ℕ)} {count : ℕ} {old new : S} {before after : Option (List ℕ)} {ended : Ended}
     → Served serves input rest count old new before after ended → IsAtEnd rest → IsScript serves input old new before after ended
-served_end serves input rest count old new before after ended s e =
+served_end {S} {serves} {input} s e =
     let last : s.ran.left ≡ [] = rw s.ran.is_left at e in
     let all : lines input ≡ s.ran.done = s.ran.all ∙ (ap (λ x. s.ran.done ++ lines x) last ∙ append-nil s.ran.done) in
     let whole : whole_lines input ≡ s.ran.whole = s.ran.all_whole ∙ (ap (λ x. s.ran.whole ++ whole_lines x) last ∙ append-nil s.ran.whole) in record {
@@ -90,27 +97,23 @@ served_end serves input rest count old new before after ended s e =
 }
 
 -- it stopped between two lines
-pub served_stopped : {S : Type 0} (serves : Serving S) (fault : PipeFault) (input : List ℕ) (rest : Option (List ℕ)) (count : ℕ) (old new : S) (before after : Option (List ℕ)) (ended : Ended)
+pub served_stopped : {S : Type 0} {serves : Serving S} (fault : PipeFault) {input : List ℕ} {rest : Option (List ℕ)} {count : ℕ} {old new : S} {before after : Option (List ℕ)} {ended : Ended}
     → Served serves input rest count old new before after ended → IsStopped serves fault input old new before after
-served_stopped serves fault input rest count old new before after ended s =
-    ran_stopped serves fault input rest count old new s.outcomes before after s.ran (appends_until fault before after (script_text s.outcomes) s.text)
+served_stopped {S} {serves} fault {input} {rest} {count} {old} {new} {before} {after} s = ran_stopped fault s.ran (appends_until fault before after (script_text s.outcomes) s.text)
 
--- it stopped within an answer
-pub served_cut : {S : Type 0} (serves : Serving S) (fault : PipeFault) (input : List ℕ) (rest rest' : Option (List ℕ)) (count : ℕ) (old mid new : S) (before after after' : Option (List ℕ)) (ended : Ended) (raw : List ℕ) (e : Bool)
-    → Served serves input rest count old mid before after ended → count < lines_limit → TakesLine rest rest' raw e → CutsLine serves (line_text raw e) mid new after after'
-    → ((text : List ℕ) → AppendsFront before after' text → AppendsUntil fault before after' text)
+-- it stopped at a line
+pub served_cut : {S : Type 0} {serves : Serving S} (fault : PipeFault) {input : List ℕ} {rest rest' : Option (List ℕ)} {count : ℕ} {old mid new : S} {before after after' : Option (List ℕ)} {ended : Ended} {raw : List ℕ} {e : Bool}
+    → Served serves input rest count old mid before after ended → count < lines_limit → TakesLine rest rest' raw e → StopsAtLine serves fault (line_text raw e) mid new after after'
     → IsStopped serves fault input old new before after'
-served_cut serves fault input rest rest' count old mid new before after after' ended raw e s few k v cut =
-    let front : AppendsFront before after' (script_text (s.outcomes ++ v.outcome ∷ [])) =
-      rw (flat_map-append outcome_text s.outcomes (v.outcome ∷ []), append-nil (outcome_text v.outcome)) (appends_front_then before after after' (script_text s.outcomes) (outcome_text v.outcome) s.text v.text) in
-    ran_stopped serves fault input rest' (count + 1) old new (s.outcomes ++ v.outcome ∷ []) before after'
-      (ran_more serves input rest rest' count old mid new s.outcomes raw e v.outcome s.ran few k v.step) (cut _ front)
+served_cut fault {before = before} {after = after} {after' = after'} s few k v =
+    ran_stopped fault (ran_more v.outcome s.ran few k v.step)
+      (rw (flat_map-append outcome_text s.outcomes (v.outcome ∷ []), append-nil (outcome_text v.outcome)) (until_then fault before after after' (script_text s.outcomes) (outcome_text v.outcome) s.text v.text))
 
 -- a line was taken out, and nothing more came
-pub served_kept : {S : Type 0} (serves : Serving S) (input : List ℕ) (rest rest' : Option (List ℕ)) (count : ℕ) (old new : S) (before after : Option (List ℕ)) (ended : Ended)
+pub served_kept : {S : Type 0} {serves : Serving S} {input : List ℕ} {rest rest' : Option (List ℕ)} {count : ℕ} {old new : S} {before after : Option (List ℕ)} {ended : Ended}
     → Served serves input rest count old new before after ended → Keeps rest rest' → Served serves input rest' count old new before after ended
-served_kept serves input rest None count old new before after ended s k = absurd (rw s.ran.is_left at k)
-served_kept serves input rest (Some ys) count old new before after ended s k =
+served_kept {rest' = None} s k = absurd (rw s.ran.is_left at k)
+served_kept {rest' = Some ys} s k =
     let r = s.ran in
     let same : ys ≡ r.left = rw r.is_left at k in record {
   outcomes = s.outcomes;

@@ -2,10 +2,10 @@
 use Rattle.std.specs.Prelude.{◌≡◌, ℕ, List, ◌++◌, length, Option, Some}
 use Rattle.std.specs.Str.Lines.{lines}
 use Rattle.std.specs.Io.KnownBytes.{Appends}
-use Rattle.thes_base.specs.Pipe.{AppendsFront}
 use Rattle.thes_exchange.specs.declared.reply.Reply.{Reply}
 use Rattle.thes_exchange.specs.declared.script.Ended.{Ended}
-use Rattle.thes_exchange.specs.Script.{Serving, StepLine, RunLines, AreAllowed, whole_lines, outcome_text, script_text, noted, ended_with}
+use Rattle.thes_exchange.specs.declared.script.PipeFault.{PipeFault}
+use Rattle.thes_exchange.specs.Script.{Serving, StepLine, RunLines, AreAllowed, whole_lines, AppendsUntil, outcome_text, script_text, noted, ended_with}
 
 -- a line was answered or skipped
 pub record ServesLine {S : Type 0} (serves : Serving S) (line : List ℕ) (old new : S) (before after : Option (List ℕ)) (ended ended' : Ended) : Type 0 where
@@ -14,11 +14,11 @@ pub record ServesLine {S : Type 0} (serves : Serving S) (line : List ℕ) (old n
   pub text : Appends before after (outcome_text outcome)
   pub end : ended' ≡ noted ended outcome
 
--- the same, with a front of its answer written
-pub record CutsLine {S : Type 0} (serves : Serving S) (line : List ℕ) (old new : S) (before after : Option (List ℕ)) : Type 0 where
+-- the same, and the script is stopped
+pub record StopsAtLine {S : Type 0} (serves : Serving S) (fault : PipeFault) (line : List ℕ) (old new : S) (before after : Option (List ℕ)) : Type 0 where
   pub outcome : Option Reply
   pub step : StepLine serves old line outcome new
-  pub text : AppendsFront before after (outcome_text outcome)
+  pub text : AppendsUntil fault before after (outcome_text outcome)
 
 -- so many lines were answered so, and the rest is left
 pub record Ran {S : Type 0} (serves : Serving S) (input : List ℕ) (rest : Option (List ℕ)) (count : ℕ) (old new : S) (outcomes : List (Option Reply)) : Type 0 where

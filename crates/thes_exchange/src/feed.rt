@@ -68,7 +68,7 @@ impl Feed {
         requires { IsFresh reader.old }
         ensures line { IfOk result (λ found. (found ≢ Found.End) → (raw : List ℕ)
             × TakesLine (left self.old (unread R.remaining reader.old)) (left self.new (unread R.remaining reader.new)) raw (ended_of reader.new)
-            × ((found ≡ Found.Line) → line.new.items ≡ line_text raw (ended_of reader.new))) }
+            × ((found ≡ Found.Line) → line_text raw (ended_of reader.new) ≡ line.new.items)) }
         ensures end { IfOk result (λ found. (found ≡ Found.End) → Keeps (left self.old (unread R.remaining reader.old)) (left self.new (unread R.remaining reader.new))
             × IsAtEnd (left self.new (unread R.remaining reader.new)) × (ended_of reader.new ≡ true)) }
         ensures failed { IsErrOf result Stop.Failed ↔ (failed_of reader.new ≡ true) }

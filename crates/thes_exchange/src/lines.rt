@@ -34,7 +34,7 @@ impl Lines {
         requires within { self.old.count ≤ LINES_LIMIT }
         ensures line { IfOk result (λ found. (found ≢ Found.End) → (raw : List ℕ)
             × TakesLine (left self.old.feed (unread R.remaining reader.old)) (left self.new.feed (unread R.remaining reader.new)) raw (ended_of reader.new)
-            × ((found ≡ Found.Line) → self.new.line.items ≡ line_text raw (ended_of reader.new))
+            × ((found ≡ Found.Line) → line_text raw (ended_of reader.new) ≡ self.new.line.items)
             × (self.new.count ≡ self.old.count + 1)) }
         ensures within { OnOk result (self.new.count ≤ LINES_LIMIT) }
         ensures end { IfOk result (λ found. (found ≡ Found.End) → Keeps (left self.old.feed (unread R.remaining reader.old)) (left self.new.feed (unread R.remaining reader.new))

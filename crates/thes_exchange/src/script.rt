@@ -4,7 +4,7 @@ ghost use Rattle.std.specs.Io.KnownBytes.{Appends, Keeps, IsAtEnd};
 ghost use Rattle.thes_base.specs.Pipe.{failed_of, ended_of, IsFresh, unread, written, AppendsFront};
 ghost use Rattle.thes_exchange.specs.Feed.{left};
 ghost use Rattle.thes_exchange.specs.Script.{lines_limit, is_blank, StepLine, noted_reply, nothing_noted, IsScript, IsStopped, AppendsUntil};
-ghost use Rattle.thes_exchange.specs.Served.{ServesLine, CutsLine, Served};
+ghost use Rattle.thes_exchange.specs.Served.{ServesLine, StopsAtLine, Served};
 
 use crate::desk::Desk;
 use crate::feed::Found;
@@ -86,38 +86,54 @@ fn writing(stop: Stop) -> PipeFault
     }
 }
 
-// The reply to a line that is not blank. One that there was no memory for is not performed.
-fn reply_to<D: Desk>(alloc: Global, desk: &mut D, line: &[u8], held: bool) -> Reply
-    requires { D.is_open desk.old ≡ true }
-    ensures { (text : List ℕ) → (held ≡ true → (text ≡ line.now) × (is_blank text ≡ false)) → StepLine D.serves desk.old text (Some result) desk.new }
+// Whether a line is blank, as far as it is known.
+fn is_skipped(line: &[u8], found: Found) -> bool
+    ensures skipped { result ≡ true → (found ≡ Found.Line) × (is_blank line.now ≡ true) }
+    ensures kept { result ≡ false → found ≡ Found.Line → is_blank line.now ≡ false }
 {
-    if held { desk.serve(alloc, line) } else { Reply::Faulted(Fault::OutOfMemory) }
+    match found {
+        Found::Line => is_blank(line),
+        Found::NoRoom | Found::End => false,
+    }
 }
 
-fn is_skipped(line: &[u8], held: bool) -> bool
-    ensures skipped { result ≡ true → (held ≡ true) × (is_blank line.now ≡ true) }
-    ensures kept { result ≡ false → held ≡ true → is_blank line.now ≡ false }
+// The reply to a line that is not blank. One that there was no memory for is not performed.
+fn reply_to<D: Desk>(alloc: Global, desk: &mut D, line: &[u8], found: Found) -> Reply
+    requires { D.is_open desk.old ≡ true }
+    ensures { (text : List ℕ) → ((found ≡ Found.Line) → (text ≡ line.now) × (is_blank text ≡ false)) → StepLine D.serves desk.old text (Some result) desk.new }
 {
-    held && is_blank(line)
+    match found {
+        Found::Line => desk.serve(alloc, line),
+        Found::NoRoom | Found::End => Reply::Faulted(Fault::OutOfMemory),
+    }
 }
 
 // Answers one line, if it isn't blank.
-fn serve_line<W: Write, D: Desk>(alloc: Global, writer: &mut Pipe<W>, budget: &mut Budget, desk: &mut D, line: &[u8], held: bool, ended: &mut Ended) -> Result<(), Stop>
+fn serve_line<W: Write, D: Desk>(alloc: Global, writer: &mut Pipe<W>, budget: &mut Budget, desk: &mut D, line: &[u8], found: Found, ended: &mut Ended) -> Result<(), PipeFault>
     requires writer { failed_of writer.old ≡ false }
     requires open { D.is_open desk.old ≡ true }
-    ensures ok { OnOk result ((text : List ℕ) → (held ≡ true → text ≡ line.now)
+    ensures ok { OnOk result ((text : List ℕ) → ((found ≡ Found.Line) → text ≡ line.now)
         → ServesLine D.serves text desk.old desk.new (written W.contents writer.old) (written W.contents writer.new) ended.old ended.new) }
-    ensures err { OnErr result ((text : List ℕ) → (held ≡ true → text ≡ line.now)
-        → CutsLine D.serves text desk.old desk.new (written W.contents writer.old) (written W.contents writer.new)) }
-    ensures failed { IsErrOf result Stop.Failed ↔ (failed_of writer.new ≡ true) }
-    ensures too_long { IsErrOf result Stop.TooLong → budget.new ≡ 0 }
+    ensures open { OnOk result (D.is_open desk.new ≡ true) }
+    ensures stopped { IfErr result (λ fault. (text : List ℕ) → ((found ≡ Found.Line) → text ≡ line.now)
+        → StopsAtLine D.serves fault text desk.old desk.new (written W.contents writer.old) (written W.contents writer.new)) }
+    ensures read { ¬ IsErrOf result PipeFault.Read }
+    ensures write { IsErrOf result PipeFault.Write ↔ (failed_of writer.new ≡ true) }
+    ensures too_long { IsErrOf result PipeFault.TooLong → budget.new ≡ 0 }
+    ensures closed { (fault : Fault) → IsErrOf result (PipeFault.Fault fault) → (fault ≡ Fault.OutOfMemory) × (D.is_open desk.new ≡ false) }
 {
-    if is_skipped(line, held) {
+    if is_skipped(line, found) {
         return Ok(());
     }
-    let reply = reply_to(alloc, desk, line, held);
+    let reply = reply_to(alloc, desk, line, found);
     ended.note(&reply);
-    reply.write(writer, budget)
+    if let Err(stop) = reply.write(writer, budget) {
+        return Err(writing(stop));
+    }
+    if !desk.is_open() {
+        return Err(PipeFault::Fault(Fault::OutOfMemory));
+    }
+    Ok(())
 }
 
 // One line: whether there may be more. What was served before it and it are served after it.
@@ -133,7 +149,7 @@ fn turn<R: Read, W: Write, D: Desk>(alloc: Global, lines: &mut Lines, reader: &m
     ensures going { IfOk result (λ going. going ≡ true → (ended_of reader.new ≡ false) × (lines.old.count < lines.new.count)) }
     ensures open { OnOk result (D.is_open desk.new ≡ true) }
     ensures within { OnOk result (lines.new.count ≤ lines_limit) }
-    ensures err { IfErr result (λ fault. (input : List ℕ) (start : D) (before : Option (List ℕ))
+    ensures stopped { IfErr result (λ fault. (input : List ℕ) (start : D) (before : Option (List ℕ))
         → Served D.serves input (left lines.old.feed (unread R.remaining reader.old)) lines.old.count start desk.old before (written W.contents writer.old) ended.old
         → IsStopped D.serves fault input start desk.new before (written W.contents writer.new)) }
     ensures read { IsErrOf result PipeFault.Read ↔ (failed_of reader.new ≡ true) }
@@ -147,12 +163,7 @@ fn turn<R: Read, W: Write, D: Desk>(alloc: Global, lines: &mut Lines, reader: &m
     if found == Found::End {
         return Ok(false);
     }
-    if let Err(stop) = serve_line(alloc, writer, budget, desk, &lines.line, found == Found::Line, ended) {
-        return Err(writing(stop));
-    }
-    if !desk.is_open() {
-        return Err(PipeFault::Fault(Fault::OutOfMemory));
-    }
+    serve_line(alloc, writer, budget, desk, &lines.line, found, ended)?;
     Ok(!reader.ended())
 }
 
