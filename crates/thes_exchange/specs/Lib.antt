@@ -1,0 +1,4 @@
+pub mod Readings
+pub mod Members
+pub mod Words
+pub mod Requests

@@ -1,0 +1,6 @@
+//! The texts of requests, answers and views.
+#![tactic(auto)]
+
+pub mod members;
+pub mod request;
+pub mod words;
