@@ -6,7 +6,7 @@ use Rattle.std.specs.Char.{to_ascii_lowercase}
 use Rattle.serde_json.specs.Data.{Num, Data}
 use Rattle.serde_json.specs.Read.{read}
 use Rattle.serde_json.specs.Find.{get, as_str, as_u64}
-use Rattle.thes_base.specs.Forms.{IsNumber, IsText, IsNote, IsIri, IsKey, IsRecordName, IsTagStandIn}
+use Rattle.thes_base.specs.Forms.{IsNumber, IsText, IsNote, IsIri, IsKey, IsRecordName, IsTag}
 use Rattle.thes_base.specs.Data.{LabelData}
 use Rattle.thes_base.specs.declared.data.LabelKind.{LabelKind}
 use Rattle.thes_base.specs.declared.data.LabelKind.TheVariants.{Pref, Alt, Hidden, Scope}
@@ -37,7 +37,7 @@ number_of x = formed (IsNumber (whole x)) bad.BadNumber (whole x)
 
 -- a tag is kept in lower case
 abbrev pub tag_of : List ℕ → Reading (List ℕ)
-tag_of text = formed (IsTagStandIn text) bad.BadTag (map to_ascii_lowercase text)
+tag_of text = formed (IsTag text) bad.BadTag (map to_ascii_lowercase text)
 
 abbrev pub text_of : List ℕ → Reading (List ℕ)
 text_of text = formed (IsText text) bad.BadText text
@@ -61,8 +61,11 @@ IsLabelText Scope text = IsNote text
 abbrev pub label_text_of : LabelKind → List ℕ → Reading (List ℕ)
 label_text_of kind text = formed (IsLabelText kind text) bad.BadText text
 
+pub record AreNumbers (ns : List ℕ) : Type 0 where
+  pub each : All IsNumber ns
+
 abbrev pub numbers_of : List Num → Reading (List ℕ)
-numbers_of xs = formed (All (λ x. IsNumber (whole x)) xs) bad.BadNumber (map whole xs)
+numbers_of xs = formed (AreNumbers (map whole xs)) bad.BadNumber (map whole xs)
 
 -- What changes the state: a line of the table each. The count is of all members, `do` among them.
 

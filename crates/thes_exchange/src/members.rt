@@ -1,12 +1,13 @@
 //! The members of a request's object. A member that is not there, or is of another kind, is no request's shape.
-ghost use Rattle.std.specs.Prelude.{◌≡◌, true, false, Option, Some, None, option_map, option_and_then, OnOk, IfOk, IfErr};
-ghost use Rattle.serde_json.specs.View.{view, number_view};
+ghost use Rattle.std.specs.Prelude.{◌≡◌, ◌⊎◌, map, true, false, Option, Some, None, option_map, option_and_then, OnOk, IfOk, IfErr};
+ghost use Rattle.serde_json.specs.View.{view, number_view, items_view};
 ghost use Rattle.serde_json.specs.Find.{as_object, as_str};
 ghost use Rattle.thes_exchange.specs.Words.{label_kind_named, link_kind_named, verb_named, noun_named};
-ghost use Rattle.thes_exchange.specs.Members.{has_count, count, members_of, number_in, text_in, truth_in};
+ghost use Rattle.thes_exchange.specs.Members.{has_count, count, members_of, number_in, text_in, truth_in, all_numbers, numbers_in};
 
 use crate::words::{Noun, Verb, label_kind_named, link_kind_named, noun_named, verb_named};
 use serde_json::{Number, Value};
+use std::alloc::{AllocError, Global};
 use thes_base::data::{LabelKind, LinkKind};
 use thes_base::fault::{FormFault, ReadStop};
 
@@ -70,6 +71,32 @@ pub fn link_kind_in(name: &str, value: &Value) -> Result<LinkKind, ReadStop>
     ensures err { IfErr result (λ e. (e ≡ BAD_SHAPE) × (option_and_then link_kind_named (text_in name.now (view value.now)) ≡ None)) }
 {
     link_kind_named(text_in(name, value)?).ok_or(BAD_SHAPE)
+}
+
+/// The member with this name, an array of numbers.
+pub fn numbers_in<'a>(
+    alloc: Global,
+    name: &str,
+    value: &'a Value,
+) -> Result<Vec<&'a Number>, ReadStop>
+    ensures ok { IfOk result (λ v. numbers_in name.now (view value.now) ≡ Some (map (λ n. number_view n.now) v.items)) }
+    ensures err { IfErr result (λ e. (e ≡ ReadStop.OutOfMemory) ⊎ ((e ≡ BAD_SHAPE) × (numbers_in name.now (view value.now) ≡ None))) }
+{
+    let array = value.get(name).and_then(Value::as_array).ok_or(BAD_SHAPE)?;
+    all_numbers(alloc, array)
+}
+
+// The values, if each is a number.
+fn all_numbers<'a>(alloc: Global, values: &'a [Value]) -> Result<Vec<&'a Number>, ReadStop>
+    ensures ok { IfOk result (λ v. all_numbers (items_view values.now) ≡ Some (map (λ n. number_view n.now) v.items)) }
+    ensures err { IfErr result (λ e. (e ≡ ReadStop.OutOfMemory) ⊎ ((e ≡ BAD_SHAPE) × (all_numbers (items_view values.now) ≡ None))) }
+{
+    let mut numbers = Vec::new(alloc);
+    for value in values {
+        let number = value.as_number().ok_or(BAD_SHAPE)?;
+        numbers.push(number).map_err(AllocError::from)?;
+    }
+    Ok(numbers)
 }
 
 /// A value that is the word of something to do.

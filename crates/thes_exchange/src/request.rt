@@ -1,16 +1,16 @@
 //! What a request asks for.
-ghost use Rattle.std.specs.Prelude.{◌≡◌, ◌⊎◌, Some, None, IfOk, IfErr};
+ghost use Rattle.std.specs.Prelude.{◌≡◌, map, ◌⊎◌, Some, None, IfOk, IfErr};
 ghost use Rattle.serde_json.specs.View.{view, number_view};
 ghost use Rattle.thes_base.specs.Forms.{IsNumber};
 ghost use Rattle.thes_base.specs.Reads.{Reads};
 ghost use Rattle.thes_base.specs.declared.fault.FormFault.TheVariants.{BadNumber, BadText, NotJson};
 ghost use Rattle.thes_base.specs.Data.{kind_of, text_of};
 ghost use Rattle.thes_exchange.specs.Readings.{Gives};
-ghost use Rattle.thes_exchange.specs.Requests.{whole, IsLabelText, scheme_of, concept_of, collection_of, label_of, add_label_of, drop_label_of, relabel_of, link_of, add_link_of, unlink_of, deprecate_of, merge_of, post_of, withdraw_of, command_of, totals_of, shown_concept_of, shown_postings_of, shown_posting_of, query_of, do_of, get_of, request_in, json_in, request_of};
+ghost use Rattle.thes_exchange.specs.Requests.{whole, AreNumbers, IsLabelText, scheme_of, concept_of, collection_of, outside_of, label_of, add_label_of, drop_label_of, relabel_of, link_of, add_link_of, unlink_of, deprecate_of, merge_of, split_of, post_of, withdraw_of, command_of, totals_of, shown_concept_of, shown_postings_of, shown_posting_of, query_of, do_of, get_of, request_in, json_in, request_of};
 
 use crate::members::{
-    BAD_SHAPE, has_members, label_kind_in, link_kind_in, noun_at, number_in, text_in, truth_in,
-    verb_at,
+    BAD_SHAPE, has_members, label_kind_in, link_kind_in, noun_at, number_in, numbers_in, text_in,
+    truth_in, verb_at,
 };
 use crate::words::{Noun, Verb};
 use serde_json::{Number, Value};
@@ -18,8 +18,10 @@ use std::alloc::Global;
 use thes_base::data::{Label, LabelKind, LabelValue, Link};
 use thes_base::fault::{FormFault, ReadStop};
 use thes_base::number::{PostNo, ResNo};
-use thes_base::request::Command;
-use thes_base::text::{Key, Note, RecordName, Tag, Text};
+use thes_base::request::{Command, PostNos};
+use thes_base::text::{Iri, Key, Note, RecordName, Tag, Text};
+
+const BAD_NUMBER: ReadStop = ReadStop::Form(FormFault::BadNumber);
 
 /// What a request asks to see.
 #[derive(Clone, Copy, Debug, PartialEq, Eq)]
@@ -41,22 +43,33 @@ pub enum Request {
 fn res_no(number: &Number) -> Result<ResNo, ReadStop>
     ensures { let n = whole (number_view number.now) in Reads (IsNumber n) BadNumber (λ m. m ≡ n) result }
 {
-    let n = number.as_u64().unwrap_or(0);
-    if 0 < n && n <= 0xffff_ffff {
-        return Ok(ResNo::new(n as u32));
-    }
-    Err(ReadStop::Form(FormFault::BadNumber))
+    number
+        .as_u64()
+        .and_then(|n| u32::try_from(n).ok())
+        .and_then(ResNo::from_u32)
+        .ok_or(BAD_NUMBER)
 }
 
 // The number, if it is one that a posting may have.
 fn post_no(number: &Number) -> Result<PostNo, ReadStop>
     ensures { let n = whole (number_view number.now) in Reads (IsNumber n) BadNumber (λ m. m ≡ n) result }
 {
-    let n = number.as_u64().unwrap_or(0);
-    if 0 < n && n <= 0xffff_ffff {
-        return Ok(PostNo::new(n as u32));
+    number
+        .as_u64()
+        .and_then(|n| u32::try_from(n).ok())
+        .and_then(PostNo::from_u32)
+        .ok_or(BAD_NUMBER)
+}
+
+// The numbers, if each is one that a posting may have.
+fn post_nos(alloc: Global, numbers: &[&Number]) -> Result<PostNos, ReadStop>
+    ensures { let ns = map whole (map (λ n. number_view n.now) numbers.now) in Reads (AreNumbers ns) BadNumber (λ ms. ms ≡ ns) result }
+{
+    let mut list = PostNos::new(alloc);
+    for number in numbers {
+        list.push(post_no(number)?)?;
     }
-    Err(ReadStop::Form(FormFault::BadNumber))
+    Ok(list)
 }
 
 #[tactic(auto, unfolding(crate::specs::Requests::scheme_of))]
@@ -97,6 +110,15 @@ fn collection_of(alloc: Global, value: &Value) -> Result<Command, ReadStop>
         Tag::read(alloc, tag)?,
         Text::read(alloc, text)?,
     ))
+}
+
+#[tactic(auto, unfolding(crate::specs::Requests::outside_of))]
+fn outside_of(alloc: Global, value: &Value) -> Result<Command, ReadStop>
+    ensures { Gives (outside_of (view value.now)) result }
+{
+    has_members(2, value)?;
+    let iri = text_in("iri", value)?;
+    Ok(Command::Outside(Iri::read(alloc, iri)?))
 }
 
 // A label's value, of this kind.
@@ -209,6 +231,21 @@ fn merge_of(value: &Value) -> Result<Command, ReadStop>
     Ok(Command::Merge(res_no(source)?, res_no(target)?))
 }
 
+#[tactic(auto, unfolding(crate::specs::Requests::split_of))]
+fn split_of(alloc: Global, value: &Value) -> Result<Command, ReadStop>
+    ensures { Gives (split_of (view value.now)) result }
+{
+    has_members(5, value)?;
+    let source = number_in("source", value)?;
+    let tag = text_in("tag", value)?;
+    let text = text_in("text", value)?;
+    let postings = numbers_in(alloc, "postings", value)?;
+    let source = res_no(source)?;
+    let tag = Tag::read(alloc, tag)?;
+    let text = Text::read(alloc, text)?;
+    Ok(Command::Split(source, tag, text, post_nos(alloc, &postings)?))
+}
+
 #[tactic(auto, unfolding(crate::specs::Requests::post_of))]
 fn post_of(alloc: Global, value: &Value) -> Result<Command, ReadStop>
     ensures { Gives (post_of (view value.now)) result }
@@ -249,7 +286,8 @@ fn command_of(alloc: Global, verb: Verb, value: &Value) -> Result<Command, ReadS
         Verb::Merge => merge_of(value),
         Verb::Post => post_of(alloc, value),
         Verb::Withdraw => withdraw_of(value),
-        _ => Err(ReadStop::OutOfMemory),
+        Verb::Outside => outside_of(alloc, value),
+        Verb::Split => split_of(alloc, value),
     }
 }
 
