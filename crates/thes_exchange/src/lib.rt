@@ -1,6 +1,7 @@
 //! The texts of requests, answers and views.
 #![tactic(auto)]
 
-pub mod members;
+pub mod answer;
+mod members;
 pub mod request;
-pub mod words;
+mod words;
