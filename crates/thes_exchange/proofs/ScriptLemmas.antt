@@ -8,12 +8,13 @@ use Rattle.std.specs.Io.KnownBytes.{Appends, Keeps, IsAtEnd}
 use Rattle.thes_base.specs.Pipe.{AppendsFront}
 use Rattle.thes_base.proofs.PipeLemmas.{appends_then, appends_front_then, appends_front, appends_none}
 use Rattle.thes_exchange.specs.Feed.{left, line_text, line_limit, TakesLine}
-use Rattle.thes_exchange.specs.Script.{Serving, StepLine, RunLines, AreAllowed, lines_limit, whole_lines, outcome_text, script_text, noted, ended_with, nothing_noted, IsScript, IsStopped, AppendsUntil}
+use Rattle.thes_exchange.specs.Serving.{Serving}
+use Rattle.thes_exchange.specs.Script.{StepLine, RunLines, AreAllowed, lines_limit, whole_lines, line_of, script_text, noted, ended_with, nothing_noted, IsScript, IsStopped, AppendsUntil}
 use Rattle.thes_exchange.specs.Served.{ServesLine, StopsAtLine, Ran, Served}
-use Rattle.thes_exchange.specs.declared.reply.Reply.{Reply}
+use Rattle.thes_exchange.specs.declared.serve.Outcome.{Outcome}
 use Rattle.thes_exchange.specs.declared.script.Ended.{Ended}
-use Rattle.thes_exchange.specs.declared.script.PipeFault.{PipeFault}
-use Rattle.thes_exchange.specs.declared.script.PipeFault.TheVariants.{Read, Write, TooLong, Fault}
+use Rattle.thes_base.specs.declared.fault.PipeFault.{PipeFault}
+use Rattle.thes_base.specs.declared.fault.PipeFault.TheVariants.{Read, Write, TooLong, Fault}
 use Rattle.thes_exchange.proofs.LineLemmas.{leaves}
 
 -- all that was to be written was written
@@ -30,7 +31,7 @@ until_then Write a b c xs ys f s = appends_front_then a b c xs ys f s
 until_then TooLong a b c xs ys f s = appends_front_then a b c xs ys f s
 until_then (Fault e) a b c xs ys f s = appends_then a b c xs ys f s
 
-run_more : {S : Type 0} (serves : Serving S) (old : S) (done : List (List ℕ)) (outcomes : List (Option Reply)) (mid new : S) (line : List ℕ) (o : Option Reply)
+run_more : {S : Type 0} (serves : Serving S) (old : S) (done : List (List ℕ)) (outcomes : List (Option Outcome)) (mid new : S) (line : List ℕ) (o : Option Outcome)
     → RunLines serves old done outcomes mid → StepLine serves mid line o new → RunLines serves old (done ++ line ∷ []) (outcomes ++ o ∷ []) new
 run_more {S} serves old [] [] mid new line o r s = (new, subst (λ (st : S). StepLine serves st line o new) r s, refl)
 run_more serves old [] (p ∷ outcomes) mid new line o r s = absurd r
@@ -43,7 +44,7 @@ allowed_more whole raw a few short = record {
   short = All-push (λ line. length line ≤ line_limit) whole raw a.short short
 }
 
-ran_more : {S : Type 0} {serves : Serving S} {input : List ℕ} {rest rest' : Option (List ℕ)} {count : ℕ} {old mid new : S} {outcomes : List (Option Reply)} {raw : List ℕ} {e : Bool} (o : Option Reply)
+ran_more : {S : Type 0} {serves : Serving S} {input : List ℕ} {rest rest' : Option (List ℕ)} {count : ℕ} {old mid new : S} {outcomes : List (Option Outcome)} {raw : List ℕ} {e : Bool} (o : Option Outcome)
     → Ran serves input rest count old mid outcomes → count < lines_limit → TakesLine rest rest' raw e → StepLine serves mid (line_text raw e) o new
     → Ran serves input rest' (count + 1) old new (outcomes ++ o ∷ [])
 ran_more {S} {serves} {input} {rest} {rest'} {count} {old} {mid} {new} {outcomes} {raw} {e} o r few k step =
@@ -61,7 +62,7 @@ ran_more {S} {serves} {input} {rest} {rest'} {count} {old} {mid} {new} {outcomes
   whole_count = rw (length-append r.whole (raw ∷ [])) (ap (λ n. n + 1) r.whole_count)
 }
 
-ran_stopped : {S : Type 0} {serves : Serving S} (fault : PipeFault) {input : List ℕ} {rest : Option (List ℕ)} {count : ℕ} {old new : S} {outcomes : List (Option Reply)} {before after : Option (List ℕ)}
+ran_stopped : {S : Type 0} {serves : Serving S} (fault : PipeFault) {input : List ℕ} {rest : Option (List ℕ)} {count : ℕ} {old new : S} {outcomes : List (Option Outcome)} {before after : Option (List ℕ)}
     → Ran serves input rest count old new outcomes → AppendsUntil fault before after (script_text outcomes) → IsStopped serves fault input old new before after
 ran_stopped {S} {serves} fault {input} {rest} {count} {old} {new} {outcomes} r t = record {
   count = count;
@@ -78,7 +79,7 @@ pub served_more : {S : Type 0} {serves : Serving S} {input : List ℕ} {rest res
 served_more {S} {serves} {input} {rest} {rest'} {count} {old} {mid} {new} {before} {after} {after'} {ended} {ended'} {raw} {e} s few k v = record {
   outcomes = s.outcomes ++ v.outcome ∷ [];
   ran = ran_more v.outcome s.ran few k v.step;
-  text = rw (flat_map-append outcome_text s.outcomes (v.outcome ∷ []), append-nil (outcome_text v.outcome)) (appends_then before after after' (script_text s.outcomes) (outcome_text v.outcome) s.text v.text);
+  text = rw (flat_map-append line_of s.outcomes (v.outcome ∷ []), append-nil (line_of v.outcome)) (appends_then before after after' (script_text s.outcomes) (line_of v.outcome) s.text v.text);
   end = v.end ∙ (ap (λ x. noted x v.outcome) s.end ∙ sym (fold-append noted nothing_noted s.outcomes (v.outcome ∷ [])))
 }
 
@@ -107,7 +108,7 @@ pub served_cut : {S : Type 0} {serves : Serving S} (fault : PipeFault) {input : 
     → IsStopped serves fault input old new before after'
 served_cut fault {before = before} {after = after} {after' = after'} s few k v =
     ran_stopped fault (ran_more v.outcome s.ran few k v.step)
-      (rw (flat_map-append outcome_text s.outcomes (v.outcome ∷ []), append-nil (outcome_text v.outcome)) (until_then fault before after after' (script_text s.outcomes) (outcome_text v.outcome) s.text v.text))
+      (rw (flat_map-append line_of s.outcomes (v.outcome ∷ []), append-nil (line_of v.outcome)) (until_then fault before after after' (script_text s.outcomes) (line_of v.outcome) s.text v.text))
 
 -- a line was taken out, and nothing more came
 pub served_kept : {S : Type 0} {serves : Serving S} {input : List ℕ} {rest rest' : Option (List ℕ)} {count : ℕ} {old new : S} {before after : Option (List ℕ)} {ended : Ended}

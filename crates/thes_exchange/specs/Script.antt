@@ -7,12 +7,13 @@ use Rattle.thes_base.specs.Pipe.{AppendsFront}
 use Rattle.thes_base.specs.declared.fault.Fault.TheVariants.{OutOfMemory}
 use Rattle.thes_base.specs.declared.request.Answer.TheVariants as answer
 use Rattle.thes_exchange.specs.Feed.{line_limit}
-use Rattle.thes_exchange.specs.Replies.{reply_text}
-use Rattle.thes_exchange.specs.declared.reply.Reply.{Reply}
-use Rattle.thes_exchange.specs.declared.reply.Reply.TheVariants as reply
+use Rattle.thes_exchange.specs.Serving.{Serving, outcome_text}
+use Rattle.thes_exchange.specs.declared.answer.Reply.TheVariants as reply
+use Rattle.thes_exchange.specs.declared.serve.Outcome.{Outcome}
+use Rattle.thes_exchange.specs.declared.serve.Outcome.TheVariants.{Told, Shown}
 use Rattle.thes_exchange.specs.declared.script.Ended.{Ended}
-use Rattle.thes_exchange.specs.declared.script.PipeFault.{PipeFault}
-use Rattle.thes_exchange.specs.declared.script.PipeFault.TheVariants as stop
+use Rattle.thes_base.specs.declared.fault.PipeFault.{PipeFault}
+use Rattle.thes_base.specs.declared.fault.PipeFault.TheVariants as stop
 
 -- Limits.
 
@@ -40,17 +41,13 @@ pub record AreAllowed (whole : List (List ℕ)) : Type 0 where
 abbrev pub is_blank : List ℕ → Bool
 is_blank line = list_all (λ b. b == 32 || b == 9) line
 
--- what a desk does with a line that is not blank: its state before, the line, the reply, its state after
-abbrev pub Serving : Type 0 → Type 1
-Serving S = S → List ℕ → Reply → S → Type 0
-
 -- A blank line is skipped, and any other is served. A line that there was no memory for is answered so, and changes nothing.
-abbrev pub StepLine : {S : Type 0} → Serving S → S → List ℕ → Option Reply → S → Type 0
+abbrev pub StepLine : {S : Type 0} → Serving S → S → List ℕ → Option Outcome → S → Type 0
 StepLine serves old line None new = (is_blank line ≡ true) × (new ≡ old)
-StepLine serves old line (Some answer) new = ((answer ≡ reply.Faulted OutOfMemory) × (new ≡ old)) ⊎ ((is_blank line ≡ false) × serves old line answer new)
+StepLine serves old line (Some o) new = ((o ≡ Told (reply.Fault OutOfMemory)) × (new ≡ old)) ⊎ ((is_blank line ≡ false) × serves old line o new)
 
 -- each line, one after another
-abbrev pub RunLines : {S : Type 0} → Serving S → S → List (List ℕ) → List (Option Reply) → S → Type 0
+abbrev pub RunLines : {S : Type 0} → Serving S → S → List (List ℕ) → List (Option Outcome) → S → Type 0
 RunLines serves old [] [] new = new ≡ old
 RunLines serves old [] (o ∷ outcomes) new = ⊥
 RunLines serves old (line ∷ more) [] new = ⊥
@@ -58,35 +55,35 @@ RunLines {S} serves old (line ∷ more) (o ∷ outcomes) new = (mid : S) × Step
 
 -- What is written, and how it ends.
 
-abbrev pub outcome_text : Option Reply → List ℕ
-outcome_text None = []
-outcome_text (Some answer) = reply_text answer
+abbrev pub line_of : Option Outcome → List ℕ
+line_of None = []
+line_of (Some o) = outcome_text o
 
-abbrev pub script_text : List (Option Reply) → List ℕ
-script_text outcomes = flat_map outcome_text outcomes
+abbrev pub script_text : List (Option Outcome) → List ℕ
+script_text outcomes = flat_map line_of outcomes
 
 -- a refusal, a form fault and a fault are noted
-abbrev pub noted_reply : Ended → Reply → Ended
-noted_reply e (reply.Told (answer.No r)) = record e { refused = true }
-noted_reply e (reply.Told a) = e
-noted_reply e (reply.Shown text) = e
-noted_reply e (reply.Bad f) = record e { refused = true }
-noted_reply e (reply.Faulted f) = record e { fault = Some f }
+abbrev pub noted_outcome : Ended → Outcome → Ended
+noted_outcome e (Told (reply.Answer (answer.No r))) = record e { refused = true }
+noted_outcome e (Told (reply.Answer a)) = e
+noted_outcome e (Told (reply.Bad f)) = record e { refused = true }
+noted_outcome e (Told (reply.Fault f)) = record e { fault = Some f }
+noted_outcome e (Shown text) = e
 
-abbrev pub noted : Ended → Option Reply → Ended
+abbrev pub noted : Ended → Option Outcome → Ended
 noted e None = e
-noted e (Some answer) = noted_reply e answer
+noted e (Some o) = noted_outcome e o
 
 abbrev pub nothing_noted : Ended
 nothing_noted = record { refused = false; fault = None }
 
-abbrev pub ended_with : List (Option Reply) → Ended
+abbrev pub ended_with : List (Option Outcome) → Ended
 ended_with outcomes = fold noted nothing_noted outcomes
 
 -- every line was answered, and just that was written
 pub record IsScript {S : Type 0} (serves : Serving S) (input : List ℕ) (old new : S) (before after : Option (List ℕ)) (ended : Ended) : Type 0 where
   pub allowed : AreAllowed (whole_lines input)
-  pub outcomes : List (Option Reply)
+  pub outcomes : List (Option Outcome)
   pub run : RunLines serves old (lines input) outcomes new
   pub text : Appends before after (script_text outcomes)
   pub end : ended ≡ ended_with outcomes
@@ -102,6 +99,6 @@ AppendsUntil (stop.Fault f) old new text = Appends old new text
 pub record IsStopped {S : Type 0} (serves : Serving S) (fault : PipeFault) (input : List ℕ) (old new : S) (before after : Option (List ℕ)) : Type 0 where
   pub count : ℕ
   pub allowed : AreAllowed (take count (whole_lines input))
-  pub outcomes : List (Option Reply)
+  pub outcomes : List (Option Outcome)
   pub run : RunLines serves old (take count (lines input)) outcomes new
   pub text : AppendsUntil fault before after (script_text outcomes)

@@ -1,8 +1,12 @@
 //! The texts of requests, answers and views.
 #![tactic(auto)]
 
+pub mod answer;
+pub mod desk;
 mod feed;
 mod lines;
-pub mod desk;
-pub mod reply;
+mod members;
+pub mod request;
 pub mod script;
+pub mod serve;
+mod words;

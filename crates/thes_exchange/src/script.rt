@@ -3,16 +3,18 @@ ghost use Rattle.std.specs.Prelude.{◌≡◌, ◌≢◌, ◌⊎◌, ◌+◌, �
 ghost use Rattle.std.specs.Io.KnownBytes.{Appends, Keeps, IsAtEnd};
 ghost use Rattle.thes_base.specs.Pipe.{failed_of, ended_of, IsFresh, unread, written, AppendsFront};
 ghost use Rattle.thes_exchange.specs.Feed.{left};
-ghost use Rattle.thes_exchange.specs.Script.{lines_limit, is_blank, StepLine, noted_reply, nothing_noted, IsScript, IsStopped, AppendsUntil};
+ghost use Rattle.thes_exchange.specs.Script.{lines_limit, is_blank, StepLine, noted_outcome, nothing_noted, IsScript, IsStopped, AppendsUntil};
+ghost use Rattle.thes_exchange.specs.Serving.{Serves};
 ghost use Rattle.thes_exchange.specs.Served.{ServesLine, StopsAtLine, Served};
 
+use crate::answer::Reply;
 use crate::desk::Desk;
 use crate::feed::Found;
 use crate::lines::Lines;
-use crate::reply::Reply;
+use crate::serve::{Outcome, serve};
 use std::alloc::Global;
 use std::io::{Read, Write};
-use thes_base::fault::Fault;
+use thes_base::fault::{Fault, PipeFault};
 use thes_base::pipe::{Budget, Pipe, Stop};
 use thes_base::request::Answer;
 
@@ -23,15 +25,6 @@ pub struct Ended {
     pub refused: bool,
     /// The last fault that stood in place of an answer.
     pub fault: Option<Fault>,
-}
-
-/// What stops an engine before its end.
-#[derive(Clone, Copy, Debug, PartialEq, Eq)]
-pub enum PipeFault {
-    Read,
-    Write,
-    TooLong,
-    Fault(Fault),
 }
 
 impl Ended {
@@ -45,14 +38,14 @@ impl Ended {
         }
     }
 
-    // Notes what an answer was.
-    fn note(&mut self, reply: &Reply)
-        ensures { self.new ≡ noted_reply self.old reply.now }
+    // Notes what a line was answered with.
+    fn note(&mut self, outcome: &Outcome)
+        ensures { self.new ≡ noted_outcome self.old outcome.now }
     {
-        match reply {
-            Reply::Told(Answer::No(_)) | Reply::Bad(_) => self.refused = true,
-            Reply::Told(_) | Reply::Shown(_) => {}
-            Reply::Faulted(fault) => self.fault = Some(*fault),
+        match outcome {
+            Outcome::Told(Reply::Answer(Answer::No(_)) | Reply::Bad(_)) => self.refused = true,
+            Outcome::Told(Reply::Fault(fault)) => self.fault = Some(*fault),
+            Outcome::Told(Reply::Answer(_)) | Outcome::Shown(_) => {}
         }
     }
 }
@@ -97,14 +90,14 @@ fn is_skipped(line: &[u8], found: Found) -> bool
     }
 }
 
-// The reply to a line that is not blank. One that there was no memory for is not performed.
-fn reply_to<D: Desk>(alloc: Global, desk: &mut D, line: &[u8], found: Found) -> Reply
+// What a line that is not blank is answered with. One that there was no memory for is not performed.
+fn outcome_of<D: Desk>(alloc: Global, desk: &mut D, line: &[u8], found: Found) -> Outcome
     requires { D.is_open desk.old ≡ true }
-    ensures { (text : List ℕ) → ((found ≡ Found.Line) → (text ≡ line.now) × (is_blank text ≡ false)) → StepLine D.serves desk.old text (Some result) desk.new }
+    ensures { (text : List ℕ) → ((found ≡ Found.Line) → (text ≡ line.now) × (is_blank text ≡ false)) → StepLine (Serves D.performs D.shows) desk.old text (Some result) desk.new }
 {
     match found {
-        Found::Line => desk.serve(alloc, line),
-        Found::NoRoom | Found::End => Reply::Faulted(Fault::OutOfMemory),
+        Found::Line => serve(alloc, desk, line),
+        Found::NoRoom | Found::End => Outcome::Told(Reply::Fault(Fault::OutOfMemory)),
     }
 }
 
@@ -113,10 +106,10 @@ fn serve_line<W: Write, D: Desk>(alloc: Global, writer: &mut Pipe<W>, budget: &m
     requires writer { failed_of writer.old ≡ false }
     requires open { D.is_open desk.old ≡ true }
     ensures ok { OnOk result ((text : List ℕ) → ((found ≡ Found.Line) → text ≡ line.now)
-        → ServesLine D.serves text desk.old desk.new (written W.contents writer.old) (written W.contents writer.new) ended.old ended.new) }
+        → ServesLine (Serves D.performs D.shows) text desk.old desk.new (written W.contents writer.old) (written W.contents writer.new) ended.old ended.new) }
     ensures open { OnOk result (D.is_open desk.new ≡ true) }
     ensures stopped { IfErr result (λ fault. (text : List ℕ) → ((found ≡ Found.Line) → text ≡ line.now)
-        → StopsAtLine D.serves fault text desk.old desk.new (written W.contents writer.old) (written W.contents writer.new)) }
+        → StopsAtLine (Serves D.performs D.shows) fault text desk.old desk.new (written W.contents writer.old) (written W.contents writer.new)) }
     ensures read { ¬ IsErrOf result PipeFault.Read }
     ensures write { IsErrOf result PipeFault.Write ↔ (failed_of writer.new ≡ true) }
     ensures too_long { IsErrOf result PipeFault.TooLong → budget.new ≡ 0 }
@@ -125,9 +118,9 @@ fn serve_line<W: Write, D: Desk>(alloc: Global, writer: &mut Pipe<W>, budget: &m
     if is_skipped(line, found) {
         return Ok(());
     }
-    let reply = reply_to(alloc, desk, line, found);
-    ended.note(&reply);
-    if let Err(stop) = reply.write(writer, budget) {
+    let outcome = outcome_of(alloc, desk, line, found);
+    ended.note(&outcome);
+    if let Err(stop) = outcome.write(writer, budget) {
         return Err(writing(stop));
     }
     if !desk.is_open() {
@@ -143,15 +136,15 @@ fn turn<R: Read, W: Write, D: Desk>(alloc: Global, lines: &mut Lines, reader: &m
     requires open { D.is_open desk.old ≡ true }
     requires within { lines.old.count ≤ lines_limit }
     ensures ok { OnOk result ((input : List ℕ) (start : D) (before : Option (List ℕ))
-        → Served D.serves input (left lines.old.feed (unread R.remaining reader.old)) lines.old.count start desk.old before (written W.contents writer.old) ended.old
-        → Served D.serves input (left lines.new.feed (unread R.remaining reader.new)) lines.new.count start desk.new before (written W.contents writer.new) ended.new) }
+        → Served (Serves D.performs D.shows) input (left lines.old.feed (unread R.remaining reader.old)) lines.old.count start desk.old before (written W.contents writer.old) ended.old
+        → Served (Serves D.performs D.shows) input (left lines.new.feed (unread R.remaining reader.new)) lines.new.count start desk.new before (written W.contents writer.new) ended.new) }
     ensures end { IfOk result (λ going. going ≡ false → IsAtEnd (left lines.new.feed (unread R.remaining reader.new)) × (ended_of reader.new ≡ true)) }
     ensures going { IfOk result (λ going. going ≡ true → (ended_of reader.new ≡ false) × (lines.old.count < lines.new.count)) }
     ensures open { OnOk result (D.is_open desk.new ≡ true) }
     ensures within { OnOk result (lines.new.count ≤ lines_limit) }
     ensures stopped { IfErr result (λ fault. (input : List ℕ) (start : D) (before : Option (List ℕ))
-        → Served D.serves input (left lines.old.feed (unread R.remaining reader.old)) lines.old.count start desk.old before (written W.contents writer.old) ended.old
-        → IsStopped D.serves fault input start desk.new before (written W.contents writer.new)) }
+        → Served (Serves D.performs D.shows) input (left lines.old.feed (unread R.remaining reader.old)) lines.old.count start desk.old before (written W.contents writer.old) ended.old
+        → IsStopped (Serves D.performs D.shows) fault input start desk.new before (written W.contents writer.new)) }
     ensures read { IsErrOf result PipeFault.Read ↔ (failed_of reader.new ≡ true) }
     ensures write { IsErrOf result PipeFault.Write ↔ (failed_of writer.new ≡ true) }
     ensures closed { (fault : Fault) → IsErrOf result (PipeFault.Fault fault) → (fault ≡ Fault.OutOfMemory) × (D.is_open desk.new ≡ false) }
@@ -175,18 +168,16 @@ pub fn script<R: Read, W: Write, D: Desk>(alloc: Global, reader: &mut Pipe<R>, w
     requires writer { IsFresh writer.old }
     requires open { D.is_open desk.old ≡ true }
     ensures ok { IfOk result (λ ended. IfSome (unread R.remaining reader.old) (λ input.
-        IsScript D.serves input desk.old desk.new (written W.contents writer.old) (written W.contents writer.new) ended)) }
+        IsScript (Serves D.performs D.shows) input desk.old desk.new (written W.contents writer.old) (written W.contents writer.new) ended)) }
     ensures end { OnOk result (ended_of reader.new ≡ true) }
     ensures open { OnOk result (D.is_open desk.new ≡ true) }
     ensures stopped { IfErr result (λ fault. IfSome (unread R.remaining reader.old) (λ input.
-        IsStopped D.serves fault input desk.old desk.new (written W.contents writer.old) (written W.contents writer.new))) }
+        IsStopped (Serves D.performs D.shows) fault input desk.old desk.new (written W.contents writer.old) (written W.contents writer.new))) }
     ensures read { IsErrOf result PipeFault.Read ↔ (failed_of reader.new ≡ true) }
     ensures write { IsErrOf result PipeFault.Write ↔ (failed_of writer.new ≡ true) }
     ensures fault { (fault : Fault) → IsErrOf result (PipeFault.Fault fault) → (fault ≡ Fault.OutOfMemory) × ((desk.new ≡ desk.old) ⊎ (D.is_open desk.new ≡ false)) }
 {
-    let Ok(mut lines) = Lines::new(alloc) else {
-        return Err(PipeFault::Fault(Fault::OutOfMemory));
-    };
+    let mut lines = Lines::new(alloc)?;
     let mut budget = Budget::new();
     let mut ended = Ended::new();
     while turn(alloc, &mut lines, reader, writer, &mut budget, desk, &mut ended)? {}
