@@ -3,6 +3,7 @@ ghost use Rattle.std.specs.Prelude.{◌≡◌, ◌≢◌, ◌≤◌, ◌⊎◌, 
 ghost use Rattle.std.specs.Io.KnownBytes.{Keeps, IsAtEnd};
 ghost use Rattle.thes_base.specs.Pipe.{failed_of, ended_of, IsFresh, unread};
 ghost use Rattle.thes_exchange.specs.Feed.{left, TakesLine, IsTooLong, line_text};
+ghost use Rattle.thes_exchange.specs.Script.{lines_limit};
 
 use crate::feed::{Feed, Found};
 use std::alloc::{AllocError, Global};
@@ -31,17 +32,17 @@ impl Lines {
     /// Finds the next line. It is too long where the line is, or is one too many.
     pub fn next_line<R: Read>(&mut self, reader: &mut Pipe<R>, budget: &mut Budget) -> Result<Found, Stop>
         requires fresh { IsFresh reader.old }
-        requires within { self.old.count ≤ LINES_LIMIT }
+        requires within { self.old.count ≤ lines_limit }
         ensures line { IfOk result (λ found. (found ≢ Found.End) → (raw : List ℕ)
             × TakesLine (left self.old.feed (unread R.remaining reader.old)) (left self.new.feed (unread R.remaining reader.new)) raw (ended_of reader.new)
             × ((found ≡ Found.Line) → line_text raw (ended_of reader.new) ≡ self.new.line.items)
             × (self.new.count ≡ self.old.count + 1)) }
-        ensures within { OnOk result (self.new.count ≤ LINES_LIMIT) }
+        ensures within { OnOk result (self.new.count ≤ lines_limit) }
         ensures end { IfOk result (λ found. (found ≡ Found.End) → Keeps (left self.old.feed (unread R.remaining reader.old)) (left self.new.feed (unread R.remaining reader.new))
             × IsAtEnd (left self.new.feed (unread R.remaining reader.new)) × (ended_of reader.new ≡ true) × (self.new.count ≡ self.old.count)) }
         ensures failed { IsErrOf result Stop.Failed ↔ (failed_of reader.new ≡ true) }
         ensures too_long { IsErrOf result Stop.TooLong → (budget.new ≡ 0) ⊎ (IsTooLong (left self.old.feed (unread R.remaining reader.old))
-            ⊎ ((self.old.count ≡ LINES_LIMIT) × (raw : List ℕ) × TakesLine (left self.old.feed (unread R.remaining reader.old)) (left self.new.feed (unread R.remaining reader.new)) raw (ended_of reader.new))) }
+            ⊎ ((self.old.count ≡ lines_limit) × (raw : List ℕ) × TakesLine (left self.old.feed (unread R.remaining reader.old)) (left self.new.feed (unread R.remaining reader.new)) raw (ended_of reader.new))) }
     {
         let found = self.feed.take_line(reader, budget, &mut self.line)?;
         if found == Found::End {
