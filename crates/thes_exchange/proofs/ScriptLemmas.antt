@@ -5,31 +5,16 @@ use Rattle.std.proofs.lemmas.List.Elements.{All-push, All-nil}
 use Rattle.std.proofs.Math.Seq.{take-append_seam}
 use Rattle.std.specs.Str.Lines.{lines}
 use Rattle.std.specs.Io.KnownBytes.{Appends, Keeps, IsAtEnd}
-use Rattle.thes_base.specs.Pipe.{AppendsFront}
-use Rattle.thes_base.proofs.PipeLemmas.{appends_then, appends_front_then, appends_front, appends_none}
+use Rattle.thes_base.specs.Pipe.{AppendsUntil}
+use Rattle.thes_base.proofs.PipeLemmas.{appends_then, appends_none, appends_until, until_then}
 use Rattle.thes_exchange.specs.Feed.{left, line_text, line_limit, TakesLine}
 use Rattle.thes_exchange.specs.Serving.{Serving}
-use Rattle.thes_exchange.specs.Script.{StepLine, RunLines, AreAllowed, lines_limit, whole_lines, line_of, script_text, noted, ended_with, nothing_noted, IsScript, IsStopped, AppendsUntil}
+use Rattle.thes_exchange.specs.Script.{StepLine, RunLines, AreAllowed, lines_limit, whole_lines, line_of, script_text, noted, ended_with, nothing_noted, IsScript, IsStopped}
 use Rattle.thes_exchange.specs.Served.{ServesLine, StopsAtLine, Ran, Served}
 use Rattle.thes_exchange.specs.declared.serve.Outcome.{Outcome}
 use Rattle.thes_exchange.specs.declared.script.Ended.{Ended}
 use Rattle.thes_base.specs.declared.fault.PipeFault.{PipeFault}
-use Rattle.thes_base.specs.declared.fault.PipeFault.TheVariants.{Read, Write, TooLong, Fault}
 use Rattle.thes_exchange.proofs.LineLemmas.{leaves}
-
--- all that was to be written was written
-pub appends_until : (fault : PipeFault) (old new : Option (List ℕ)) (text : List ℕ) → Appends old new text → AppendsUntil fault old new text
-appends_until Read old new text a = a
-appends_until Write old new text a = appends_front old new text a
-appends_until TooLong old new text a = appends_front old new text a
-appends_until (Fault f) old new text a = a
-
--- all of the first text, and then the second until it stopped
-until_then : (fault : PipeFault) (a b c : Option (List ℕ)) (xs ys : List ℕ) → Appends a b xs → AppendsUntil fault b c ys → AppendsUntil fault a c (xs ++ ys)
-until_then Read a b c xs ys f s = appends_then a b c xs ys f s
-until_then Write a b c xs ys f s = appends_front_then a b c xs ys f s
-until_then TooLong a b c xs ys f s = appends_front_then a b c xs ys f s
-until_then (Fault e) a b c xs ys f s = appends_then a b c xs ys f s
 
 run_more : {S : Type 0} (serves : Serving S) (old : S) (done : List (List ℕ)) (outcomes : List (Option Outcome)) (mid new : S) (line : List ℕ) (o : Option Outcome)
     → RunLines serves old done outcomes mid → StepLine serves mid line o new → RunLines serves old (done ++ line ∷ []) (outcomes ++ o ∷ []) new

@@ -1,9 +1,9 @@
 //! Scripts: a request on each line, answered by a line before the next is read.
 ghost use Rattle.std.specs.Prelude.{◌≡◌, ◌≢◌, ◌⊎◌, ◌+◌, ◌<◌, ◌≤◌, true, false, List, ℕ, Option, Some, IfOk, IfErr, OnOk, OnErr, IfSome, IsErrOf, ◌↔◌, IsTrue};
 ghost use Rattle.std.specs.Io.KnownBytes.{Appends, Keeps, IsAtEnd};
-ghost use Rattle.thes_base.specs.Pipe.{failed_of, ended_of, IsFresh, unread, written, AppendsFront};
+ghost use Rattle.thes_base.specs.Pipe.{failed_of, ended_of, IsFresh, unread, written};
 ghost use Rattle.thes_exchange.specs.Feed.{left};
-ghost use Rattle.thes_exchange.specs.Script.{lines_limit, is_blank, StepLine, noted_outcome, nothing_noted, IsScript, IsStopped, AppendsUntil};
+ghost use Rattle.thes_exchange.specs.Script.{lines_limit, is_blank, StepLine, noted_outcome, nothing_noted, IsScript, IsStopped};
 ghost use Rattle.thes_exchange.specs.Serving.{Serves};
 ghost use Rattle.thes_exchange.specs.Served.{ServesLine, StopsAtLine, Served};
 
@@ -15,7 +15,7 @@ use crate::serve::{Outcome, serve};
 use std::alloc::Global;
 use std::io::{Read, Write};
 use thes_base::fault::{Fault, PipeFault};
-use thes_base::pipe::{Budget, Pipe, Stop};
+use thes_base::pipe::{Budget, Pipe};
 use thes_base::request::Answer;
 
 #[cfg(test)]
@@ -57,29 +57,6 @@ fn is_blank(line: &[u8]) -> bool
     ensures { result ≡ is_blank line.now }
 {
     line.iter().all(|byte| *byte == b' ' || *byte == b'\t')
-}
-
-fn reading(stop: Stop) -> PipeFault
-    ensures read { (result ≡ PipeFault.Read) ↔ (stop ≡ Stop.Failed) }
-    ensures too_long { (result ≡ PipeFault.TooLong) ↔ (stop ≡ Stop.TooLong) }
-    ensures not_write { result ≢ PipeFault.Write }
-{
-    match stop {
-        Stop::Failed => PipeFault::Read,
-        Stop::TooLong => PipeFault::TooLong,
-    }
-}
-
-fn writing(stop: Stop) -> PipeFault
-    ensures write { (result ≡ PipeFault.Write) ↔ (stop ≡ Stop.Failed) }
-    ensures too_long { (result ≡ PipeFault.TooLong) ↔ (stop ≡ Stop.TooLong) }
-    ensures not_read { result ≢ PipeFault.Read }
-    ensures front { (old new : Option (List ℕ)) (text : List ℕ) → AppendsFront old new text → AppendsUntil result old new text }
-{
-    match stop {
-        Stop::Failed => PipeFault::Write,
-        Stop::TooLong => PipeFault::TooLong,
-    }
 }
 
 // Whether a line is blank, as far as it is known.
@@ -124,7 +101,7 @@ fn serve_line<W: Write, D: Desk>(alloc: Global, writer: &mut Pipe<W>, budget: &m
     let outcome = outcome_of(alloc, desk, line, found);
     ended.note(&outcome);
     if let Err(stop) = outcome.write(writer, budget) {
-        return Err(writing(stop));
+        return Err(stop.writing());
     }
     if !desk.is_open() {
         return Err(PipeFault::Fault(Fault::OutOfMemory));
@@ -154,7 +131,7 @@ fn turn<R: Read, W: Write, D: Desk>(alloc: Global, lines: &mut Lines, reader: &m
 {
     let found = match lines.next_line(reader, budget) {
         Ok(found) => found,
-        Err(stop) => return Err(reading(stop)),
+        Err(stop) => return Err(stop.reading()),
     };
     if found == Found::End {
         return Ok(false);
