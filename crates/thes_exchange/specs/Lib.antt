@@ -3,3 +3,6 @@ pub mod Members
 pub mod Words
 pub mod Requests
 pub mod AnswerTexts
+pub mod Shown
+pub mod ViewTexts
+pub mod ConceptMembers

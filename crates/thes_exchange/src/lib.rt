@@ -4,4 +4,5 @@
 pub mod answer;
 mod members;
 pub mod request;
+pub mod view;
 mod words;
