@@ -6,7 +6,7 @@ use Rattle.serde_json.specs.Written.{has_float, items_have_float}
 use Rattle.thes_base.specs.declared.data.History.{History}
 use Rattle.thes_base.specs.declared.data.Move.{Move}
 use Rattle.thes_base.specs.Postings.{led}
-use Rattle.thes_exchange.specs.Shown.{ConceptShown}
+use Rattle.thes_base.specs.Views.{ConceptShown}
 use Rattle.thes_exchange.specs.ConceptMembers.{with_labels, with_links, with_facts}
 use Rattle.thes_exchange.specs.ViewTexts.{num, number_or_null, listed, tagged_data, mapping_data, move_data, row_data, concept_data, postings_data, posting_data}
 
@@ -21,10 +21,19 @@ or_null_has_none (Some n) = refl
 pub concept_has_no_float : (c : ConceptShown) → has_float (concept_data c) ≡ false
 unfolding concept_data
 concept_has_no_float c =
-  rw (list_has_none tagged_data (λ x. refl) c.alt, list_has_none num (λ x. refl) c.broader, list_has_none num (λ x. refl) c.collections,
-    list_has_none tagged_data (λ x. refl) c.hidden, list_has_none mapping_data (λ x. refl) c.mappings, list_has_none num (λ x. refl) c.narrower,
-    list_has_none tagged_data (λ x. refl) c.pref, list_has_none num (λ x. refl) c.related, or_null_has_none c.replaced, or_null_has_none c.scheme,
-    list_has_none tagged_data (λ x. refl) c.scope) refl
+    rw (
+      list_has_none tagged_data (λ x. refl) c.alt,
+      list_has_none num (λ x. refl) c.broader,
+      list_has_none num (λ x. refl) c.collections,
+      list_has_none tagged_data (λ x. refl) c.hidden,
+      list_has_none mapping_data (λ x. refl) c.mappings,
+      list_has_none num (λ x. refl) c.narrower,
+      list_has_none tagged_data (λ x. refl) c.pref,
+      list_has_none num (λ x. refl) c.related,
+      or_null_has_none c.replaced,
+      or_null_has_none c.scheme,
+      list_has_none tagged_data (λ x. refl) c.scope,
+    ) refl
 
 pub postings_have_no_float : (hs : List History) → has_float (postings_data hs) ≡ false
 postings_have_no_float hs = rw (list_has_none row_data (λ h. refl) hs) refl
@@ -42,4 +51,4 @@ pub led_last : (from : ℕ) (moves : List Move) (m : Move) → slice_get moves (
 led_last from [] m e = absurd (cc)
 led_last from (x ∷ []) m e = ap (λ (y : Move). y.target) (let same : x ≡ m = cc in same)
 led_last from (x ∷ y ∷ moves) m e =
-  led_last x.target (y ∷ moves) m (subst (λ n. slice_get (x ∷ y ∷ moves) n ≡ Some m) (let q : length (x ∷ y ∷ moves) - 1 ≡ suc (length (y ∷ moves) - 1) = omega arith in q) e)
+    led_last x.target (y ∷ moves) m (subst (λ n. slice_get (x ∷ y ∷ moves) n ≡ Some m) (let q : length (x ∷ y ∷ moves) - 1 ≡ suc (length (y ∷ moves) - 1) = omega arith in q) e)

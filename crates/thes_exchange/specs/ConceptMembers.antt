@@ -1,7 +1,7 @@
 -- The members of a concept's view as they are put in, a group at a time. For private clauses.
 use Rattle.std.specs.Prelude.{codes}
 use Rattle.serde_json.specs.Data.{Members, boolean, put}
-use Rattle.thes_exchange.specs.Shown.{ConceptShown}
+use Rattle.thes_base.specs.Views.{ConceptShown}
 use Rattle.thes_exchange.specs.ViewTexts.{num, number_or_null, listed, tagged_data, mapping_data}
 
 unfoldable pub with_labels : ConceptShown → Members → Members

@@ -6,3 +6,5 @@ pub mod AnswerTexts
 pub mod Shown
 pub mod ViewTexts
 pub mod ConceptMembers
+pub mod ViewOf
+pub mod Laws

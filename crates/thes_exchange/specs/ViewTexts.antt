@@ -7,10 +7,10 @@ use Rattle.thes_base.specs.declared.data.History.{History}
 use Rattle.thes_base.specs.declared.data.LinkKind.{LinkKind}
 use Rattle.thes_base.specs.declared.data.Move.{Move}
 use Rattle.thes_base.specs.Postings.{place}
-use Rattle.thes_exchange.specs.Shown.{Tagged, ConceptShown}
+use Rattle.thes_base.specs.Views.{Tagged, ConceptShown}
 use Rattle.thes_exchange.specs.Words.{link_word}
 use Rattle.thes_exchange.specs.AnswerTexts.{refusal_text}
-use Rattle.thes_exchange.specs.declared.view.Totals.{Totals}
+use Rattle.thes_base.specs.declared.data.Totals.{Totals}
 use Rattle.thes_exchange.specs.declared.view.View.{View}
 use Rattle.thes_exchange.specs.declared.view.View.TheVariants as views
 

@@ -2,6 +2,7 @@
 #![tactic(auto)]
 
 pub mod answer;
+pub mod laws;
 mod members;
 pub mod request;
 pub mod view;

@@ -3,6 +3,7 @@ ghost use Rattle.std.specs.Prelude.{◌≡◌, IfOk, OnOk, map, false};
 ghost use Rattle.serde_json.specs.View.{view, members_view};
 ghost use Rattle.serde_json.specs.Written.{has_float};
 ghost use Rattle.thes_base.specs.Postings.{place};
+ghost use Rattle.thes_exchange.specs.Shown.{tagged};
 ghost use Rattle.thes_exchange.specs.ConceptMembers.{with_labels, with_links, with_facts};
 ghost use Rattle.thes_exchange.specs.ViewTexts.{num, listed, number_or_null, tagged_data, mapping_data, move_data, row_data, totals_data, concept_data, postings_data, posting_data, line_text, view_text};
 
@@ -11,17 +12,9 @@ use crate::words::link_word;
 use serde_json::{Map, Value, json, put};
 use std::alloc::{AllocError, Global};
 use std::marker::Model;
-use thes_base::data::{History, Label, LinkKind, Move};
+use thes_base::data::{History, Label, LinkKind, Move, Totals};
 use thes_base::fault::Refusal;
 use thes_base::number::ResNo;
-
-/// How many postings were accepted, how many of them stand, and how many are withdrawn.
-#[derive(Clone, Copy, Debug, PartialEq, Eq)]
-pub struct Totals {
-    pub accepted: u64,
-    pub standing: u64,
-    pub withdrawn: u64,
-}
 
 /// A concept with its labels, its links and the count of the postings that stand at it.
 #[derive(Drop)]
@@ -45,26 +38,27 @@ pub struct ConceptView<'a> {
 
 impl<'a> Model for ConceptView<'a> {
     ghost use Rattle.std.specs.Prelude.{map};
-    ghost use Rattle.thes_exchange.specs.Shown.{ConceptShown};
+    ghost use Rattle.thes_base.specs.Views.{ConceptShown};
+    ghost use Rattle.thes_exchange.specs.Shown.{tagged};
 
     ghost Value = { ConceptShown };
 
     ghost view = { λ c. record {
-        alt = map (λ l. record { tag = l.now.tag; text = l.now.text }) c.alt.items;
-        broader = c.broader.items;
-        collections = c.collections.items;
-        hidden = map (λ l. record { tag = l.now.tag; text = l.now.text }) c.hidden.items;
-        live = c.live;
-        mappings = c.mappings.items;
-        narrower = c.narrower.items;
-        number = c.number;
-        postings = c.postings;
-        pref = map (λ l. record { tag = l.now.tag; text = l.now.text }) c.pref.items;
-        related = c.related.items;
-        replaced = c.replaced;
-        scheme = c.scheme;
-        scope = map (λ l. record { tag = l.now.tag; text = l.now.text }) c.scope.items;
-        top = c.top
+      alt = map (λ l. tagged l.now) c.alt.items;
+      broader = c.broader.items;
+      collections = c.collections.items;
+      hidden = map (λ l. tagged l.now) c.hidden.items;
+      live = c.live;
+      mappings = c.mappings.items;
+      narrower = c.narrower.items;
+      number = c.number;
+      postings = c.postings;
+      pref = map (λ l. tagged l.now) c.pref.items;
+      related = c.related.items;
+      replaced = c.replaced;
+      scheme = c.scheme;
+      scope = map (λ l. tagged l.now) c.scope.items;
+      top = c.top;
     } };
 }
 
@@ -123,13 +117,13 @@ fn numbers_value(alloc: Global, numbers: &[ResNo]) -> Result<Value, AllocError>
 }
 
 fn label_value(alloc: Global, label: &Label) -> Result<Value, AllocError>
-    ensures { IfOk result (λ v. view v ≡ tagged_data (record { tag = label.now.tag; text = label.now.text })) }
+    ensures { IfOk result (λ v. view v ≡ tagged_data (tagged label.now)) }
 {
     json!(in alloc; [label.tag.as_str(), label.text()])
 }
 
 fn labels_value(alloc: Global, labels: &[&Label]) -> Result<Value, AllocError>
-    ensures { IfOk result (λ v. view v ≡ listed tagged_data (map (λ l. record { tag = l.now.tag; text = l.now.text }) labels.now)) }
+    ensures { IfOk result (λ v. view v ≡ listed tagged_data (map (λ l. tagged l.now) labels.now)) }
 {
     let mut list = Vec::new(alloc);
     for label in labels {
@@ -157,30 +151,77 @@ fn mappings_value(alloc: Global, mappings: &[(LinkKind, ResNo)]) -> Result<Value
 
 // Adds the labels of a concept to the members of its view.
 #[tactic(auto, unfolding(crate::specs::ConceptMembers::with_labels))]
-fn put_labels(members: &mut Map<String, Value>, alloc: Global, concept: &ConceptView) -> Result<(), AllocError>
+fn put_labels(
+    members: &mut Map<String, Value>,
+    alloc: Global,
+    concept: &ConceptView,
+) -> Result<(), AllocError>
     ensures { OnOk result (members_view members.new.entries ≡ with_labels concept.now (members_view members.old.entries)) }
 {
     put(members, alloc, "alt", labels_value(alloc, &concept.alt)?)?;
-    put(members, alloc, "hidden", labels_value(alloc, &concept.hidden)?)?;
+    put(
+        members,
+        alloc,
+        "hidden",
+        labels_value(alloc, &concept.hidden)?,
+    )?;
     put(members, alloc, "pref", labels_value(alloc, &concept.pref)?)?;
-    put(members, alloc, "scope", labels_value(alloc, &concept.scope)?)
+    put(
+        members,
+        alloc,
+        "scope",
+        labels_value(alloc, &concept.scope)?,
+    )
 }
 
 // Adds its links.
 #[tactic(auto, unfolding(crate::specs::ConceptMembers::with_links))]
-fn put_links(members: &mut Map<String, Value>, alloc: Global, concept: &ConceptView) -> Result<(), AllocError>
+fn put_links(
+    members: &mut Map<String, Value>,
+    alloc: Global,
+    concept: &ConceptView,
+) -> Result<(), AllocError>
     ensures { OnOk result (members_view members.new.entries ≡ with_links concept.now (members_view members.old.entries)) }
 {
-    put(members, alloc, "broader", numbers_value(alloc, &concept.broader)?)?;
-    put(members, alloc, "collections", numbers_value(alloc, &concept.collections)?)?;
-    put(members, alloc, "mappings", mappings_value(alloc, &concept.mappings)?)?;
-    put(members, alloc, "narrower", numbers_value(alloc, &concept.narrower)?)?;
-    put(members, alloc, "related", numbers_value(alloc, &concept.related)?)
+    put(
+        members,
+        alloc,
+        "broader",
+        numbers_value(alloc, &concept.broader)?,
+    )?;
+    put(
+        members,
+        alloc,
+        "collections",
+        numbers_value(alloc, &concept.collections)?,
+    )?;
+    put(
+        members,
+        alloc,
+        "mappings",
+        mappings_value(alloc, &concept.mappings)?,
+    )?;
+    put(
+        members,
+        alloc,
+        "narrower",
+        numbers_value(alloc, &concept.narrower)?,
+    )?;
+    put(
+        members,
+        alloc,
+        "related",
+        numbers_value(alloc, &concept.related)?,
+    )
 }
 
 // Adds what else is shown of it.
 #[tactic(auto, unfolding(crate::specs::ConceptMembers::with_facts))]
-fn put_facts(members: &mut Map<String, Value>, alloc: Global, concept: &ConceptView) -> Result<(), AllocError>
+fn put_facts(
+    members: &mut Map<String, Value>,
+    alloc: Global,
+    concept: &ConceptView,
+) -> Result<(), AllocError>
     ensures { OnOk result (members_view members.new.entries ≡ with_facts concept.now (members_view members.old.entries)) }
 {
     put(members, alloc, "live", Value::from(concept.live))?;
