@@ -23,7 +23,7 @@ use thes_vocab::Vocab;
 pub struct Core {
     pub(crate) thesaurus: Thesaurus,
     // Want of memory has left the parts at odds.
-    spent: bool,
+    pub(crate) spent: bool,
 }
 
 impl Model for Core {
@@ -61,13 +61,6 @@ impl Core {
             },
             spent: false,
         }
-    }
-
-    /// Whether want of memory has left the state half changed. A spent core answers nothing more.
-    pub fn is_spent(&self) -> bool
-        ensures { result ≡ self.now.spent }
-    {
-        self.spent
     }
 
     /// What a request meets, before anything changes. The caller names the state that the core holds.

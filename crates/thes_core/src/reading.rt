@@ -32,6 +32,13 @@ pub struct Sizes {
 }
 
 impl Core {
+    /// Whether want of memory has left the state half changed. A spent core answers nothing more.
+    pub fn is_spent(&self) -> bool
+        ensures { result ≡ self.now.spent }
+    {
+        self.spent
+    }
+
     /// How much is held. Withdrawn postings count among those accepted.
     pub fn sizes(&self) -> Sizes
         requires { self.now.spent ≡ false }
