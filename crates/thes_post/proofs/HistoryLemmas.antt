@@ -1,14 +1,14 @@
 -- Lists of histories that are numbered from 1, and the moves pushed onto those listed and taken back.
-use Rattle.std.proofs.Common.{◌≡◌, ◌≢◌, ◌⊎◌, ◌<◌, ◌≤◌, ℕ, zero, suc, ◌+◌, ◌-◌, length, List, [], ◌∷◌, ◌++◌, refl, sym, ap, ◌∙◌, subst, arith, inl, inr, ⊎_elim, Bool, true, false, cond, not, ◌||◌, eqb, eqb-true, ne_eqb, map, take, drop, get_or, length-append}
+use Rattle.std.proofs.Common.{◌≡◌, ◌<◌, ◌≤◌, ℕ, zero, suc, ◌+◌, ◌-◌, length, List, [], ◌∷◌, ◌++◌, refl, sym, ap, ◌∙◌, subst, arith, inl, inr, ⊎_elim, Bool, true, false, cond, ◌||◌, eqb, eqb-true, ne_eqb, take, get_or, length-append}
 use borrow.Author.Tests.{eqb-false, eq-eqb}
+use Rattle.std.proofs.Math.Bool.{or-false}
 use Rattle.std.proofs.Math.Seq.{take-append_seam}
-use Rattle.std.proofs.lemmas.List.{take_more, length-take-le, set-get_or}
+use Rattle.std.proofs.lemmas.List.{take_more, length-take-le}
 use Rattle.std.proofs.lemmas.Option.{slice_get-get_or, get_or_from_slice_get}
 use Rattle.std.specs.Prelude.{Some, slice_get, slice_set}
 use Rattle.thes_base.specs.declared.data.History.{History}
 use Rattle.thes_base.specs.declared.data.Move.{Move}
-use Rattle.thes_base.specs.Resources.{numbered, set_numbered}
-use Rattle.thes_base.specs.Postings.{led, place, moved, moved_those, withdraw}
+use Rattle.thes_base.specs.Postings.{led, place, moved, moved_those}
 use Rattle.thes_base.specs.Changes.{is_listed}
 use Rattle.thes_base.specs.Refusals.{EachListed}
 use Rattle.thes_post.specs.Indexed.{AreNumberedFrom}
@@ -161,10 +161,6 @@ pub none_unmoved : (hs : List History) → unmoved_those (is_listed []) hs ≡ h
 none_unmoved [] = refl
 none_unmoved (h ∷ hs) = ap (λ l. h ∷ l) (none_unmoved hs)
 
-pub length_unmoved_those : (passes : History → Bool) (hs : List History) → length (unmoved_those passes hs) ≡ length hs
-length_unmoved_those passes [] = refl
-length_unmoved_those passes (h ∷ hs) = ap suc (length_unmoved_those passes hs)
-
 -- tests that agree take moves back alike
 unmoved_agree : (p q : History → Bool) (hs : List History) → EachHistory (λ h. p h ≡ q h) hs → unmoved_those p hs ≡ unmoved_those q hs
 unmoved_agree p q [] all = refl
@@ -172,11 +168,7 @@ unmoved_agree p q (h ∷ hs) all = λ i. cond (all.0 i) (unmoved h) h ∷ unmove
 
 -- whether a number more is listed
 listed_more : (ns : List ℕ) (n : ℕ) (h : History) → is_listed (ns ++ n ∷ []) h ≡ (is_listed ns h || eqb n h.number)
-listed_more [] n h = none (eqb n h.number)
-  where
-    none : (b : Bool) → (b || false) ≡ b
-    none true = refl
-    none false = refl
+listed_more [] n h = or-false (eqb n h.number)
 listed_more (m ∷ ns) n h = (λ i. eqb m h.number || listed_more ns n h i) ∙ either (eqb m h.number) (is_listed ns h) (eqb n h.number)
   where
     either : (a b c : Bool) → (a || (b || c)) ≡ ((a || b) || c)
@@ -191,20 +183,12 @@ unmoved_next first ns (h ∷ hs) zero n d num at new l =
     let here : n ≡ h.number = omega (arith, num.0) in
     let before : is_listed ns h ≡ false = ap (has ns) (sym here) ∙ new in
     let after : is_listed (ns ++ n ∷ []) h ≡ true = listed_more ns n h ∙ (λ j. before j || eq-eqb n h.number here j) in
-    let rest = unmoved_agree (is_listed (ns ++ n ∷ [])) (is_listed ns) hs (each_map (λ g. first + 1 ≤ g.number) (λ g. is_listed (ns ++ n ∷ []) g ≡ is_listed ns g) (λ g m. listed_more ns n g ∙ (λ j. is_listed ns g || ne_eqb n g.number (let q = num.0 in omega arith) j) ∙ or_false (is_listed ns g)) hs (numbers_above (first + 1) hs num.1)) in
+    let rest = unmoved_agree (is_listed (ns ++ n ∷ [])) (is_listed ns) hs (each_map (λ g. first + 1 ≤ g.number) (λ g. is_listed (ns ++ n ∷ []) g ≡ is_listed ns g) (λ g m. listed_more ns n g ∙ (λ j. is_listed ns g || ne_eqb n g.number (let q = num.0 in omega arith) j) ∙ or-false (is_listed ns g)) hs (numbers_above (first + 1) hs num.1)) in
     (λ j. cond (after j) (unmoved h) h ∷ rest j) ∙ (λ j. unmoved (cond (sym before j) (unmoved h) h) ∷ unmoved_those (is_listed ns) hs)
-  where
-    or_false : (b : Bool) → (b || false) ≡ b
-    or_false true = refl
-    or_false false = refl
 unmoved_next first ns (h ∷ hs) (suc i) n d num at new l =
     let rest = unmoved_next (first + 1) ns hs i n d num.1 (let z : n ≡ first + 1 + i = omega arith in z) new (omega arith) in
-    let same : is_listed (ns ++ n ∷ []) h ≡ is_listed ns h = listed_more ns n h ∙ (λ j. is_listed ns h || ne_eqb n h.number (let q = num.0 in omega arith) j) ∙ or_false (is_listed ns h) in
+    let same : is_listed (ns ++ n ∷ []) h ≡ is_listed ns h = listed_more ns n h ∙ (λ j. is_listed ns h || ne_eqb n h.number (let q = num.0 in omega arith) j) ∙ or-false (is_listed ns h) in
     λ j. cond (same j) (unmoved h) h ∷ rest j
-  where
-    or_false : (b : Bool) → (b || false) ≡ b
-    or_false true = refl
-    or_false false = refl
 
 -- A step of the loops over a rising list: its number at this place is the item.
 module _ (old : List History) (ns : List ℕ) (i item : ℕ) (numbers : AreNumberedFrom 1 old) (rises : RisesFrom 1 ns) (within : EachListed (λ n. n ≤ length old) ns) (inside : i < length ns) (is : item ≡ get_or ns i item) where

@@ -1,7 +1,7 @@
 -- What the indexes of a book say, and that each change keeps them.
-use Rattle.std.proofs.Common.{◌≡◌, ◌≢◌, ◌⊎◌, ◌<◌, ◌≤◌, ◌^◌, ℕ, zero, suc, ◌+◌, ◌-◌, length, List, [], ◌∷◌, ◌++◌, refl, sym, ap, ◌∙◌, subst, arith, inl, inr, ⊎_elim, Bool, true, false, cond, not, ◌&&◌, eqb, eqb-true, ne_eqb, get_or, length-append}
+use Rattle.std.proofs.Common.{◌≡◌, ◌≢◌, ◌⊎◌, ◌<◌, ◌≤◌, ◌^◌, ℕ, zero, suc, ◌+◌, ◌-◌, length, List, [], ◌∷◌, ◌++◌, refl, sym, ap, ◌∙◌, subst, arith, inl, inr, ⊎_elim, Bool, true, false, cond, eqb, eqb-true, ne_eqb, get_or, length-append}
 use borrow.Author.Tests.{eqb-false, eq-eqb}
-use Rattle.std.specs.Prelude.{Option, Some, None, IsSome, slice_get, slice_set, filter, count_by, sum_by}
+use Rattle.std.specs.Prelude.{Option, Some, None, slice_get, slice_set, count_by}
 use Rattle.std.proofs.lemmas.List.Sums.{sum_by-cons, sum_by_push, length-filter, count_by-le-length}
 use Rattle.std.proofs.lemmas.List.{append-nil, length-set, length-map}
 use Rattle.std.specs.List.Sorted.{IsPermutation}
@@ -13,15 +13,15 @@ use Rattle.thes_base.specs.Resources.{numbered, set_numbered}
 use Rattle.thes_base.specs.Postings.{place, stands_at, moved, moved_those, withdraw, move_count, withdrawn_count, standing_count}
 use Rattle.thes_base.specs.Changes.{is_listed, histories_posted, histories_withdrawn, histories_merged, histories_split}
 use Rattle.thes_base.specs.Rows.{accepted}
-use Rattle.thes_base.specs.Refusals.{IsOfKey, EachOnce, EachListed, PostingPasses, unless_standing, unless_listed}
-use Rattle.thes_base.proofs.RowLemmas.{passed_unless}
+use Rattle.thes_base.specs.Refusals.{IsOfKey, EachListed, PostingPasses, unless_standing}
 use Rattle.thes_base.proofs.NumberedLemmas.{numbered_at, numbered_bound, push_old, push_new, push_cases, set_cases, set_other, set_same}
 use Rattle.thes_base.proofs.MoveLemmas.{Moved, MovedAt, length_moved, count_moved, numbered_moved, slice_forward}
 use Rattle.thes_post.specs.Indexed.{IsIndexed, AreNumberedFrom}
 use Rattle.thes_post.specs.Rising.{RisesFrom, merged, without}
 use Rattle.thes_post.specs.Standing.{standing_numbers}
 use Rattle.thes_post.proofs.HistoryLemmas.{number_at, numbered_push, numbered_set, numbered_moved_those}
-use Rattle.thes_post.proofs.RisingLemmas.{decided, rises_weaker, as_number, has_of_each, not_true}
+use Rattle.thes_post.proofs.JudgeLemmas.{passed_standing}
+use Rattle.thes_post.proofs.RisingLemmas.{decided, rises_weaker, as_number, has_of_each}
 use Rattle.thes_post.proofs.StandingLemmas.{EachHistory, numbers_cons, moved_agree, listed_numbers, numbers_rise, numbers_listed, standing_source, standing_target, standing_other, numbers_push, standing_withdrawn, standing_kept}
 
 same_some : {A : Type 0} {x y : A} → Some x ≡ Some y → x ≡ y
@@ -203,9 +203,6 @@ listed_least test hs [] all r = tt
 listed_least test hs (n ∷ ns) all r = ((numbered_bound hs n all.0.0 all.0.1).0, r.1)
 
 module _ (hs : List History) (posting_of : List ℕ → Option ℕ) (listed_at : ℕ → List ℕ) (withdrawn_number moves_number : ℕ) (indexed : IsIndexed hs posting_of listed_at withdrawn_number moves_number) (source target : ℕ) (ns : List ℕ) (apart : source ≢ target) (rises : RisesFrom 0 ns) (all : EachListed (PostingPasses hs (stands_at source)) ns) where
-  abbrev pub after_moves : List History
-  after_moves = moved_those (is_listed ns) target (move_count hs + 1) hs
-
   passing : EachHistory (λ h. is_listed ns h ≡ true → stands_at source h ≡ true) hs
   passing = each_listed (stands_at source) hs ns indexed.numbers all
 
@@ -267,30 +264,6 @@ module _ (hs : List History) (posting_of : List ℕ → Option ℕ) (listed_at :
             ])
       ]
 
--- What an accepted row says of the postings that it names.
-
-pub passed_standing : (hs : List History) (n : ℕ) → unless_standing hs n accepted None → (h : History) × (numbered hs n ≡ Some h) × (h.withdrawn ≡ false)
-passed_standing hs n row =
-    let known = passed_unless row in
-    let passes = (passed_unless known.1).0 in
-    (passes.0, passes.1, not_true passes.0.withdrawn passes.2)
-
-stands_listed : (hs : List History) (source : ℕ) (ns : List ℕ) → EachListed (PostingPasses hs (λ h. not h.withdrawn)) ns → EachListed (PostingPasses hs (λ h. eqb (place h) source)) ns → EachListed (PostingPasses hs (stands_at source)) ns
-stands_listed hs source [] stays here = tt
-stands_listed hs source (n ∷ ns) stays here =
-    let same : here.0.0 ≡ stays.0.0 = same_some (sym here.0.1 ∙ stays.0.1) in (
-      (stays.0.0, stays.0.1, (λ i. stays.0.2 i && (ap (λ (x : History). eqb (place x) source) (sym same) ∙ here.0.2) i)),
-      stands_listed hs source ns stays.1 here.1,
-    )
-
-pub passed_listed : (hs : List History) (source : ℕ) (ns : List ℕ) → unless_listed hs source ns accepted None → EachOnce ns × EachListed (PostingPasses hs (stands_at source)) ns
-passed_listed hs source ns row =
-    let once = passed_unless row in
-    let known = passed_unless once.1 in
-    let stays = passed_unless known.1 in
-    let here = passed_unless stays.1 in
-    (once.0, stands_listed hs source ns stays.0 here.0)
-
 -- What each call of a book is to prove.
 
 module _ (hs : List History) (posting_of : List ℕ → Option ℕ) (listed_at : ℕ → List ℕ) (withdrawn_number moves_number : ℕ) (indexed : IsIndexed hs posting_of listed_at withdrawn_number moves_number) where
@@ -313,9 +286,6 @@ module _ (hs : List History) (posting_of : List ℕ → Option ℕ) (listed_at :
 
     pub withdrawing_fits : withdrawn_number + 1 < 2 ^ 32
     withdrawing_fits = let below = withdrawn_below hs posting_of listed_at withdrawn_number moves_number indexed n withdrawing.0 withdrawing.1 withdrawing.2 in let few = indexed.few in omega (arith, below, few)
-
-    pub withdrawing_within : n ≤ length hs
-    withdrawing_within = (numbered_bound hs n withdrawing.0 withdrawing.1).1
 
     pub withdrawing_is : slice_set hs (k - 1) (withdraw g) ≡ histories_withdrawn n hs
     withdrawing_is = written ∙ sym (withdrawn_at hs posting_of listed_at withdrawn_number moves_number indexed n withdrawing.0 withdrawing.1 withdrawing.2)

@@ -1,5 +1,5 @@
 -- The index of keys, when one key's posting is written.
-use Rattle.std.proofs.Common.{◌≡◌, ◌⊎◌, ℕ, List, sym, ◌∙◌, true, false, ⊎_elim}
+use Rattle.std.proofs.Common.{◌≡◌, ℕ, List, ◌∙◌, true, false, ⊎_elim}
 use Rattle.std.specs.Prelude.{Some}
 use Rattle.std.specs.BTreeMap.{BTreeMap, UpdatesBy, get}
 use Rattle.std.specs.Cmp.Lexicographic.{slice_cmp}

@@ -1,6 +1,6 @@
 -- The index of what stands at each concept, when one concept's list is written.
-use Rattle.std.proofs.Common.{◌≡◌, ◌⊎◌, ◌≤◌, ◌<◌, ℕ, arith, inl, inr, List, [], refl, sym, ap, ◌∙◌, subst, ⊎_elim, Bool, true, false, cond, eqb, eqb-true, ne_eqb, ltb, Vec, Global, Less, Equal, Greater}
-use borrow.Author.Tests.{eqb-false, eq-eqb}
+use Rattle.std.proofs.Common.{◌≡◌, ◌⊎◌, ◌≤◌, ◌<◌, ℕ, arith, inl, inr, List, [], refl, sym, ap, ◌∙◌, subst, ⊎_elim, Bool, true, false, cond, eqb, eqb-true, Vec, Global, Less, Equal, Greater}
+use borrow.Author.Tests.{eqb-false}
 use Rattle.std.specs.Prelude.{Some}
 use Rattle.std.specs.Option.{option_map_or, is_some}
 use Rattle.std.specs.Ordering.{nat_cmp, is_eq}
@@ -30,12 +30,6 @@ pub lists_same : (old new : Standing) (concept : ℕ) (numbers : List ℕ) → L
 lists_same old new concept numbers lists same c = lists c ∙ (⊎_elim
     (λ (hit : eqb concept c ≡ true). (λ i. cond (hit i) numbers (listed_at old c)) ∙ same ∙ ap (listed_at old) (eqb-true concept c hit))
     (λ (miss : eqb concept c ≡ false). (λ i. cond (miss i) numbers (listed_at old c))) (decided (eqb concept c)))
-
-pub lists_at : (old new : Standing) (concept : ℕ) (numbers : List ℕ) → Lists old new concept numbers → listed_at new concept ≡ numbers
-lists_at old new concept numbers lists = lists concept ∙ (λ i. cond (eq-eqb concept concept refl i) numbers (listed_at old concept))
-
-pub lists_others : (old new : Standing) (concept c : ℕ) (numbers : List ℕ) → Lists old new concept numbers → (concept ≡ c → ⊥) → listed_at new c ≡ listed_at old c
-lists_others old new concept c numbers lists apart = lists c ∙ (λ i. cond (ne_eqb concept c apart i) numbers (listed_at old c))
 
 -- no concept's list is lost
 pub has_list : (old new : Standing) (concept : ℕ) (v : Vec ℕ Global) → UpdatesBy nat_cmp (nat_cmp concept) old.lists new.lists (Some v) → (c : ℕ) → HasList old c → HasList new c

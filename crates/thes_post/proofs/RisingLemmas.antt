@@ -1,25 +1,26 @@
 -- Rising lists of numbers.
-use Rattle.std.proofs.Common.{◌≡◌, ◌≢◌, ◌⊎◌, ◌<◌, ◌≤◌, ℕ, zero, suc, ◌+◌, ◌-◌, length, List, [], ◌∷◌, ◌++◌, refl, sym, ap, ◌∙◌, subst, arith, inl, inr, ⊎_elim, Bool, true, false, cond, not, ◌||◌, eqb, eqb-true, ne_eqb, ltb, get_or, take, drop, length-append, append_assoc}
+use Rattle.std.proofs.Common.{◌≡◌, ◌≢◌, ◌⊎◌, ◌<◌, ◌≤◌, ℕ, zero, suc, ◌+◌, ◌-◌, length, List, [], ◌∷◌, ◌++◌, refl, sym, ap, ◌∙◌, subst, arith, inl, inr, ⊎_elim, Bool, true, false, cond, not, ◌||◌, eqb, eqb-true, ne_eqb, ltb, get_or, take, drop, append_assoc}
 use Rattle.std.proofs.lemmas.List.{append-nil, length-drop}
 use Rattle.std.proofs.lemmas.List.Elements.{filter_more}
 use Rattle.std.proofs.Math.ListN.{drop_of_length-le}
 use borrow.Author.Tests.{eqb-false, eq-eqb}
+use Rattle.std.proofs.Math.Bool.{or-true}
 use Rattle.std.proofs.lemmas.Bool.{ltb-true, lt-ltb}
-use Rattle.std.specs.Prelude.{Some, slice_get, filter, count_by, Result, Ok, Err, MatchResult}
+use Rattle.std.specs.Prelude.{Result, Ok, Err, MatchResult}
 use Rattle.std.specs.Result.{is_err}
 use Rattle.std.specs.Ordering.{nat_cmp}
 use Rattle.std.specs.List.{list_any, remove}
 use Rattle.std.specs.List.Sorted.{IsPermutation, IsNonDecreasing, IsBinarySearchResult}
-use Rattle.std.proofs.lemmas.List.Sums.{sum_by-cons}
-use Rattle.std.proofs.lemmas.List.Sorted.{sum_by-IsPermutation, list_any-IsPermutation, searched}
-use Rattle.thes_base.specs.declared.data.History.{History}
-use Rattle.thes_base.specs.Resources.{numbered}
-use Rattle.thes_base.specs.Refusals.{EachOnce, EachListed, PostingPasses}
+use Rattle.std.proofs.lemmas.List.Sorted.{list_any-IsPermutation, searched}
+use Rattle.thes_base.specs.Refusals.{EachListed}
 use Rattle.thes_post.specs.Rising.{RisesFrom, merged, merged_into, without}
 
 pub decided : (b : Bool) → (b ≡ true) ⊎ (b ≡ false)
 decided true = inl refl
 decided false = inr refl
+
+abbrev pub as_number : Bool → ℕ
+as_number b = cond b 1 0
 
 -- the list has the number
 abbrev pub has : List ℕ → ℕ → Bool
@@ -35,96 +36,6 @@ has_below least n [] l r = refl
 has_below least n (m ∷ ns) l r =
     let q = r.0 in
     ap (λ b. b || has ns n) (ne_eqb m n (omega arith)) ∙ has_below (m + 1) n ns (omega arith) r.1
-
--- Lists in which each number stands once.
-
-abbrev pub times : ℕ → List ℕ → ℕ
-times n ns = count_by (λ m. eqb m n) ns
-
-times_cons : (n m : ℕ) (ns : List ℕ) → times n (m ∷ ns) ≡ cond (eqb m n) 1 0 + times n ns
-times_cons n m ns = sum_by-cons (λ x. cond (eqb x n) 1 0) m ns
-
-abbrev pub as_number : Bool → ℕ
-as_number b = cond b 1 0
-
-one_or_none : (b : Bool) → b ≡ true → as_number b ≡ 1
-one_or_none b e = ap as_number e
-
-times_none : (n : ℕ) (ns : List ℕ) → has ns n ≡ false → times n ns ≡ 0
-times_none n [] e = refl
-times_none n (m ∷ ns) e = ⊎_elim
-    (λ (same : eqb m n ≡ true). absurd (let t : true ≡ false = sym (ap (λ b. b || has ns n) same) ∙ e in cc))
-    (λ (apart : eqb m n ≡ false).
-    let rest = times_none n ns (sym (ap (λ b. b || has ns n) apart) ∙ e) in
-    let here = ap {B = ℕ} (λ b. cond b 1 0) apart in
-    let both = times_cons n m ns in
-    omega (arith, rest, here, both)) (decided (eqb m n))
-
-times_some : (n : ℕ) (ns : List ℕ) → has ns n ≡ true → 1 ≤ times n ns
-times_some n [] e = absurd (cc)
-times_some n (m ∷ ns) e = ⊎_elim
-    (λ (same : eqb m n ≡ true). let here = one_or_none (eqb m n) same in let both = times_cons n m ns in omega (arith, here, both))
-    (λ (apart : eqb m n ≡ false).
-    let rest = times_some n ns (sym (ap (λ b. b || has ns n) apart) ∙ e) in
-    let both = times_cons n m ns in
-    omega (arith, rest, both)) (decided (eqb m n))
-
-once_times : (ns : List ℕ) → EachOnce ns → (n : ℕ) → times n ns ≤ 1
-once_times [] e n = omega arith
-once_times (m ∷ ns) e n = ⊎_elim
-    (λ (same : eqb m n ≡ true).
-    let here = one_or_none (eqb m n) same in
-    let none = times_none n ns (ap (has ns) (sym (eqb-true m n same)) ∙ e.0) in
-    let both = times_cons n m ns in
-    omega (arith, here, none, both))
-    (λ (apart : eqb m n ≡ false).
-    let rest = once_times ns e.1 n in
-    let here = ap {B = ℕ} (λ b. cond b 1 0) apart in
-    let both = times_cons n m ns in
-    omega (arith, rest, here, both)) (decided (eqb m n))
-
-times_once : (ns : List ℕ) → ((n : ℕ) → times n ns ≤ 1) → EachOnce ns
-times_once [] f = tt
-times_once (m ∷ ns) f = (
-  ⊎_elim
-      (λ (again : has ns m ≡ true).
-      let some = times_some m ns again in
-      let here = one_or_none (eqb m m) (eq-eqb m m refl) in
-      let both = times_cons m m ns in
-      let most = f m in
-      absurd (omega (arith, some, here, both, most)))
-      (λ (none : has ns m ≡ false). none) (decided (has ns m)),
-  times_once ns (λ n. let both = times_cons n m ns in let most = f n in omega (arith, both, most)),
-)
-
--- the order of a list doesn't matter
-pub once_permutation : (ms ns : List ℕ) → IsPermutation ms ns → EachOnce ms → EachOnce ns
-once_permutation ms ns p e = times_once ns (λ n. let same = sum_by-IsPermutation (λ m. cond (eqb m n) 1 0) ms ns p in let most = once_times ms e n in omega (arith, same, most))
-
-pub once_of_rises : (least : ℕ) (ns : List ℕ) → RisesFrom least ns → EachOnce ns
-once_of_rises least [] r = tt
-once_of_rises least (n ∷ ns) r = (has_below (n + 1) n ns (omega arith) r.1, once_of_rises (n + 1) ns r.1)
-
--- a list in order in which each number stands once rises
-pub rises_of_once : (least : ℕ) (ns : List ℕ) → ((k : ℕ) → k < length ns → least ≤ get_or ns k 0) → IsNonDecreasing ns → EachOnce ns → RisesFrom least ns
-rises_of_once least [] low up e = tt
-rises_of_once least (n ∷ ns) low up e = (
-  low 0 (omega arith),
-  rises_of_once (n + 1) ns above (λ i j d l m. up (suc i) (suc j) d (omega arith) (omega arith)) e.1,
-)
-  where
-    above : (k : ℕ) → k < length ns → n + 1 ≤ get_or ns k 0
-    above k l = let u : n ≤ get_or ns k 0 = up 0 (suc k) 0 (omega arith) (omega arith) in let d = apart ns k l e.0 in omega (arith, u, d)
-      where
-        apart : (ms : List ℕ) (j : ℕ) → j < length ms → has ms n ≡ false → get_or ms j 0 ≢ n
-        apart [] j m f = absurd (omega arith)
-        apart (x ∷ ms) zero m f = λ same. let t : eqb x n ≡ true = ap (λ y. eqb y n) same ∙ eq-eqb n n refl in let u : true ≡ false = sym (ap (λ b. b || has ms n) t) ∙ f in absurd (cc)
-        apart (x ∷ ms) (suc j) m f = apart ms j (omega arith) (⊎_elim
-            (λ (t : eqb x n ≡ true). let u : true ≡ false = sym (ap (λ b. b || has ms n) t) ∙ f in absurd (cc))
-            (λ (t : eqb x n ≡ false). sym (ap (λ b. b || has ms n) t) ∙ f) (decided (eqb x n)))
-
-pub rises_sorted : (ms ns : List ℕ) → IsPermutation ms ns → IsNonDecreasing ns → EachOnce ms → RisesFrom 0 ns
-rises_sorted ms ns p up e = rises_of_once 0 ns (λ k l. omega arith) up (once_permutation ms ns p e)
 
 -- a number that is listed has what each number listed has
 pub has_of_each : (P : ℕ → Type 0) (ls : List ℕ) → EachListed P ls → (n : ℕ) → has ls n ≡ true → P n
@@ -199,12 +110,6 @@ rises_take least ns zero r = tt
 rises_take least [] (suc i) r = tt
 rises_take least (n ∷ ns) (suc i) r = (r.0, rises_take (n + 1) ns i r.1)
 
-pub merged_step_second : (x y : ℕ) (xs ys : List ℕ) → ltb y x ≡ true → merged (x ∷ xs) (y ∷ ys) ≡ y ∷ merged (x ∷ xs) ys
-merged_step_second x y xs ys less = ap (λ b. cond b (y ∷ merged_into x (merged xs) ys) (x ∷ merged xs (y ∷ ys))) less
-
-pub merged_step_first : (x y : ℕ) (xs ys : List ℕ) → ltb y x ≡ false → merged (x ∷ xs) (y ∷ ys) ≡ x ∷ merged xs (y ∷ ys)
-merged_step_first x y xs ys more = ap (λ b. cond b (y ∷ merged_into x (merged xs) ys) (x ∷ merged xs (y ∷ ys))) more
-
 pub merged_none : (xs : List ℕ) → merged xs [] ≡ xs
 merged_none [] = refl
 merged_none (x ∷ xs) = ap (λ l. x ∷ l) (merged_none xs)
@@ -222,11 +127,7 @@ joined_second list xs ys i j l =
 has_at : (ns : List ℕ) (i n : ℕ) → i < length ns → get_or ns i 0 ≡ n → has ns n ≡ true
 has_at [] i n l e = absurd (omega arith)
 has_at (m ∷ ns) zero n l e = ap (λ b. b || has ns n) (eq-eqb m n e)
-has_at (m ∷ ns) (suc i) n l e = (λ j. eqb m n || has_at ns i n (omega arith) e j) ∙ or_true (eqb m n)
-  where
-    or_true : (b : Bool) → (b || true) ≡ true
-    or_true true = refl
-    or_true false = refl
+has_at (m ∷ ns) (suc i) n l e = (λ j. eqb m n || has_at ns i n (omega arith) e j) ∙ or-true (eqb m n)
 
 has_none : (ns : List ℕ) (n : ℕ) → ((k : ℕ) → k < length ns → get_or ns k 0 ≢ n) → has ns n ≡ false
 has_none [] n f = refl
@@ -260,6 +161,12 @@ tail_whole ns i = take_whole (length ns - i) (drop i ns) (let q = length-drop i 
 
 -- One number less.
 
+-- each number of a rising list is above what it rises from
+rises_above : (m : ℕ) (ns : List ℕ) (i d : ℕ) → RisesFrom (m + 1) ns → i < length ns → m < get_or ns i d
+rises_above m [] i d r l = absurd (omega arith)
+rises_above m (x ∷ ns) zero d r l = let q = r.0 in omega arith
+rises_above m (x ∷ ns) (suc i) d r l = let q = r.0 in let h = rises_above x ns i d r.1 (omega arith) in omega arith
+
 without_none : (least n : ℕ) (ns : List ℕ) → RisesFrom least ns → n < least → without ns (n ∷ []) ≡ ns
 without_none least n [] r l = refl
 without_none least n (m ∷ ns) r l =
@@ -272,14 +179,9 @@ remove_listed least n [] i r l e = absurd (omega arith)
 remove_listed least n (m ∷ ns) zero r l e =
     sym ((λ k. cond (not (eq-eqb n m (sym e) k || false)) (m ∷ without ns (n ∷ [])) (without ns (n ∷ []))) ∙ without_none (m + 1) n ns r.1 (let q = e in omega arith))
 remove_listed least n (m ∷ ns) (suc i) r l e =
-    let low : m < n = subst (λ k. m < k) e (above m ns i r.1 (omega arith)) in
+    let low : m < n = subst (λ k. m < k) e (rises_above m ns i 0 r.1 (omega arith)) in
     ap (λ l. m ∷ l) (remove_listed (m + 1) n ns i r.1 (omega arith) e)
     ∙ (λ k. cond (not (sym (ne_eqb n m (omega arith)) k || false)) (m ∷ without ns (n ∷ [])) (without ns (n ∷ [])))
-  where
-    above : (m : ℕ) (ns : List ℕ) (i : ℕ) → RisesFrom (m + 1) ns → i < length ns → m < get_or ns i 0
-    above m [] i r l = absurd (omega arith)
-    above m (x ∷ ns) zero r l = let q = r.0 in omega arith
-    above m (x ∷ ns) (suc i) r l = let q = r.0 in let h = above x ns i r.1 (omega arith) in omega arith
 
 pub without_absent : (n : ℕ) (ns : List ℕ) → has ns n ≡ false → without ns (n ∷ []) ≡ ns
 without_absent n [] e = refl
@@ -293,40 +195,12 @@ pub in_order_of_rises : (least : ℕ) (ns : List ℕ) → RisesFrom least ns →
 in_order_of_rises least [] r = λ i j d l m. absurd (omega arith)
 in_order_of_rises least (n ∷ ns) r = λ i j d l m. order n ns i j d r.1 l m (in_order_of_rises (n + 1) ns r.1)
   where
-    above : (m : ℕ) (ns : List ℕ) (i d : ℕ) → RisesFrom (m + 1) ns → i < length ns → m < get_or ns i d
-    above m [] i d r l = absurd (omega arith)
-    above m (x ∷ ns) zero d r l = let q = r.0 in omega arith
-    above m (x ∷ ns) (suc i) d r l = let q = r.0 in let h = above x ns i d r.1 (omega arith) in omega arith
-
     order : (n : ℕ) (ns : List ℕ) (i j d : ℕ) → RisesFrom (n + 1) ns → i ≤ j → j < length (n ∷ ns) → IsNonDecreasing ns → get_or (n ∷ ns) i d ≤ get_or (n ∷ ns) j d
     order n ns zero zero d r l m up = omega arith
-    order n ns zero (suc j) d r l m up = let h = above n ns j d r (omega arith) in omega arith
+    order n ns zero (suc j) d r l m up = let h = rises_above n ns j d r (omega arith) in omega arith
     order n ns (suc i) zero d r l m up = absurd (omega arith)
     order n ns (suc i) (suc j) d r l m up = up i j d (omega arith) (omega arith)
 
 pub not_true : (b : Bool) → not b ≡ true → b ≡ false
 not_true true e = sym e
 not_true false e = refl
-
--- A mark that is set where one of a list fails a test.
-module _ (hs : List History) (test : History → Bool) (ns : List ℕ) (i item : ℕ) (h : History) (mark fails : Bool) (inside : i < length ns) (is : item ≡ get_or ns i item) (at : numbered hs item ≡ Some h) (told : test h ≡ not fails) where
-  pub passes_more : (mark ≡ false → EachListed (PostingPasses hs test) (take i ns)) → (mark || fails) ≡ false → EachListed (PostingPasses hs test) (take (i + 1) ns)
-  passes_more so_far unset = each_more (PostingPasses hs test) ns i item inside (so_far (first mark fails unset)) (subst (PostingPasses hs test) is (h, at, told ∙ ap not (second mark fails unset)))
-    where
-      first : (a b : Bool) → (a || b) ≡ false → a ≡ false
-      first true b e = e
-      first false b e = refl
-
-      second : (a b : Bool) → (a || b) ≡ false → b ≡ false
-      second true b e = absurd (cc)
-      second false b e = e
-
-  pub passes_never : (mark ≡ true → EachListed (PostingPasses hs test) ns → ⊥) → (mark || fails) ≡ true → EachListed (PostingPasses hs test) ns → ⊥
-  passes_never so_far set all = ⊎_elim (λ (before : mark ≡ true). so_far before all) (λ (here : mark ≡ false). fails_here (ap (λ b. b || fails) (sym here) ∙ set)) (decided mark)
-    where
-      fails_here : fails ≡ true → ⊥
-      fails_here now =
-          let p = subst (PostingPasses hs test) (sym is) (each_at (PostingPasses hs test) ns i item all inside) in
-          let same : p.0 ≡ h = (let e : Some p.0 ≡ Some h = sym p.1 ∙ at in cc) in
-          let t : true ≡ false = sym p.2 ∙ ap test same ∙ told ∙ ap not now in
-          absurd (cc)

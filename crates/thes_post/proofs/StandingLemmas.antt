@@ -1,7 +1,8 @@
 -- The numbers of the postings that stand at a concept, under each change of the histories.
-use Rattle.std.proofs.Common.{◌≡◌, ◌≢◌, ◌⊎◌, ◌<◌, ◌≤◌, ℕ, zero, suc, ◌+◌, ◌-◌, length, List, [], ◌∷◌, ◌++◌, refl, sym, ap, ◌∙◌, subst, arith, inl, inr, ⊎_elim, Bool, true, false, cond, not, ◌&&◌, ◌||◌, eqb, eqb-true, ne_eqb, map}
+use Rattle.std.proofs.Common.{◌≡◌, ◌≢◌, ◌<◌, ◌≤◌, ℕ, zero, suc, ◌+◌, length, List, [], ◌∷◌, ◌++◌, refl, sym, ap, ◌∙◌, subst, arith, inl, inr, ⊎_elim, Bool, true, false, cond, not, ◌&&◌, ◌||◌, eqb, eqb-true, ne_eqb, map}
+use Rattle.std.proofs.Math.Bool.{and-true, and-false}
 use borrow.Author.Tests.{eqb-false, eq-eqb}
-use Rattle.std.specs.Prelude.{Some, slice_get, slice_set, filter, count_by}
+use Rattle.std.specs.Prelude.{Some, slice_get, slice_set, filter}
 use Rattle.thes_base.specs.declared.data.History.{History}
 use Rattle.thes_base.specs.Postings.{place, stands_at, moved, moved_those, withdraw}
 use Rattle.thes_base.specs.Changes.{is_listed}
@@ -10,7 +11,7 @@ use Rattle.thes_base.proofs.MoveLemmas.{place_moved}
 use Rattle.thes_post.specs.Indexed.{AreNumberedFrom}
 use Rattle.thes_post.specs.Rising.{RisesFrom, merged, without}
 use Rattle.thes_post.specs.Standing.{standing_numbers}
-use Rattle.thes_post.proofs.RisingLemmas.{decided, has, has_below, rises_weaker, merged_first, merged_second}
+use Rattle.thes_post.proofs.RisingLemmas.{decided, has_below, rises_weaker, merged_first, merged_second}
 
 -- the numbers of those that pass
 abbrev pub numbers_of : (History → Bool) → List History → List ℕ
@@ -188,11 +189,7 @@ pub standing_withdrawn : (concept first : ℕ) (hs : List History) (i : ℕ) (h 
 standing_withdrawn concept first hs i h n e = gone first hs i n e ∙ sym (without_numbers (stands_at concept) ((first + i) ∷ []) hs)
   where
     others : (k : ℕ) (gs : List History) → EachHistory (λ g. eqb k g.number ≡ false) gs → EachHistory (λ g. stands_at concept g ≡ left_at concept k g) gs
-    others k gs all = each_map (λ g. eqb k g.number ≡ false) (λ g. stands_at concept g ≡ left_at concept k g) (λ g apart. same (stands_at concept g) ∙ (λ j. stands_at concept g && not (sym apart j || false))) gs all
-      where
-        same : (b : Bool) → b ≡ (b && true)
-        same true = refl
-        same false = refl
+    others k gs all = each_map (λ g. eqb k g.number ≡ false) (λ g. stands_at concept g ≡ left_at concept k g) (λ g apart. sym (and-true (stands_at concept g)) ∙ (λ j. stands_at concept g && not (sym apart j || false))) gs all
 
     gone : (first : ℕ) (gs : List History) (i : ℕ) → AreNumberedFrom first gs → slice_get gs i ≡ Some h → standing_numbers concept (slice_set gs i (withdraw h)) ≡ numbers_of (left_at concept (first + i)) gs
     gone first [] i n e = absurd (cc)
@@ -200,36 +197,24 @@ standing_withdrawn concept first hs i h n e = gone first hs i n e ∙ sym (witho
         let here : eqb (first + 0) g.number ≡ true = ap (eqb (first + 0)) (n.0 ∙ (let z : first ≡ first + 0 = omega arith in z)) ∙ eq-eqb (first + 0) (first + 0) refl in
         let above = each_map (λ x. first + 1 ≤ x.number) (λ x. eqb (first + 0) x.number ≡ false) (λ x l. ne_eqb (first + 0) x.number (omega arith)) gs (numbers_above (first + 1) gs n.1) in
         numbers_agree (stands_at concept) (left_at concept (first + 0)) gs (others (first + 0) gs above)
-        ∙ (let off : (stands_at concept g && not (eqb (first + 0) g.number || false)) ≡ false = (λ j. stands_at concept g && not (here j || false)) ∙ none (stands_at concept g) in λ j. cond (sym off j) (g.number ∷ numbers_of (left_at concept (first + 0)) gs) (numbers_of (left_at concept (first + 0)) gs))
+        ∙ (let off : (stands_at concept g && not (eqb (first + 0) g.number || false)) ≡ false = (λ j. stands_at concept g && not (here j || false)) ∙ and-false (stands_at concept g) in λ j. cond (sym off j) (g.number ∷ numbers_of (left_at concept (first + 0)) gs) (numbers_of (left_at concept (first + 0)) gs))
         ∙ sym (numbers_cons (left_at concept (first + 0)) g gs)
-      where
-        none : (b : Bool) → (b && false) ≡ false
-        none true = refl
-        none false = refl
     gone first (g ∷ gs) (suc i) n e =
         let next : first + 1 + i ≡ first + suc i = omega arith in
         let rest = gone (first + 1) gs i n.1 e ∙ ap (λ k. numbers_of (left_at concept k) gs) next in
         let apart : eqb (first + suc i) g.number ≡ false = ne_eqb (first + suc i) g.number (let q = n.0 in omega (arith, q)) in
-        let stays : stands_at concept g ≡ left_at concept (first + suc i) g = same (stands_at concept g) ∙ (λ j. stands_at concept g && not (sym apart j || false)) in
+        let stays : stands_at concept g ≡ left_at concept (first + suc i) g = sym (and-true (stands_at concept g)) ∙ (λ j. stands_at concept g && not (sym apart j || false)) in
         numbers_cons (stands_at concept) g (slice_set gs i (withdraw h))
         ∙ (λ j. cond (stays j) (g.number ∷ rest j) (rest j))
         ∙ sym (numbers_cons (left_at concept (first + suc i)) g gs)
-      where
-        same : (b : Bool) → b ≡ (b && true)
-        same true = refl
-        same false = refl
 
 -- and elsewhere nothing changes
 pub standing_kept : (concept : ℕ) (hs : List History) (i : ℕ) (h : History) → slice_get hs i ≡ Some h → place h ≢ concept → standing_numbers concept (slice_set hs i (withdraw h)) ≡ standing_numbers concept hs
 standing_kept concept [] i h e apart = absurd (cc)
 standing_kept concept (g ∷ gs) zero h e apart =
     let same : g ≡ h = cc in
-    let off : stands_at concept g ≡ false = ap (stands_at concept) same ∙ (λ j. not h.withdrawn && ne_eqb (place h) concept apart j) ∙ none (not h.withdrawn) in
+    let off : stands_at concept g ≡ false = ap (stands_at concept) same ∙ (λ j. not h.withdrawn && ne_eqb (place h) concept apart j) ∙ and-false (not h.withdrawn) in
     (λ j. cond (sym off j) (g.number ∷ standing_numbers concept gs) (standing_numbers concept gs)) ∙ sym (numbers_cons (stands_at concept) g gs)
-  where
-    none : (b : Bool) → (b && false) ≡ false
-    none true = refl
-    none false = refl
 standing_kept concept (g ∷ gs) (suc i) h e apart =
     let rest = standing_kept concept gs i h e apart in
     numbers_cons (stands_at concept) g (slice_set gs i (withdraw h))
@@ -259,9 +244,6 @@ module _ (passes : History → Bool) (target : ℕ) where
 
 -- Postings listed, which stand at the source, are moved to another concept.
 module _ (source target : ℕ) (ns : List ℕ) (number : ℕ) (hs : List History) where
-  abbrev after : List History
-  after = moved_those (is_listed ns) target number hs
-
   -- those that are left
   pub standing_source : source ≢ target → standing_numbers source (moved_those (is_listed ns) target number hs) ≡ without (standing_numbers source hs) ns
   standing_source apart =

@@ -1,5 +1,5 @@
 -- Moves taken back.
-use Rattle.std.specs.Prelude.{◌-◌, ℕ, List, Bool, map, take, length, if◌then◌else◌}
+use Rattle.std.specs.Prelude.{◌-◌, List, Bool, map, take, length, if◌then◌else◌}
 use Rattle.thes_base.specs.declared.data.History.{History}
 
 -- the history without its last move

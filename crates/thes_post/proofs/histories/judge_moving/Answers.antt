@@ -3,7 +3,8 @@ use Rattle.std.specs.Prelude.{Some}
 use Rattle.thes_base.specs.Resources.{numbered}
 use Rattle.thes_base.specs.Postings.{place}
 use Rattle.thes_base.specs.Refusals.{IsKnownPosting}
-use Rattle.thes_post.proofs.RisingLemmas.{each_more, passes_more, passes_never}
+use Rattle.thes_post.proofs.RisingLemmas.{each_more}
+use Rattle.thes_post.proofs.JudgeLemmas.{passes_more, passes_never}
 use Rattle.thes_post.proofs.histories.judge_moving.Goals as goal
 
 pub loop-number-preserved : goal.loop-number-preserved

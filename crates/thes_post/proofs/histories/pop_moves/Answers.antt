@@ -1,4 +1,4 @@
-use Rattle.std.proofs.Common.{◌≡◌, ◌≤◌, ◌<◌, ◌-◌, ◌∙◌, length, get_or, sym, ap, subst, arith}
+use Rattle.std.proofs.Common.{◌-◌, ◌∙◌, get_or, sym, ap, arith}
 use Rattle.std.specs.Prelude.{slice_set}
 use Rattle.thes_base.specs.Changes.{is_listed}
 use Rattle.thes_post.specs.Moved.{unmoved_those}

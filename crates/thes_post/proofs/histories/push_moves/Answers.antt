@@ -1,11 +1,10 @@
-use Rattle.std.proofs.Common.{rules, ◌≡◌, ◌≤◌, ◌<◌, ◌-◌, ◌+◌, ◌∙◌, ◌++◌, ◌∷◌, [], length, get_or, take, sym, ap, subst, arith}
+use Rattle.std.proofs.Common.{rules, ◌≡◌, ◌≤◌, ◌-◌, ◌∙◌, ◌++◌, ◌∷◌, [], length, get_or, take, sym, ap, subst, arith}
 use Rattle.std.specs.Prelude.{slice_set}
 use Rattle.std.proofs.lemmas.List.{set-get_or, length-set}
-use Rattle.thes_base.specs.Postings.{moved_those}
 use Rattle.thes_base.specs.Changes.{is_listed}
 use Rattle.thes_post.specs.Indexed.{AreNumberedFrom}
 use Rattle.thes_post.specs.Moved.{unmoved_those}
-use Rattle.thes_post.proofs.RisingLemmas.{take_whole, rises_take, each_take}
+use Rattle.thes_post.proofs.RisingLemmas.{rises_take, each_take}
 use Rattle.thes_post.proofs.HistoryLemmas.{none_moved, numbered_moved_those, item_within, push_step, unmoved_all}
 use Rattle.thes_post.proofs.histories.push_moves.Goals as goal
 

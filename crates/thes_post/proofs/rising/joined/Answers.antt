@@ -1,4 +1,4 @@
-use Rattle.std.proofs.Common.{◌∙◌, ◌++◌, ap, drop}
+use Rattle.std.proofs.Common.{◌∙◌, ◌++◌, drop}
 use Rattle.thes_post.proofs.RisingLemmas.{joined_first, joined_second, tail_whole}
 use Rattle.thes_post.proofs.rising.joined.Goals as goal
 use Rattle.thes_post.proofs.rising.joined.Goals.{then-loop-i-test+else-j-second, else-loop-i-test}

@@ -1,7 +1,7 @@
 use Rattle.std.proofs.Common.{◌≡◌, ◌∙◌, inl, refl, sym, subst, true, false}
 use Rattle.std.proofs.lemmas.List.Sorted.{IsPermutation-sym}
 use Rattle.thes_post.specs.Rising.{RisesFrom}
-use Rattle.thes_post.proofs.RisingLemmas.{rises_sorted, once_of_rises, once_permutation}
+use Rattle.thes_post.proofs.OnceLemmas.{rises_sorted, once_of_rises, once_permutation}
 use Rattle.thes_post.proofs.book.Book.judge_listed.Goals as goal
 
 pub returns-then-not-is_rising : goal.returns-then-not-is_rising

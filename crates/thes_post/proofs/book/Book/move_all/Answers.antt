@@ -1,6 +1,5 @@
-use Rattle.std.proofs.Common.{◌≡◌, ◌<◌, ◌+◌, ◌^◌, ◌++◌, ◌∙◌, sym, ap, subst, length, List, arith}
+use Rattle.std.proofs.Common.{◌≡◌, ◌<◌, ◌+◌, ◌^◌, ◌++◌, ◌∙◌, sym, ap, subst, length, arith}
 use Rattle.std.proofs.lemmas.Result.{IfOk-weaker}
-use Rattle.thes_base.specs.declared.data.History.{History}
 use Rattle.thes_base.specs.Postings.{stands_at, standing_count, move_count}
 use Rattle.thes_base.specs.Changes.{histories_split, histories_merged}
 use Rattle.thes_base.specs.Refusals.{EachListed, PostingPasses}

@@ -1,12 +1,14 @@
 use Rattle.std.proofs.Common.{◌≡◌, ◌<◌, ◌+◌, ◌^◌, ◌∙◌, sym, ap, subst, length}
-use Rattle.std.proofs.lemmas.List.Sorted.{length_permutation, IsPermutation-sym}
+use Rattle.std.proofs.lemmas.List.Sorted.{length_permutation}
 use Rattle.std.proofs.lemmas.Result.{IfOk-weaker}
 use Rattle.thes_base.specs.Postings.{stands_at, move_count}
 use Rattle.thes_base.specs.Changes.{histories_split}
 use Rattle.thes_base.specs.Refusals.{EachListed, PostingPasses}
 use Rattle.thes_post.specs.Rising.{RisesFrom}
-use Rattle.thes_post.proofs.RisingLemmas.{rises_sorted, each_permutation}
-use Rattle.thes_post.proofs.IndexLemmas.{passed_listed, split_sorted}
+use Rattle.thes_post.proofs.RisingLemmas.{each_permutation}
+use Rattle.thes_post.proofs.OnceLemmas.{rises_sorted}
+use Rattle.thes_post.proofs.IndexLemmas.{split_sorted}
+use Rattle.thes_post.proofs.JudgeLemmas.{passed_listed}
 use Rattle.thes_post.proofs.book.Book.move_listed.Goals as goal
 
 pub move_rising-requires-clause-rising : goal.move_rising-requires-clause-rising

@@ -1,4 +1,4 @@
-use Rattle.std.proofs.Common.{rules, ◌≡◌, [], sym}
+use Rattle.std.proofs.Common.{rules, ◌≡◌}
 use Rattle.thes_post.specs.declared.standing.Standing.{Standing}
 use Rattle.thes_post.specs.Standing.{listed_at}
 use Rattle.thes_post.proofs.ListedLemmas.{lists_updated, lists_same, has_list}

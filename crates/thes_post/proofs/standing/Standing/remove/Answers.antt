@@ -1,10 +1,10 @@
-use Rattle.std.proofs.Common.{rules, ◌≡◌, ◌∙◌, ◌∷◌, [], ap, sym, subst, not}
+use Rattle.std.proofs.Common.{rules, ◌≡◌, ◌∙◌, ◌∷◌, [], ap, sym, subst}
 use Rattle.std.specs.Prelude.{Ok, Err}
 use Rattle.std.specs.List.{remove}
 use Rattle.std.specs.List.Sorted.{IsBinarySearchResult}
 use Rattle.std.specs.Ordering.{nat_cmp}
 use Rattle.std.proofs.lemmas.List.Sorted.{searched}
-use Rattle.thes_post.specs.Rising.{RisesFrom, without}
+use Rattle.thes_post.specs.Rising.{without}
 use Rattle.thes_post.specs.Standing.{listed_at}
 use Rattle.thes_post.proofs.RisingLemmas.{remove_listed, without_absent, has, has_searched, not_true, in_order_of_rises}
 use Rattle.thes_post.proofs.standing.Standing.remove.Goals as goal
