@@ -43,14 +43,16 @@ IsMapping links n (Broad, m) = HasLink links Broad n m ⊎ HasLink links Narrow 
 IsMapping links n (Narrow, m) = HasLink links Narrow n m ⊎ HasLink links Broad m n
 IsMapping links n (_, m) = ⊥
 
--- where the kind's word stands among those of mappings: broad, close, exact, narrow, relMatch
+-- where the kind's word stands: those of mappings first, broad, close, exact, narrow, relMatch
 abbrev pub word_place : LinkKind → ℕ
 word_place Broad = 1
 word_place Close = 2
 word_place Exact = 3
 word_place Narrow = 4
 word_place RelMatch = 5
-word_place _ = 0
+word_place Broader = 6
+word_place Related = 7
+word_place Member = 8
 
 -- by the kind's word, then by number
 abbrev pub mapping_cmp : LinkKind × ℕ → LinkKind × ℕ → Ordering
