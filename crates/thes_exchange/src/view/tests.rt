@@ -25,11 +25,23 @@ fn text_label(alloc: Global, text: &str) -> Result<Text, Fail> {
     Ok(Text::read(alloc, text)?)
 }
 
-fn english(alloc: Global, value: LabelValue) -> Result<Label, Fail> {
-    Ok(Label {
+// One label, in English.
+fn english(alloc: Global, value: LabelValue) -> Result<Vec<Label>, Fail> {
+    let mut list = Vec::new(alloc);
+    list.push(Label {
         tag: Tag::read(alloc, "en")?,
         value,
-    })
+    })?;
+    Ok(list)
+}
+
+// Each of some labels.
+fn those<'a>(alloc: Global, labels: &'a [Label]) -> Result<Vec<&'a Label>, Fail> {
+    let mut list = Vec::new(alloc);
+    for label in labels {
+        list.push(label)?;
+    }
+    Ok(list)
 }
 
 #[test]
@@ -100,63 +112,97 @@ fn postings(rt: HostRuntime) -> Result<(), Fail> {
     Ok(())
 }
 
-#[test]
-fn a_concept(rt: HostRuntime) -> Result<(), Fail> {
-    let alloc = rt.alloc();
-    let name = english(alloc, LabelValue::Pref(text_label(alloc, "Mammals")?))?;
-    let other = english(alloc, LabelValue::Alt(text_label(alloc, "Cats")?))?;
+// A concept without links, with these labels.
+fn unlinked(alloc: Global, pref: &[Label], alt: &[Label]) -> Result<Vec<u8>, Fail> {
+    let pref = those(alloc, pref)?;
+    let alt = those(alloc, alt)?;
+    let number = res_no(3)?;
+    let scheme = Some(res_no(1)?);
     let view = View::Concept(ConceptView {
-        alt: vec![in alloc; &other]?,
+        alt,
         broader: Vec::new(alloc),
         collections: Vec::new(alloc),
         hidden: Vec::new(alloc),
         live: true,
         mappings: Vec::new(alloc),
         narrower: Vec::new(alloc),
-        number: res_no(3)?,
+        number,
         postings: 1,
-        pref: vec![in alloc; &name]?,
+        pref,
         related: Vec::new(alloc),
         replaced: None,
-        scheme: Some(res_no(1)?),
+        scheme,
         scope: Vec::new(alloc),
         top: true,
     });
+    Ok(view_line(alloc, &view)?)
+}
+
+#[test]
+fn a_concept(rt: HostRuntime) -> Result<(), Fail> {
+    let alloc = rt.alloc();
+    let pref = english(alloc, LabelValue::Pref(text_label(alloc, "Mammals")?))?;
+    let alt = english(alloc, LabelValue::Alt(text_label(alloc, "Cats")?))?;
+    let line = unlinked(alloc, &pref, &alt)?;
     assert_eq!(rt;
-        view_line(alloc, &view)?.as_slice(),
+        line.as_slice(),
         b"{\"alt\":[[\"en\",\"Cats\"]],\"broader\":[],\"collections\":[],\"hidden\":[],\"live\":true,\"mappings\":[],\"narrower\":[],\"number\":3,\"postings\":1,\"pref\":[[\"en\",\"Mammals\"]],\"related\":[],\"replaced\":null,\"scheme\":1,\"scope\":[],\"top\":true}\n".as_slice()
     );
     Ok(())
 }
 
-#[test]
-fn a_linked_concept(rt: HostRuntime) -> Result<(), Fail> {
-    let alloc = rt.alloc();
-    let name = english(alloc, LabelValue::Pref(text_label(alloc, "a \"b\\c")?))?;
-    let secret = english(alloc, LabelValue::Hidden(text_label(alloc, "Katz")?))?;
-    let note = english(alloc, LabelValue::Scope(Note::read(alloc, "Of any age.")?))?;
+// One number.
+fn one(alloc: Global, number: u32) -> Result<Vec<ResNo>, Fail> {
+    let mut list = Vec::new(alloc);
+    list.push(res_no(number)?)?;
+    Ok(list)
+}
+
+// A dead concept that shows something everywhere else.
+fn full(alloc: Global, pref: &[Label], hidden: &[Label], scope: &[Label]) -> Result<Vec<u8>, Fail> {
+    let pref = those(alloc, pref)?;
+    let hidden = those(alloc, hidden)?;
+    let scope = those(alloc, scope)?;
+    let mut broader = one(alloc, 3)?;
+    broader.push(res_no(4)?)?;
+    let mut mappings = Vec::new(alloc);
+    mappings.push((LinkKind::Broad, res_no(6)?))?;
+    mappings.push((LinkKind::RelMatch, res_no(7)?))?;
+    let collections = one(alloc, 5)?;
+    let narrower = one(alloc, 8)?;
+    let related = one(alloc, 9)?;
+    let number = res_no(2)?;
+    let replaced = Some(res_no(3)?);
+    let scheme = Some(res_no(1)?);
     let view = View::Concept(ConceptView {
         alt: Vec::new(alloc),
-        broader: vec![in alloc; res_no(3)?, res_no(4)?]?,
-        collections: vec![in alloc; res_no(5)?]?,
-        hidden: vec![in alloc; &secret]?,
+        broader,
+        collections,
+        hidden,
         live: false,
-        mappings: vec![in alloc;
-            (LinkKind::Broad, res_no(6)?),
-            (LinkKind::RelMatch, res_no(7)?),
-        ]?,
-        narrower: vec![in alloc; res_no(8)?]?,
-        number: res_no(2)?,
+        mappings,
+        narrower,
+        number,
         postings: 0,
-        pref: vec![in alloc; &name]?,
-        related: vec![in alloc; res_no(9)?]?,
-        replaced: Some(res_no(3)?),
-        scheme: Some(res_no(1)?),
-        scope: vec![in alloc; &note]?,
+        pref,
+        related,
+        replaced,
+        scheme,
+        scope,
         top: false,
     });
+    Ok(view_line(alloc, &view)?)
+}
+
+#[test]
+fn a_full_concept(rt: HostRuntime) -> Result<(), Fail> {
+    let alloc = rt.alloc();
+    let pref = english(alloc, LabelValue::Pref(text_label(alloc, "a \"b\\c")?))?;
+    let hidden = english(alloc, LabelValue::Hidden(text_label(alloc, "Katz")?))?;
+    let scope = english(alloc, LabelValue::Scope(Note::read(alloc, "Of any age.")?))?;
+    let line = full(alloc, &pref, &hidden, &scope)?;
     assert_eq!(rt;
-        view_line(alloc, &view)?.as_slice(),
+        line.as_slice(),
         b"{\"alt\":[],\"broader\":[3,4],\"collections\":[5],\"hidden\":[[\"en\",\"Katz\"]],\"live\":false,\"mappings\":[[\"broad\",6],[\"relMatch\",7]],\"narrower\":[8],\"number\":2,\"postings\":0,\"pref\":[[\"en\",\"a \\\"b\\\\c\"]],\"related\":[9],\"replaced\":3,\"scheme\":1,\"scope\":[[\"en\",\"Of any age.\"]],\"top\":false}\n".as_slice()
     );
     Ok(())
