@@ -1,0 +1,14 @@
+//! The texts of requests, answers and views.
+#![tactic(auto)]
+
+pub mod answer;
+pub mod desk;
+mod feed;
+pub mod laws;
+mod lines;
+mod members;
+pub mod request;
+pub mod script;
+pub mod serve;
+pub mod view;
+mod words;
