@@ -64,13 +64,13 @@ leaves xs (Some ys) raw false k = let split = k.bytes ∙ append_assoc raw (10 �
   rest = ys;
   is_rest = refl;
   texts = ap lines split ∙ lines_line raw ys k.one;
-  wholes = ap whole_lines split ∙ whole_line raw ys k.one
+  wholes = ap whole_lines split ∙ whole_line raw ys k.one;
 }
 leaves xs (Some ys) raw true k =
     let last = k.last refl in
     let all : xs ≡ raw = k.bytes ∙ (ap (λ t. raw ++ t) last.1 ∙ append-nil raw) in record {
-  rest = ys;
-  is_rest = refl;
-  texts = ap lines all ∙ (lines_last raw k.one last.0 ∙ ap (λ t. raw ∷ t) (sym (ap lines last.1)));
-  wholes = ap whole_lines all ∙ (whole_last raw k.one last.0 ∙ ap (λ t. raw ∷ t) (sym (ap whole_lines last.1)))
-}
+      rest = ys;
+      is_rest = refl;
+      texts = ap lines all ∙ (lines_last raw k.one last.0 ∙ ap (λ t. raw ∷ t) (sym (ap lines last.1)));
+      wholes = ap whole_lines all ∙ (whole_last raw k.one last.0 ∙ ap (λ t. raw ∷ t) (sym (ap whole_lines last.1)));
+    }

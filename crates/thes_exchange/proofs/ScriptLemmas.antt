@@ -26,7 +26,7 @@ run_more serves old (l ∷ done) (p ∷ outcomes) mid new line o r s = (r.0, r.1
 allowed_more : (whole : List (List ℕ)) (raw : List ℕ) → AreAllowed whole → length whole < lines_limit → length raw ≤ line_limit → AreAllowed (whole ++ raw ∷ [])
 allowed_more whole raw a few short = record {
   few = rw (length-append whole (raw ∷ [])) (omega (arith, few));
-  short = All-push (λ line. length line ≤ line_limit) whole raw a.short short
+  short = All-push (λ line. length line ≤ line_limit) whole raw a.short short;
 }
 
 ran_more : {S : Type 0} {serves : Serving S} {input : List ℕ} {rest rest' : Option (List ℕ)} {count : ℕ} {old mid new : S} {outcomes : List (Option Outcome)} {raw : List ℕ} {e : Bool} (o : Option Outcome)
@@ -35,17 +35,17 @@ ran_more : {S : Type 0} {serves : Serving S} {input : List ℕ} {rest rest' : Op
 ran_more {S} {serves} {input} {rest} {rest'} {count} {old} {mid} {new} {outcomes} {raw} {e} o r few k step =
     let after = leaves r.left rest' raw e (rw r.is_left at k) in
     let line = line_text raw e in record {
-  left = after.rest;
-  is_left = after.is_rest;
-  done = r.done ++ line ∷ [];
-  all = r.all ∙ (ap (λ x. r.done ++ x) after.texts ∙ sym (append_assoc r.done (line ∷ []) (lines after.rest)));
-  run = run_more serves old r.done outcomes mid new line o r.run step;
-  whole = r.whole ++ raw ∷ [];
-  all_whole = r.all_whole ∙ (ap (λ x. r.whole ++ x) after.wholes ∙ sym (append_assoc r.whole (raw ∷ []) (whole_lines after.rest)));
-  allowed = let c = r.whole_count in allowed_more r.whole raw r.allowed (omega arith) k.short;
-  done_count = rw (length-append r.done (line ∷ [])) (ap (λ n. n + 1) r.done_count);
-  whole_count = rw (length-append r.whole (raw ∷ [])) (ap (λ n. n + 1) r.whole_count)
-}
+      left = after.rest;
+      is_left = after.is_rest;
+      done = r.done ++ line ∷ [];
+      all = r.all ∙ (ap (λ x. r.done ++ x) after.texts ∙ sym (append_assoc r.done (line ∷ []) (lines after.rest)));
+      run = run_more serves old r.done outcomes mid new line o r.run step;
+      whole = r.whole ++ raw ∷ [];
+      all_whole = r.all_whole ∙ (ap (λ x. r.whole ++ x) after.wholes ∙ sym (append_assoc r.whole (raw ∷ []) (whole_lines after.rest)));
+      allowed = let c = r.whole_count in allowed_more r.whole raw r.allowed (omega arith) k.short;
+      done_count = rw (length-append r.done (line ∷ [])) (ap (λ n. n + 1) r.done_count);
+      whole_count = rw (length-append r.whole (raw ∷ [])) (ap (λ n. n + 1) r.whole_count);
+    }
 
 ran_stopped : {S : Type 0} {serves : Serving S} (fault : PipeFault) {input : List ℕ} {rest : Option (List ℕ)} {count : ℕ} {old new : S} {outcomes : List (Option Outcome)} {before after : Option (List ℕ)}
     → Ran serves input rest count old new outcomes → AppendsUntil fault before after (script_text outcomes) → IsStopped serves fault input old new before after
@@ -54,7 +54,7 @@ ran_stopped {S} {serves} fault {input} {rest} {count} {old} {new} {outcomes} r t
   allowed = rw (r.all_whole, ← r.whole_count, take-append_seam r.whole (whole_lines r.left)) r.allowed;
   outcomes = outcomes;
   run = rw (r.all, ← r.done_count, take-append_seam r.done (lines r.left)) r.run;
-  text = t
+  text = t;
 }
 
 -- one more line was answered
@@ -65,7 +65,7 @@ served_more {S} {serves} {input} {rest} {rest'} {count} {old} {mid} {new} {befor
   outcomes = s.outcomes ++ v.outcome ∷ [];
   ran = ran_more v.outcome s.ran few k v.step;
   text = rw (flat_map-append line_of s.outcomes (v.outcome ∷ []), append-nil (line_of v.outcome)) (appends_then before after after' (script_text s.outcomes) (line_of v.outcome) s.text v.text);
-  end = v.end ∙ (ap (λ x. noted x v.outcome) s.end ∙ sym (fold-append noted nothing_noted s.outcomes (v.outcome ∷ [])))
+  end = v.end ∙ (ap (λ x. noted x v.outcome) s.end ∙ sym (fold-append noted nothing_noted s.outcomes (v.outcome ∷ [])));
 }
 
 -- nothing more is left
@@ -75,12 +75,12 @@ served_end {S} {serves} {input} s e =
     let last : s.ran.left ≡ [] = rw s.ran.is_left at e in
     let all : lines input ≡ s.ran.done = s.ran.all ∙ (ap (λ x. s.ran.done ++ lines x) last ∙ append-nil s.ran.done) in
     let whole : whole_lines input ≡ s.ran.whole = s.ran.all_whole ∙ (ap (λ x. s.ran.whole ++ whole_lines x) last ∙ append-nil s.ran.whole) in record {
-  allowed = rw whole s.ran.allowed;
-  outcomes = s.outcomes;
-  run = rw all s.ran.run;
-  text = s.text;
-  end = s.end
-}
+      allowed = rw whole s.ran.allowed;
+      outcomes = s.outcomes;
+      run = rw all s.ran.run;
+      text = s.text;
+      end = s.end;
+    }
 
 -- it stopped between two lines
 pub served_stopped : {S : Type 0} {serves : Serving S} (fault : PipeFault) {input : List ℕ} {rest : Option (List ℕ)} {count : ℕ} {old new : S} {before after : Option (List ℕ)} {ended : Ended}
@@ -93,7 +93,7 @@ pub served_cut : {S : Type 0} {serves : Serving S} (fault : PipeFault) {input : 
     → IsStopped serves fault input old new before after'
 served_cut fault {before = before} {after = after} {after' = after'} s few k v =
     ran_stopped fault (ran_more v.outcome s.ran few k v.step)
-      (rw (flat_map-append line_of s.outcomes (v.outcome ∷ []), append-nil (line_of v.outcome)) (until_then fault before after after' (script_text s.outcomes) (line_of v.outcome) s.text v.text))
+    (rw (flat_map-append line_of s.outcomes (v.outcome ∷ []), append-nil (line_of v.outcome)) (until_then fault before after after' (script_text s.outcomes) (line_of v.outcome) s.text v.text))
 
 -- a line was taken out, and nothing more came
 pub served_kept : {S : Type 0} {serves : Serving S} {input : List ℕ} {rest rest' : Option (List ℕ)} {count : ℕ} {old new : S} {before after : Option (List ℕ)} {ended : Ended}
@@ -102,25 +102,40 @@ served_kept {rest' = None} s k = absurd (rw s.ran.is_left at k)
 served_kept {rest' = Some ys} s k =
     let r = s.ran in
     let same : ys ≡ r.left = rw r.is_left at k in record {
-  outcomes = s.outcomes;
-  ran = record {
-    left = r.left; is_left = ap Some same; done = r.done; all = r.all; run = r.run; whole = r.whole;
-    all_whole = r.all_whole; allowed = r.allowed; done_count = r.done_count; whole_count = r.whole_count
-  };
-  text = s.text;
-  end = s.end
-}
+      outcomes = s.outcomes;
+      ran = record {
+        left = r.left;
+        is_left = ap Some same;
+        done = r.done;
+        all = r.all;
+        run = r.run;
+        whole = r.whole;
+        all_whole = r.all_whole;
+        allowed = r.allowed;
+        done_count = r.done_count;
+        whole_count = r.whole_count;
+      };
+      text = s.text;
+      end = s.end;
+    }
 
 pub served_start : {S : Type 0} (serves : Serving S) (input : List ℕ) (old : S) (before : Option (List ℕ)) → Served serves input (Some input) 0 old old before before nothing_noted
 served_start serves input old before = record {
   outcomes = [];
   ran = record {
-    left = input; is_left = refl; done = []; all = refl; run = refl; whole = []; all_whole = refl;
+    left = input;
+    is_left = refl;
+    done = [];
+    all = refl;
+    run = refl;
+    whole = [];
+    all_whole = refl;
     allowed = record { few = omega arith; short = All-nil (λ line. length line ≤ line_limit) };
-    done_count = refl; whole_count = refl
+    done_count = refl;
+    whole_count = refl;
   };
   text = appends_none before;
-  end = refl
+  end = refl;
 }
 
 -- a fact of the known bytes, carried on

@@ -82,7 +82,15 @@ fn outcome_of<D: Desk>(alloc: Global, desk: &mut D, line: &[u8], found: Found) -
 }
 
 // Answers one line, if it isn't blank.
-fn serve_line<W: Write, D: Desk>(alloc: Global, writer: &mut Pipe<W>, budget: &mut Budget, desk: &mut D, line: &[u8], found: Found, ended: &mut Ended) -> Result<(), PipeFault>
+fn serve_line<W: Write, D: Desk>(
+    alloc: Global,
+    writer: &mut Pipe<W>,
+    budget: &mut Budget,
+    desk: &mut D,
+    line: &[u8],
+    found: Found,
+    ended: &mut Ended,
+) -> Result<(), PipeFault>
     requires writer { failed_of writer.old ≡ false }
     requires open { D.is_open desk.old ≡ true }
     ensures ok { OnOk result ((text : List ℕ) → ((found ≡ Found.Line) → text ≡ line.now)
@@ -110,7 +118,15 @@ fn serve_line<W: Write, D: Desk>(alloc: Global, writer: &mut Pipe<W>, budget: &m
 }
 
 // One line: whether there may be more. What was served before it and it are served after it.
-fn turn<R: Read, W: Write, D: Desk>(alloc: Global, lines: &mut Lines, reader: &mut Pipe<R>, writer: &mut Pipe<W>, budget: &mut Budget, desk: &mut D, ended: &mut Ended) -> Result<bool, PipeFault>
+fn turn<R: Read, W: Write, D: Desk>(
+    alloc: Global,
+    lines: &mut Lines,
+    reader: &mut Pipe<R>,
+    writer: &mut Pipe<W>,
+    budget: &mut Budget,
+    desk: &mut D,
+    ended: &mut Ended,
+) -> Result<bool, PipeFault>
     requires reader { IsFresh reader.old }
     requires writer { failed_of writer.old ≡ false }
     requires open { D.is_open desk.old ≡ true }
@@ -143,7 +159,12 @@ fn turn<R: Read, W: Write, D: Desk>(alloc: Global, lines: &mut Lines, reader: &m
 /// Answers each line of the input.
 ///
 /// A line holds at most 1,048,576 bytes, and a script at most 1,000,000 lines, blank ones counted.
-pub fn script<R: Read, W: Write, D: Desk>(alloc: Global, reader: &mut Pipe<R>, writer: &mut Pipe<W>, desk: &mut D) -> Result<Ended, PipeFault>
+pub fn script<R: Read, W: Write, D: Desk>(
+    alloc: Global,
+    reader: &mut Pipe<R>,
+    writer: &mut Pipe<W>,
+    desk: &mut D,
+) -> Result<Ended, PipeFault>
     requires reader { IsFresh reader.old }
     requires writer { IsFresh writer.old }
     requires open { D.is_open desk.old ≡ true }
@@ -160,6 +181,14 @@ pub fn script<R: Read, W: Write, D: Desk>(alloc: Global, reader: &mut Pipe<R>, w
     let mut lines = Lines::new(alloc)?;
     let mut budget = Budget::new();
     let mut ended = Ended::new();
-    while turn(alloc, &mut lines, reader, writer, &mut budget, desk, &mut ended)? {}
+    while turn(
+        alloc,
+        &mut lines,
+        reader,
+        writer,
+        &mut budget,
+        desk,
+        &mut ended,
+    )? {}
     Ok(ended)
 }

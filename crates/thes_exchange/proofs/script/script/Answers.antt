@@ -9,5 +9,5 @@ loop-lines-init g c = let fresh = c.in_ok-lines.ensures in record {
   reader = search rules;
   writer = search rules;
   desk = search rules;
-  within = omega (arith, fresh.1)
+  within = omega (arith, fresh.1);
 }
