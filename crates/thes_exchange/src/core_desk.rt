@@ -1,13 +1,18 @@
 //! A core as a desk: its own state, in memory.
-ghost use Rattle.std.specs.Prelude.{◌≡◌, false, IfOk};
-ghost use Rattle.thes_exchange.specs.CoreDesk.{IsViewed};
+ghost use Rattle.std.specs.Prelude.{◌≡◌, ◌⊎◌, ◌↔◌, true, false, IfOk, IfErr, OnOk, IfSome, IsErrOf};
+ghost use Rattle.thes_base.specs.Pipe.{failed_of, ended_of, IsFresh, unread, written};
+ghost use Rattle.thes_exchange.specs.CoreDesk.{CoreServes, IsLed, IsViewed};
+ghost use Rattle.thes_exchange.specs.Script.{IsScript, IsStopped};
 
 use crate::desk::{Desk, ViewLine, Viewed};
 use crate::request::Query;
+use crate::script::{Ended, script};
 use crate::view::{View, view_line};
 use crate::viewing::view_of;
 use std::alloc::{AllocError, Global};
-use thes_base::fault::Fault;
+use std::io::{Read, Write};
+use thes_base::fault::{Fault, PipeFault};
+use thes_base::pipe::Pipe;
 use thes_core::{Answer, Command, Core};
 
 // The line of the view, or the refusal.
@@ -44,4 +49,29 @@ impl Desk for Core {
     fn is_open(&self) -> bool {
         !self.is_spent()
     }
+}
+
+/// Answers each line of the input by a step of the machine, or by a view of its state. The requests among the lines lead the
+/// machine from the state before to the state after. Lines and their limits are those of `script`.
+pub fn core_script<R: Read, W: Write>(
+    alloc: Global,
+    reader: &mut Pipe<R>,
+    writer: &mut Pipe<W>,
+    core: &mut Core,
+) -> Result<Ended, PipeFault>
+    requires reader { IsFresh reader.old }
+    requires writer { IsFresh writer.old }
+    requires unspent { core.old.spent ≡ false }
+    ensures ok { IfOk result (λ ended. IfSome (unread R.remaining reader.old) (λ input.
+        IsScript CoreServes input core.old core.new (written W.contents writer.old) (written W.contents writer.new) ended)) }
+    ensures stopped { IfErr result (λ fault. IfSome (unread R.remaining reader.old) (λ input.
+        IsStopped CoreServes fault input core.old core.new (written W.contents writer.old) (written W.contents writer.new))) }
+    ensures led { IfSome (unread R.remaining reader.old) (λ input. IsLed core.old core.new) }
+    ensures unspent { OnOk result (core.new.spent ≡ false) }
+    ensures end { OnOk result (ended_of reader.new ≡ true) }
+    ensures read { IsErrOf result PipeFault.Read ↔ (failed_of reader.new ≡ true) }
+    ensures write { IsErrOf result PipeFault.Write ↔ (failed_of writer.new ≡ true) }
+    ensures fault { (fault : Fault) → IsErrOf result (PipeFault.Fault fault) → (fault ≡ Fault.OutOfMemory) × ((core.new ≡ core.old) ⊎ (core.new.spent ≡ true)) }
+{
+    script(alloc, reader, writer, core)
 }

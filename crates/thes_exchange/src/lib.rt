@@ -2,7 +2,7 @@
 #![tactic(auto)]
 
 pub mod answer;
-mod core_desk;
+pub mod core_desk;
 pub mod desk;
 mod feed;
 pub mod laws;
