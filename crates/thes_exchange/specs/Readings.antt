@@ -37,8 +37,3 @@ shaped (Some x) = reads x
 -- the value where the rule holds
 abbrev pub formed : {A : Type 0} → Type 0 → FormFault → A → Reading A
 formed rule f x = unless rule f (reads x)
-
--- a result whose value is seen so
-abbrev pub Seen : {A B E : Type 0} → (A → B) → Result A E → Result B E
-Seen see (Ok x) = Ok (see x)
-Seen see (Err e) = Err e

@@ -84,6 +84,7 @@ pub fn reply_line(reply: Reply) -> Line
     }
 }
 
+// The line of an answer.
 fn answer_line(answer: Answer) -> Line
     ensures { result ≡ answer_text answer }
 {
@@ -108,6 +109,7 @@ fn number_line(before: &str, number: u32) -> Line
     line
 }
 
+// The line of a split: the new concept, and how many postings moved.
 fn parted_line(number: u32, count: u32) -> Line
     ensures { result ≡ answer_text (Answer.Parted number count) }
 {
@@ -140,12 +142,14 @@ pub fn refusal_line(refusal: Refusal) -> Line
     }
 }
 
+// The line of a form fault.
 fn form_fault_line(fault: FormFault) -> Line
     ensures { result ≡ form_fault_text fault }
 {
     name_line("{\"bad\":\"", fault.name())
 }
 
+// The line of a fault.
 fn fault_line(fault: Fault) -> Line
     ensures { result ≡ fault_text fault }
 {

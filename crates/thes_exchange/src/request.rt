@@ -75,6 +75,7 @@ fn post_nos(alloc: Global, numbers: &[&Number]) -> Result<PostNos, ReadStop>
     Ok(list)
 }
 
+// A new scheme.
 #[tactic(auto, unfolding(crate::specs::Requests::scheme_of))]
 fn scheme_of(alloc: Global, value: &Value) -> Result<Command, ReadStop>
     ensures { Gives (scheme_of (view value.now)) result }
@@ -85,6 +86,7 @@ fn scheme_of(alloc: Global, value: &Value) -> Result<Command, ReadStop>
     Ok(Command::Scheme(Tag::read(alloc, tag)?, Text::read(alloc, text)?))
 }
 
+// A new concept.
 #[tactic(auto, unfolding(crate::specs::Requests::concept_of))]
 fn concept_of(alloc: Global, value: &Value) -> Result<Command, ReadStop>
     ensures { Gives (concept_of (view value.now)) result }
@@ -100,6 +102,7 @@ fn concept_of(alloc: Global, value: &Value) -> Result<Command, ReadStop>
     ))
 }
 
+// A new collection.
 #[tactic(auto, unfolding(crate::specs::Requests::collection_of))]
 fn collection_of(alloc: Global, value: &Value) -> Result<Command, ReadStop>
     ensures { Gives (collection_of (view value.now)) result }
@@ -115,6 +118,7 @@ fn collection_of(alloc: Global, value: &Value) -> Result<Command, ReadStop>
     ))
 }
 
+// A new outside concept.
 #[tactic(auto, unfolding(crate::specs::Requests::outside_of))]
 fn outside_of(alloc: Global, value: &Value) -> Result<Command, ReadStop>
     ensures { Gives (outside_of (view value.now)) result }
@@ -136,6 +140,7 @@ fn label_value(alloc: Global, kind: LabelKind, text: &str) -> Result<LabelValue,
     })
 }
 
+// A label with its owner.
 #[tactic(auto, unfolding(crate::specs::Requests::label_of))]
 fn label_of(alloc: Global, value: &Value) -> Result<(ResNo, Label), ReadStop>
     ensures { Gives (label_of (view value.now)) result }
@@ -151,6 +156,7 @@ fn label_of(alloc: Global, value: &Value) -> Result<(ResNo, Label), ReadStop>
     Ok((owner, Label { tag, value }))
 }
 
+// A label to be added.
 #[tactic(auto, using(crate::proofs::ReadingLemmas::stopped), unfolding(crate::specs::Requests::add_label_of))]
 fn add_label_of(alloc: Global, value: &Value) -> Result<Command, ReadStop>
     ensures { Gives (add_label_of (view value.now)) result }
@@ -159,6 +165,7 @@ fn add_label_of(alloc: Global, value: &Value) -> Result<Command, ReadStop>
     Ok(Command::AddLabel(owner, label))
 }
 
+// A label to be dropped.
 #[tactic(auto, using(crate::proofs::ReadingLemmas::stopped), unfolding(crate::specs::Requests::drop_label_of))]
 fn drop_label_of(alloc: Global, value: &Value) -> Result<Command, ReadStop>
     ensures { Gives (drop_label_of (view value.now)) result }
@@ -167,6 +174,7 @@ fn drop_label_of(alloc: Global, value: &Value) -> Result<Command, ReadStop>
     Ok(Command::DropLabel(owner, label))
 }
 
+// A new preferred label.
 #[tactic(auto, unfolding(crate::specs::Requests::relabel_of))]
 fn relabel_of(alloc: Global, value: &Value) -> Result<Command, ReadStop>
     ensures { Gives (relabel_of (view value.now)) result }
@@ -184,6 +192,7 @@ fn relabel_of(alloc: Global, value: &Value) -> Result<Command, ReadStop>
     ))
 }
 
+// A link.
 #[tactic(auto, unfolding(crate::specs::Requests::link_of))]
 fn link_of(value: &Value) -> Result<Link, ReadStop>
     ensures { Gives (link_of (view value.now)) result }
@@ -199,6 +208,7 @@ fn link_of(value: &Value) -> Result<Link, ReadStop>
     })
 }
 
+// A link to be made.
 #[tactic(auto, using(crate::proofs::ReadingLemmas::stopped), unfolding(crate::specs::Requests::add_link_of))]
 fn add_link_of(value: &Value) -> Result<Command, ReadStop>
     ensures { Gives (add_link_of (view value.now)) result }
@@ -207,6 +217,7 @@ fn add_link_of(value: &Value) -> Result<Command, ReadStop>
     Ok(Command::Link(link.kind, link.a, link.b))
 }
 
+// A link to be undone.
 #[tactic(auto, using(crate::proofs::ReadingLemmas::stopped), unfolding(crate::specs::Requests::unlink_of))]
 fn unlink_of(value: &Value) -> Result<Command, ReadStop>
     ensures { Gives (unlink_of (view value.now)) result }
@@ -215,6 +226,7 @@ fn unlink_of(value: &Value) -> Result<Command, ReadStop>
     Ok(Command::Unlink(link.kind, link.a, link.b))
 }
 
+// A concept to be deprecated.
 #[tactic(auto, unfolding(crate::specs::Requests::deprecate_of))]
 fn deprecate_of(value: &Value) -> Result<Command, ReadStop>
     ensures { Gives (deprecate_of (view value.now)) result }
@@ -224,6 +236,7 @@ fn deprecate_of(value: &Value) -> Result<Command, ReadStop>
     Ok(Command::Deprecate(res_no(concept)?))
 }
 
+// Two concepts to be merged.
 #[tactic(auto, unfolding(crate::specs::Requests::merge_of))]
 fn merge_of(value: &Value) -> Result<Command, ReadStop>
     ensures { Gives (merge_of (view value.now)) result }
@@ -234,6 +247,7 @@ fn merge_of(value: &Value) -> Result<Command, ReadStop>
     Ok(Command::Merge(res_no(source)?, res_no(target)?))
 }
 
+// A concept to be split.
 #[tactic(auto, unfolding(crate::specs::Requests::split_of))]
 fn split_of(alloc: Global, value: &Value) -> Result<Command, ReadStop>
     ensures { Gives (split_of (view value.now)) result }
@@ -249,6 +263,7 @@ fn split_of(alloc: Global, value: &Value) -> Result<Command, ReadStop>
     Ok(Command::Split(source, tag, text, post_nos(alloc, &postings)?))
 }
 
+// A new posting.
 #[tactic(auto, unfolding(crate::specs::Requests::post_of))]
 fn post_of(alloc: Global, value: &Value) -> Result<Command, ReadStop>
     ensures { Gives (post_of (view value.now)) result }
@@ -264,6 +279,7 @@ fn post_of(alloc: Global, value: &Value) -> Result<Command, ReadStop>
     ))
 }
 
+// A posting to be withdrawn.
 #[tactic(auto, unfolding(crate::specs::Requests::withdraw_of))]
 fn withdraw_of(value: &Value) -> Result<Command, ReadStop>
     ensures { Gives (withdraw_of (view value.now)) result }
@@ -273,6 +289,7 @@ fn withdraw_of(value: &Value) -> Result<Command, ReadStop>
     Ok(Command::Withdraw(post_no(posting)?))
 }
 
+// What a word at `do` asks for.
 fn command_of(alloc: Global, verb: Verb, value: &Value) -> Result<Command, ReadStop>
     ensures { Gives (command_of verb (view value.now)) result }
 {
@@ -294,6 +311,7 @@ fn command_of(alloc: Global, verb: Verb, value: &Value) -> Result<Command, ReadS
     }
 }
 
+// The totals.
 #[tactic(auto, unfolding(crate::specs::Requests::totals_of))]
 fn totals_of(value: &Value) -> Result<Query, ReadStop>
     ensures { Gives (totals_of (view value.now)) result }
@@ -302,6 +320,7 @@ fn totals_of(value: &Value) -> Result<Query, ReadStop>
     Ok(Query::Totals)
 }
 
+// A concept to be shown.
 #[tactic(auto, unfolding(crate::specs::Requests::shown_concept_of))]
 fn shown_concept_of(value: &Value) -> Result<Query, ReadStop>
     ensures { Gives (shown_concept_of (view value.now)) result }
@@ -311,6 +330,7 @@ fn shown_concept_of(value: &Value) -> Result<Query, ReadStop>
     Ok(Query::Concept(res_no(number)?))
 }
 
+// A concept whose postings are to be shown.
 #[tactic(auto, unfolding(crate::specs::Requests::shown_postings_of))]
 fn shown_postings_of(value: &Value) -> Result<Query, ReadStop>
     ensures { Gives (shown_postings_of (view value.now)) result }
@@ -320,6 +340,7 @@ fn shown_postings_of(value: &Value) -> Result<Query, ReadStop>
     Ok(Query::Postings(res_no(concept)?))
 }
 
+// A posting to be shown.
 #[tactic(auto, unfolding(crate::specs::Requests::shown_posting_of))]
 fn shown_posting_of(value: &Value) -> Result<Query, ReadStop>
     ensures { Gives (shown_posting_of (view value.now)) result }
@@ -329,6 +350,7 @@ fn shown_posting_of(value: &Value) -> Result<Query, ReadStop>
     Ok(Query::Posting(post_no(number)?))
 }
 
+// What a word at `get` asks for.
 fn query_of(noun: Noun, value: &Value) -> Result<Query, ReadStop>
     ensures { Gives (query_of noun (view value.now)) result }
 {
@@ -340,6 +362,7 @@ fn query_of(noun: Noun, value: &Value) -> Result<Query, ReadStop>
     }
 }
 
+// A request with this word at `do`.
 #[tactic(auto, using(crate::proofs::ReadingLemmas::stopped), unfolding(crate::specs::Requests::do_of))]
 fn do_of(alloc: Global, verb: Verb, value: &Value) -> Result<Request, ReadStop>
     ensures { Gives (do_of verb (view value.now)) result }
@@ -347,6 +370,7 @@ fn do_of(alloc: Global, verb: Verb, value: &Value) -> Result<Request, ReadStop>
     Ok(Request::Do(command_of(alloc, verb, value)?))
 }
 
+// A request with this word at `get`.
 #[tactic(auto, using(crate::proofs::ReadingLemmas::stopped), unfolding(crate::specs::Requests::get_of))]
 fn get_of(noun: Noun, value: &Value) -> Result<Request, ReadStop>
     ensures { Gives (get_of noun (view value.now)) result }
@@ -354,6 +378,7 @@ fn get_of(noun: Noun, value: &Value) -> Result<Request, ReadStop>
     Ok(Request::Get(query_of(noun, value)?))
 }
 
+// The request that a value is.
 #[tactic(auto, unfolding(crate::specs::Requests::request_in))]
 fn request_in(alloc: Global, value: &Value) -> Result<Request, ReadStop>
     ensures { Gives (request_in (view value.now)) result }

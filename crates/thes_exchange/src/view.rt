@@ -3,7 +3,7 @@ ghost use Rattle.std.specs.Prelude.{◌≡◌, IfOk, OnOk, map, false};
 ghost use Rattle.serde_json.specs.View.{view, members_view};
 ghost use Rattle.serde_json.specs.Written.{has_float};
 ghost use Rattle.thes_base.specs.Postings.{place};
-ghost use Rattle.thes_exchange.specs.Shown.{tagged};
+ghost use Rattle.thes_core.specs.Shown.{tagged};
 ghost use Rattle.thes_exchange.specs.ConceptMembers.{with_labels, with_links, with_facts};
 ghost use Rattle.thes_exchange.specs.ViewTexts.{num, listed, number_or_null, tagged_data, mapping_data, move_data, row_data, totals_data, concept_data, postings_data, posting_data, line_text, view_text};
 
@@ -42,7 +42,7 @@ pub struct ConceptView<'a> {
 impl<'a> Model for ConceptView<'a> {
     ghost use Rattle.std.specs.Prelude.{map};
     ghost use Rattle.thes_base.specs.Views.{ConceptShown};
-    ghost use Rattle.thes_exchange.specs.Shown.{tagged};
+    ghost use Rattle.thes_core.specs.Shown.{tagged};
 
     ghost Value = { ConceptShown };
 
@@ -90,6 +90,7 @@ pub enum View<'a> {
     No(Refusal),
 }
 
+// The totals as JSON.
 fn totals_value(alloc: Global, totals: &Totals) -> Result<Value, AllocError>
     ensures { IfOk result (λ v. view v ≡ totals_data totals.now) }
 {
@@ -100,6 +101,7 @@ fn totals_value(alloc: Global, totals: &Totals) -> Result<Value, AllocError>
     })
 }
 
+// A number as JSON, or null.
 fn number_or_null(number: Option<ResNo>) -> Value
     ensures { view result ≡ number_or_null number }
 {
@@ -109,6 +111,7 @@ fn number_or_null(number: Option<ResNo>) -> Value
     }
 }
 
+// Numbers as JSON.
 fn numbers_value(alloc: Global, numbers: &[ResNo]) -> Result<Value, AllocError>
     ensures { IfOk result (λ v. view v ≡ listed num numbers.now) }
 {
@@ -119,12 +122,14 @@ fn numbers_value(alloc: Global, numbers: &[ResNo]) -> Result<Value, AllocError>
     Ok(Value::Array(list))
 }
 
+// A tag and a text as JSON.
 fn label_value(alloc: Global, label: &Label) -> Result<Value, AllocError>
     ensures { IfOk result (λ v. view v ≡ tagged_data (tagged label.now)) }
 {
     json!(in alloc; [label.tag.as_str(), label.text()])
 }
 
+// Labels as JSON.
 fn labels_value(alloc: Global, labels: &[&Label]) -> Result<Value, AllocError>
     ensures { IfOk result (λ v. view v ≡ listed tagged_data (map (λ l. tagged l.now) labels.now)) }
 {
@@ -135,6 +140,7 @@ fn labels_value(alloc: Global, labels: &[&Label]) -> Result<Value, AllocError>
     Ok(Value::Array(list))
 }
 
+// A mapping as JSON: its word and its other end.
 fn mapping_value(alloc: Global, mapping: (LinkKind, ResNo)) -> Result<Value, AllocError>
     ensures { IfOk result (λ v. view v ≡ mapping_data mapping) }
 {
@@ -142,6 +148,7 @@ fn mapping_value(alloc: Global, mapping: (LinkKind, ResNo)) -> Result<Value, All
     json!(in alloc; [link_word(kind), other.get()])
 }
 
+// Mappings as JSON.
 fn mappings_value(alloc: Global, mappings: &[(LinkKind, ResNo)]) -> Result<Value, AllocError>
     ensures { IfOk result (λ v. view v ≡ listed mapping_data mappings.now) }
 {
@@ -235,6 +242,7 @@ fn put_facts(
     put(members, alloc, "top", Value::from(concept.top))
 }
 
+// A concept as JSON.
 fn concept_value(alloc: Global, concept: &ConceptView) -> Result<Value, AllocError>
     ensures { IfOk result (λ v. view v ≡ concept_data concept.now) }
 {
@@ -245,12 +253,14 @@ fn concept_value(alloc: Global, concept: &ConceptView) -> Result<Value, AllocErr
     Ok(Value::Object(members))
 }
 
+// A posting in a list, as JSON.
 fn row_value(alloc: Global, history: &History) -> Result<Value, AllocError>
     ensures { IfOk result (λ v. view v ≡ row_data history.now) }
 {
     json!(in alloc; [history.number.get(), history.key.as_str(), history.rec.as_str()])
 }
 
+// Postings in a list, as JSON.
 fn rows_value(alloc: Global, rows: &[&History]) -> Result<Value, AllocError>
     ensures { IfOk result (λ v. view v ≡ listed row_data (map (λ h. h.now) rows.now)) }
 {
@@ -261,6 +271,7 @@ fn rows_value(alloc: Global, rows: &[&History]) -> Result<Value, AllocError>
     Ok(Value::Array(list))
 }
 
+// The postings at a concept as JSON.
 fn postings_value(alloc: Global, postings: &PostingRows) -> Result<Value, AllocError>
     ensures { IfOk result (λ v. view v ≡ postings_data postings.now) }
 {
@@ -268,12 +279,14 @@ fn postings_value(alloc: Global, postings: &PostingRows) -> Result<Value, AllocE
     json!(in alloc; {"postings": rows})
 }
 
+// A move as JSON.
 fn move_value(alloc: Global, step: &Move) -> Result<Value, AllocError>
     ensures { IfOk result (λ v. view v ≡ move_data step.now) }
 {
     json!(in alloc; [step.number.get(), step.source.get(), step.target.get()])
 }
 
+// Moves as JSON.
 fn moves_value(alloc: Global, moves: &[Move]) -> Result<Value, AllocError>
     ensures { IfOk result (λ v. view v ≡ listed move_data moves.now) }
 {
@@ -294,6 +307,7 @@ fn place_of(history: &History) -> ResNo
     }
 }
 
+// A posting with its history as JSON.
 fn posting_value(alloc: Global, history: &History) -> Result<Value, AllocError>
     ensures { IfOk result (λ v. view v ≡ posting_data history.now) }
 {
@@ -319,12 +333,14 @@ fn value_line(alloc: Global, value: &Value) -> Result<Vec<u8>, AllocError>
     Ok(text)
 }
 
+// The line of the totals.
 fn totals_line(alloc: Global, totals: &Totals) -> Result<Vec<u8>, AllocError>
     ensures { IfOk result (λ text. text.items ≡ line_text (totals_data totals.now)) }
 {
     value_line(alloc, &totals_value(alloc, totals)?)
 }
 
+// The line of a concept.
 #[tactic(auto, using(crate::proofs::ViewLemmas::concept_has_no_float))]
 fn concept_line(alloc: Global, concept: &ConceptView) -> Result<Vec<u8>, AllocError>
     ensures { IfOk result (λ text. text.items ≡ line_text (concept_data concept.now)) }
@@ -332,6 +348,7 @@ fn concept_line(alloc: Global, concept: &ConceptView) -> Result<Vec<u8>, AllocEr
     value_line(alloc, &concept_value(alloc, concept)?)
 }
 
+// The line of the postings at a concept.
 #[tactic(auto, using(crate::proofs::ViewLemmas::postings_have_no_float))]
 fn postings_line(alloc: Global, postings: &PostingRows) -> Result<Vec<u8>, AllocError>
     ensures { IfOk result (λ text. text.items ≡ line_text (postings_data postings.now)) }
@@ -339,6 +356,7 @@ fn postings_line(alloc: Global, postings: &PostingRows) -> Result<Vec<u8>, Alloc
     value_line(alloc, &postings_value(alloc, postings)?)
 }
 
+// The line of a posting.
 #[tactic(auto, using(crate::proofs::ViewLemmas::posting_has_no_float))]
 fn posting_line(alloc: Global, history: &History) -> Result<Vec<u8>, AllocError>
     ensures { IfOk result (λ text. text.items ≡ line_text (posting_data history.now)) }
