@@ -1,0 +1,5 @@
+pub mod MemberLemmas
+pub mod ReadingLemmas
+pub mod FeedLemmas
+pub mod LineLemmas
+pub mod ScriptLemmas

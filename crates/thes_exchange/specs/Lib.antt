@@ -1,0 +1,9 @@
+pub mod Readings
+pub mod Members
+pub mod Words
+pub mod Requests
+pub mod AnswerTexts
+pub mod Feed
+pub mod Serving
+pub mod Script
+pub mod Served
