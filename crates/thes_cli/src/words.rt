@@ -1,4 +1,7 @@
 //! The words of the command line.
+ghost use Rattle.std.specs.Prelude.{◌≡◌};
+ghost use Rattle.thes_cli.specs.Parting.{parting_status};
+
 use clap::error::ErrorKind;
 use clap::{Command, Error};
 use std::alloc::{AllocError, Global};
@@ -34,7 +37,7 @@ Exit status:
   2  the command line is wrong
   3  a fault, printed on standard error as 'thesaurus: fault NAME'
 
-README.md and docs/ of the repository tell of every request and its answers.";
+docs/REQUESTS.md of the repository tells of every request and its answers, README.md of all else.";
 
 /// What the words of the command line ask for.
 #[derive(Clone, Copy, Debug, PartialEq, Eq)]
@@ -72,7 +75,9 @@ impl From<io::Error> for Parting {
 
 impl Parting {
     /// The program's exit status.
-    pub fn status(&self) -> u8 {
+    pub fn status(&self) -> u8
+        ensures { result ≡ parting_status self.now }
+    {
         match self {
             Parting::Help(_) => 0,
             Parting::Usage(_) | Parting::NotText => 2,

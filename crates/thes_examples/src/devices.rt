@@ -2,11 +2,15 @@
 ghost use Rattle.std.specs.Prelude.{Some};
 
 use crate::run::{new_core, outcome};
-use crate::stub::{Core, Limits, Pipe, PipeFault, script};
+use crate::stub::Core;
 use std::alloc::Global;
 use std::io;
 use std::io::{ErrorKind, Read, Write};
 use std::test::Fail;
+use thes_base::data::Limits;
+use thes_base::fault::PipeFault;
+use thes_base::pipe::Pipe;
+use thes_exchange::script::script;
 
 // Requests of which each changes what the views below show.
 static REQUESTS: &str = r#"{"do":"scheme","tag":"en","text":"Animals"}

@@ -1,9 +1,9 @@
 //! Tags, texts, notes, IRIs, keys and names of records at each edge of their rules.
 use crate::run::answers_to;
-use crate::stub::Limits;
 use std::alloc::{AllocError, Global};
 use std::process::Abort;
 use std::test::Fail;
+use thes_base::data::Limits;
 
 // What is tried.
 #[derive(Clone, Copy, PartialEq, Eq)]

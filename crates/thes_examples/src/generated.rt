@@ -2,10 +2,9 @@
 use crate::orders::{FIRST_TEXT, LAST_TEXT, Order, Word};
 use crate::plain::{Label, Plain, number_of};
 use crate::run::answers_to;
-use crate::stub::Limits;
 use std::alloc::{AllocError, Global};
 use std::test::Fail;
-use thes_base::data::{LabelKind, LinkKind};
+use thes_base::data::{LabelKind, Limits, LinkKind};
 
 /// Numbers that look thrown, and are the same in each run.
 #[derive(Drop)]

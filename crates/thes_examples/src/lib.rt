@@ -20,6 +20,8 @@ mod mappings;
 #[cfg(test)]
 mod memory;
 #[cfg(test)]
+mod numbers;
+#[cfg(test)]
 mod orders;
 #[cfg(test)]
 mod plain;

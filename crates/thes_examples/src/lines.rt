@@ -1,9 +1,11 @@
 //! How a script is cut into lines, and how long it may be.
 use crate::run::{new_core, outcome};
-use crate::stub::{Ended, Limits, PipeFault};
 use std::alloc::{AllocError, Global};
 use std::process::Abort;
 use std::test::Fail;
+use thes_base::data::Limits;
+use thes_base::fault::PipeFault;
+use thes_exchange::script::Ended;
 
 const TOTALS: &str = "{\"accepted\":0,\"standing\":0,\"withdrawn\":0}\n";
 
@@ -30,7 +32,7 @@ static CUTS: [Case; 16] = [
     (b"\xff\n", NO_JSON),
     (b"{\"get\":\"totals\",\"\xff\":1}\n", NO_JSON),
     (
-        b"{\"get\":\n\"totals\"}",
+        b"{\"get\":\n\"totals\"",
         "{\"bad\":\"NotJson\"}\n{\"bad\":\"BadShape\"}\n",
     ),
 ];

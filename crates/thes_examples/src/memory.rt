@@ -3,12 +3,17 @@
 ghost use Rattle.std.specs.Prelude.{◌≤◌};
 
 use crate::run::{BASE, answers_to};
-use crate::stub::{Base, Core, Fault, Limits, Pipe, PipeFault, script};
+use crate::stub::Core;
 use std::alloc::Global;
 use std::io::Write;
 use std::process::Abort;
 use std::test::Fail;
 use std::{io, str};
+use thes_base::data::Limits;
+use thes_base::fault::{Fault, PipeFault};
+use thes_base::pipe::Pipe;
+use thes_base::text::Base;
+use thes_exchange::script::script;
 
 static REQUESTS: &str = r#"{"do":"scheme","tag":"en","text":"Animals"}
 {"do":"concept","scheme":1,"tag":"en","text":"Cats"}

@@ -5,9 +5,8 @@ mod conditions;
 mod views;
 
 use crate::orders::Word;
-use crate::stub::Limits;
 use std::alloc::{AllocError, Global};
-use thes_base::data::{LabelKind, LinkKind, ResourceKind};
+use thes_base::data::{LabelKind, Limits, LinkKind, ResourceKind};
 
 /// A resource. Its number is its place in the list, counted from 1. A 0 stands for none.
 #[derive(Clone, Copy)]

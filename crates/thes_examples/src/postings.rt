@@ -1,7 +1,7 @@
 //! Postings: how they are accepted, moved by merges and splits, counted and withdrawn.
 use crate::run::{Exchange, START, run, run_within};
-use crate::stub::Limits;
 use std::test::Fail;
+use thes_base::data::Limits;
 
 static NOTHING: [Exchange; 0] = [];
 

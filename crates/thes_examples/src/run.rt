@@ -1,9 +1,14 @@
 //! How an example is run: its requests go through the engine as one script, over pipes in memory.
-use crate::stub::{Base, Core, Ended, Limits, Pipe, PipeFault, script};
+use crate::stub::Core;
 use std::alloc::Global;
 use std::io::Read;
 use std::process::Abort;
 use std::test::Fail;
+use thes_base::data::Limits;
+use thes_base::fault::PipeFault;
+use thes_base::pipe::Pipe;
+use thes_base::text::Base;
+use thes_exchange::script::{Ended, script};
 
 /// A request and its answer, each a line. The answer is empty where the request is a blank line.
 pub type Exchange = (&'static str, &'static str);
