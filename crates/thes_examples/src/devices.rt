@@ -2,7 +2,6 @@
 ghost use Rattle.std.specs.Prelude.{Some};
 
 use crate::run::{new_core, outcome};
-use crate::stub::Core;
 use std::alloc::Global;
 use std::io;
 use std::io::{ErrorKind, Read, Write};
@@ -10,7 +9,8 @@ use std::test::Fail;
 use thes_base::data::Limits;
 use thes_base::fault::PipeFault;
 use thes_base::pipe::Pipe;
-use thes_exchange::script::script;
+use thes_core::Core;
+use thes_exchange::core_desk::core_script;
 
 // Requests of which each changes what the views below show.
 static REQUESTS: &str = r#"{"do":"scheme","tag":"en","text":"Animals"}
@@ -156,7 +156,7 @@ fn a_writer_may_break_at_each_call(rt: HostRuntime) -> Result<(), Fail> {
             calls,
             is_full: calls % 4 < 2,
         });
-        let ended = script(alloc, &mut reader, &mut writer, &mut core);
+        let ended = core_script(alloc, &mut reader, &mut writer, &mut core);
         let written = String::from_utf8(writer.into_device().bytes)?;
         assert!(rt; whole.as_str().starts_with(written.as_str()), "{calls}");
         if ended.is_ok() {

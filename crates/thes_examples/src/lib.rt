@@ -31,5 +31,3 @@ mod postings;
 mod requests;
 #[cfg(test)]
 mod run;
-#[cfg(test)]
-mod stub;

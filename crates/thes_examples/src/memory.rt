@@ -3,7 +3,6 @@
 ghost use Rattle.std.specs.Prelude.{◌≤◌};
 
 use crate::run::{BASE, answers_to};
-use crate::stub::Core;
 use std::alloc::Global;
 use std::io::Write;
 use std::process::Abort;
@@ -13,7 +12,8 @@ use thes_base::data::Limits;
 use thes_base::fault::{Fault, PipeFault};
 use thes_base::pipe::Pipe;
 use thes_base::text::Base;
-use thes_exchange::script::script;
+use thes_core::Core;
+use thes_exchange::core_desk::core_script;
 
 static REQUESTS: &str = r#"{"do":"scheme","tag":"en","text":"Animals"}
 {"do":"concept","scheme":1,"tag":"en","text":"Cats"}
@@ -130,7 +130,7 @@ fn want_of_memory_is_answered_as_such(rt: HostRuntime) -> Result<(), Fail> {
         bytes: [0; 4096],
         filled: 0,
     });
-    let ended = script(alloc, &mut reader, &mut writer, &mut core);
+    let ended = core_script(alloc, &mut reader, &mut writer, &mut core);
     let page = writer.into_device();
     let written = str::from_utf8(&page.bytes[..page.filled])?;
     match ended {

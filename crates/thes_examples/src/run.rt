@@ -1,14 +1,15 @@
 //! How an example is run: its requests go through the engine as one script, over pipes in memory.
-use crate::stub::Core;
 use std::alloc::Global;
 use std::io::Read;
 use std::process::Abort;
 use std::test::Fail;
 use thes_base::data::Limits;
-use thes_base::fault::PipeFault;
+use thes_base::fault::{Fault, PipeFault};
 use thes_base::pipe::Pipe;
 use thes_base::text::Base;
-use thes_exchange::script::{Ended, script};
+use thes_core::Core;
+use thes_exchange::core_desk::core_script;
+use thes_exchange::script::Ended;
 
 /// A request and its answer, each a line. The answer is empty where the request is a blank line.
 pub type Exchange = (&'static str, &'static str);
@@ -69,15 +70,18 @@ fn is_refused(table: &[Exchange]) -> bool {
         || answer.starts_with(r#"{"bad""#))
 }
 
-/// What is written for a script in this store, and how it ended.
+/// What is written for a script in this store, and how it ended. A store that want of memory has closed answers nothing.
 pub fn outcome<R: Read + Drop>(
     alloc: Global,
     core: &mut Core,
     requests: R,
 ) -> Result<(String, Result<Ended, PipeFault>), Fail> {
+    if core.is_spent() {
+        return Ok((String::new(alloc), Err(PipeFault::Fault(Fault::OutOfMemory))));
+    }
     let mut reader = Pipe::new(requests);
     let mut writer = Pipe::new(Vec::new(alloc));
-    let ended = script(alloc, &mut reader, &mut writer, core);
+    let ended = core_script(alloc, &mut reader, &mut writer, core);
     Ok((String::from_utf8(writer.into_device())?, ended))
 }
 
