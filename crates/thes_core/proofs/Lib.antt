@@ -1,2 +1,4 @@
 pub mod GrowthLemmas
 pub mod NextLemmas
+pub mod JudgeLemmas
+pub mod ApplyLemmas

@@ -36,16 +36,16 @@ Decides setting s command Accepted = Accepts setting s command
 -- The core holds this state and gives this answer. Want of memory leaves it spent.
 abbrev pub Makes : Kept → State → Answer → Result Answer Fault → Kept → Type 0
 Makes old state answer (Ok given) new = (given ≡ answer) × (new.state ≡ state) × (new.spent ≡ false) × (new.setting ≡ old.setting)
-Makes old state answer (Err fault) new = (fault ≡ OutOfMemory) × (new.spent ≡ true) × (new.setting ≡ old.setting)
+Makes old state answer (Err fault) new = (fault ≡ OutOfMemory) × (new.spent ≡ true)
 
 -- One step of the machine. After want of memory the core holds the state before, or it is spent.
 abbrev pub Performs : Kept → Command → Result Answer Fault → Kept → Type 0
 Performs old command (Ok answer) new = Step old.setting old.state command answer new.state × (new.spent ≡ false) × (new.setting ≡ old.setting)
-Performs old command (Err fault) new = (fault ≡ OutOfMemory) × ((new ≡ old) ⊎ (new.spent ≡ true)) × (new.setting ≡ old.setting)
+Performs old command (Err fault) new = (fault ≡ OutOfMemory) × ((new ≡ old) ⊎ (new.spent ≡ true))
 
 -- the core holds this state, or it is spent
 abbrev pub IsLeftAt : Kept → State → Kept → Type 0
-IsLeftAt old s new = (new.setting ≡ old.setting) × ((new.spent ≡ true) ⊎ ((new.spent ≡ false) × (new.state ≡ s)))
+IsLeftAt old s new = (new.spent ≡ true) ⊎ ((new.spent ≡ false) × (new.state ≡ s) × (new.setting ≡ old.setting))
 
 -- Some of the requests were answered by the machine, and its answers are kept after those before.
 -- The core then holds the state that these requests lead to, or is spent.

@@ -1,3 +1,5 @@
 pub mod Room
 pub mod Kept
 pub mod Decides
+pub mod Requests
+pub mod View

@@ -10,19 +10,13 @@ ghost use Rattle.thes_base.specs.Refusals.{AreEnds, HaveSchemes, unless_owner, u
 use thes_base::data::{Link, LinkForm, LinkKind, Resource, ResourceKind};
 use thes_base::fault::Refusal;
 use thes_base::number::ResNo;
-
-// The resource of a number.
-fn resource_at(resources: &[Resource], number: ResNo) -> Option<Resource>
-    ensures { result ≡ numbered resources.now number }
-{
-    resources.get(number.get() as usize - 1).copied()
-}
+use thes_vocab::Vocab;
 
 /// Whether labels may be given to this resource, or taken from it.
-pub fn judge_owner(resources: &[Resource], owner: ResNo) -> Option<Refusal>
-    ensures { unless_owner resources.now owner accepted result }
+pub fn judge_owner(vocab: &Vocab, owner: ResNo) -> Option<Refusal>
+    ensures { unless_owner vocab.now.resources owner accepted result }
 {
-    let Some(resource) = resource_at(resources, owner) else {
+    let Some(resource) = vocab.resource(owner).copied() else {
         return Some(Refusal::UnknownResource);
     };
     if resource.kind == ResourceKind::Outside {
@@ -35,10 +29,10 @@ pub fn judge_owner(resources: &[Resource], owner: ResNo) -> Option<Refusal>
 }
 
 /// Whether this is a live concept.
-pub fn judge_live_concept(resources: &[Resource], concept: ResNo) -> Option<Refusal>
-    ensures { unless_live_concept resources.now concept accepted result }
+pub fn judge_live_concept(vocab: &Vocab, concept: ResNo) -> Option<Refusal>
+    ensures { unless_live_concept vocab.now.resources concept accepted result }
 {
-    let Some(resource) = resource_at(resources, concept) else {
+    let Some(resource) = vocab.resource(concept).copied() else {
         return Some(Refusal::UnknownResource);
     };
     if resource.kind != ResourceKind::Concept {
@@ -51,13 +45,13 @@ pub fn judge_live_concept(resources: &[Resource], concept: ResNo) -> Option<Refu
 }
 
 /// Whether these are two live concepts of one scheme.
-pub fn judge_pair(resources: &[Resource], source: ResNo, target: ResNo) -> Option<Refusal>
-    ensures { unless_pair resources.now source target accepted result }
+pub fn judge_pair(vocab: &Vocab, source: ResNo, target: ResNo) -> Option<Refusal>
+    ensures { unless_pair vocab.now.resources source target accepted result }
 {
-    let Some(from) = resource_at(resources, source) else {
+    let Some(from) = vocab.resource(source).copied() else {
         return Some(Refusal::UnknownResource);
     };
-    let Some(to) = resource_at(resources, target) else {
+    let Some(to) = vocab.resource(target).copied() else {
         return Some(Refusal::UnknownResource);
     };
     if from.kind != ResourceKind::Concept || to.kind != ResourceKind::Concept {
@@ -119,13 +113,13 @@ fn have_schemes(form: LinkForm, a: &Resource, b: &Resource) -> bool
 }
 
 /// Whether a link may join these two, by its kind.
-pub fn judge_ends(resources: &[Resource], link: &Link) -> Option<Refusal>
-    ensures { unless_ends resources.now link.now accepted result }
+pub fn judge_ends(vocab: &Vocab, link: &Link) -> Option<Refusal>
+    ensures { unless_ends vocab.now.resources link.now accepted result }
 {
-    let Some(a) = resource_at(resources, link.a) else {
+    let Some(a) = vocab.resource(link.a).copied() else {
         return Some(Refusal::UnknownResource);
     };
-    let Some(b) = resource_at(resources, link.b) else {
+    let Some(b) = vocab.resource(link.b).copied() else {
         return Some(Refusal::UnknownResource);
     };
     let form = form(link.kind);

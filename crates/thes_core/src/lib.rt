@@ -2,5 +2,14 @@
 #![tactic(auto)]
 
 mod arguments;
+mod changing;
+mod judging;
+pub mod machine;
+pub mod reading;
 mod room;
+mod thesaurus;
 pub mod verdict;
+
+pub use machine::Core;
+pub use thes_base::request::{Answer, Command};
+pub use verdict::Verdict;

@@ -28,5 +28,5 @@ front_more old mid new line line' held held' taken b f s e k = record {
   bytes = consumes_then old mid new f.raw (b ∷ []) f.bytes s;
   one = has_newline-more f.raw b f.one e;
   count = rw (length-append f.raw (b ∷ [])) (ap (λ n. n + 1) f.count);
-  kept = λ h. let p = k h in p.1 ∙ ap (λ t. t ++ b ∷ []) (f.kept p.0)
+  kept = λ h. let p = k h in p.1 ∙ ap (λ t. t ++ b ∷ []) (f.kept p.0);
 }

@@ -3,3 +3,4 @@ pub mod ReadingLemmas
 pub mod FeedLemmas
 pub mod LineLemmas
 pub mod ScriptLemmas
+pub mod ViewLemmas

@@ -2,7 +2,6 @@
 use Rattle.std.proofs.Common.{◌≡◌, ◌≢◌, ◌∙◌, sym, ap, refl, ℕ, List, [], ◌∷◌, ◌++◌, ◌==◌, append_assoc, append-nil, Bool, true, false, cond, Option, Some, None, rules}
 use Rattle.std.specs.List.{slice_split, onto_first}
 use Rattle.std.specs.Str.Lines.{lines, lines_of_parts, strip_carriage_return}
-use Rattle.std.specs.Io.KnownBytes.{Consumes, IsAtEnd}
 use Rattle.thes_exchange.specs.Feed.{has_newline, line_text, TakesLine}
 use Rattle.thes_exchange.specs.Script.{whole_lines, whole_lines_of}
 
@@ -64,13 +63,13 @@ leaves xs (Some ys) raw false k = let split = k.bytes ∙ append_assoc raw (10 �
   rest = ys;
   is_rest = refl;
   texts = ap lines split ∙ lines_line raw ys k.one;
-  wholes = ap whole_lines split ∙ whole_line raw ys k.one
+  wholes = ap whole_lines split ∙ whole_line raw ys k.one;
 }
 leaves xs (Some ys) raw true k =
     let last = k.last refl in
     let all : xs ≡ raw = k.bytes ∙ (ap (λ t. raw ++ t) last.1 ∙ append-nil raw) in record {
-  rest = ys;
-  is_rest = refl;
-  texts = ap lines all ∙ (lines_last raw k.one last.0 ∙ ap (λ t. raw ∷ t) (sym (ap lines last.1)));
-  wholes = ap whole_lines all ∙ (whole_last raw k.one last.0 ∙ ap (λ t. raw ∷ t) (sym (ap whole_lines last.1)))
-}
+      rest = ys;
+      is_rest = refl;
+      texts = ap lines all ∙ (lines_last raw k.one last.0 ∙ ap (λ t. raw ∷ t) (sym (ap lines last.1)));
+      wholes = ap whole_lines all ∙ (whole_last raw k.one last.0 ∙ ap (λ t. raw ∷ t) (sym (ap whole_lines last.1)));
+    }

@@ -14,13 +14,8 @@ use Rattle.serde_json.specs.Read.{read}
 use Rattle.serde_json.specs.Find.{as_number}
 use Rattle.serde_json.specs.View.{view, number_view, members_view, items_of, items_view}
 use Rattle.serde_json.specs.declared.value.Value.{Value}
-use Rattle.thes_exchange.specs.Members.{count, all_numbers}
+use Rattle.thes_exchange.specs.Members.{all_numbers}
 use Rattle.thes_exchange.specs.Requests.{json_in, whole, AreNumbers}
-
--- an object has as many members as its map has entries
-pub count-members_view : (ms : List (String Global × Value)) → count (members_view ms) ≡ length ms
-count-members_view [] = refl
-count-members_view (m ∷ ms) = ap suc (count-members_view ms)
 
 pub json_in-text : (bytes : List ℕ) (d : Data) → IsUtf8 bytes → read bytes ≡ Some d → json_in bytes ≡ Some d
 json_in-text bytes d u r = rw (is_utf8-from_IsUtf8 bytes u, r) refl

@@ -1,5 +1,5 @@
 -- How one reading follows another.
-use Rattle.std.proofs.Common.{◌≡◌, refl, sym, subst, ap, inl, inr, Result, Ok, Err, rules}
+use Rattle.std.proofs.Common.{◌≡◌, ◌∙◌, refl, sym, subst, ap, inl, inr, Result, Ok, Err, rules}
 use Rattle.thes_base.specs.declared.fault.FormFault.{FormFault}
 use Rattle.thes_base.specs.declared.fault.ReadStop.{ReadStop}
 use Rattle.thes_base.specs.declared.fault.ReadStop.TheVariants.{Form}
@@ -25,3 +25,12 @@ module _ {A B : Type 0} (next : A → Reading B) where
   -- the first one's fault is the whole's
   pub stopped : (reading : Reading A) (e : ReadStop) → Gives reading (Err e) → Gives (reading >>= next) (Err e)
   stopped reading e h = record { value = λ y p. cc; fault = λ f p. stops reading f (h.fault f (ap (λ v. Err v) (let q : e ≡ Form f = cc in q))) }
+
+-- a reading reaches one outcome
+pub one_outcome : {A : Type 0} (reading : Reading A) (x y : Result A FormFault) → Reaches reading x → Reaches reading y → x ≡ y
+one_outcome (reads v) x y h k = h ∙ sym k
+one_outcome (fails f) x y h k = h ∙ sym k
+one_outcome (unless rule f rest) x y (inl h) (inl k) = h.1 ∙ sym k.1
+one_outcome (unless rule f rest) x y (inl h) (inr k) = absurd (h.0 k.0)
+one_outcome (unless rule f rest) x y (inr h) (inl k) = absurd (k.0 h.0)
+one_outcome (unless rule f rest) x y (inr h) (inr k) = one_outcome rest x y h.1 k.1

@@ -1,35 +1,20 @@
 -- A script, a line further.
-use Rattle.std.proofs.Common.{◌≡◌, ◌∙◌, sym, ap, refl, subst, ℕ, ◌+◌, ◌<◌, ◌≤◌, List, [], ◌∷◌, ◌++◌, length, length-append, take, append_assoc, append-nil, Bool, true, false, Option, Some, None, arith, fold, flat_map, IfSome}
+use Rattle.std.proofs.Common.{◌≡◌, ◌∙◌, sym, ap, refl, subst, ℕ, ◌+◌, ◌<◌, ◌≤◌, List, [], ◌∷◌, ◌++◌, length, length-append, append_assoc, append-nil, Bool, Option, Some, None, arith, IfSome}
 use Rattle.std.proofs.lemmas.Grind.{flat_map-append, fold-append}
 use Rattle.std.proofs.lemmas.List.Elements.{All-push, All-nil}
 use Rattle.std.proofs.Math.Seq.{take-append_seam}
 use Rattle.std.specs.Str.Lines.{lines}
-use Rattle.std.specs.Io.KnownBytes.{Appends, Keeps, IsAtEnd}
-use Rattle.thes_base.specs.Pipe.{AppendsFront}
-use Rattle.thes_base.proofs.PipeLemmas.{appends_then, appends_front_then, appends_front, appends_none}
+use Rattle.std.specs.Io.KnownBytes.{Keeps, IsAtEnd}
+use Rattle.thes_base.specs.Pipe.{AppendsUntil}
+use Rattle.thes_base.proofs.PipeLemmas.{appends_then, appends_none, appends_until, until_then}
 use Rattle.thes_exchange.specs.Feed.{left, line_text, line_limit, TakesLine}
 use Rattle.thes_exchange.specs.Serving.{Serving}
-use Rattle.thes_exchange.specs.Script.{StepLine, RunLines, AreAllowed, lines_limit, whole_lines, line_of, script_text, noted, ended_with, nothing_noted, IsScript, IsStopped, AppendsUntil}
+use Rattle.thes_exchange.specs.Script.{StepLine, RunLines, AreAllowed, lines_limit, whole_lines, line_of, script_text, noted, nothing_noted, IsScript, IsStopped}
 use Rattle.thes_exchange.specs.Served.{ServesLine, StopsAtLine, Ran, Served}
 use Rattle.thes_exchange.specs.declared.serve.Outcome.{Outcome}
 use Rattle.thes_exchange.specs.declared.script.Ended.{Ended}
 use Rattle.thes_base.specs.declared.fault.PipeFault.{PipeFault}
-use Rattle.thes_base.specs.declared.fault.PipeFault.TheVariants.{Read, Write, TooLong, Fault}
 use Rattle.thes_exchange.proofs.LineLemmas.{leaves}
-
--- all that was to be written was written
-pub appends_until : (fault : PipeFault) (old new : Option (List ℕ)) (text : List ℕ) → Appends old new text → AppendsUntil fault old new text
-appends_until Read old new text a = a
-appends_until Write old new text a = appends_front old new text a
-appends_until TooLong old new text a = appends_front old new text a
-appends_until (Fault f) old new text a = a
-
--- all of the first text, and then the second until it stopped
-until_then : (fault : PipeFault) (a b c : Option (List ℕ)) (xs ys : List ℕ) → Appends a b xs → AppendsUntil fault b c ys → AppendsUntil fault a c (xs ++ ys)
-until_then Read a b c xs ys f s = appends_then a b c xs ys f s
-until_then Write a b c xs ys f s = appends_front_then a b c xs ys f s
-until_then TooLong a b c xs ys f s = appends_front_then a b c xs ys f s
-until_then (Fault e) a b c xs ys f s = appends_then a b c xs ys f s
 
 run_more : {S : Type 0} (serves : Serving S) (old : S) (done : List (List ℕ)) (outcomes : List (Option Outcome)) (mid new : S) (line : List ℕ) (o : Option Outcome)
     → RunLines serves old done outcomes mid → StepLine serves mid line o new → RunLines serves old (done ++ line ∷ []) (outcomes ++ o ∷ []) new
@@ -41,7 +26,7 @@ run_more serves old (l ∷ done) (p ∷ outcomes) mid new line o r s = (r.0, r.1
 allowed_more : (whole : List (List ℕ)) (raw : List ℕ) → AreAllowed whole → length whole < lines_limit → length raw ≤ line_limit → AreAllowed (whole ++ raw ∷ [])
 allowed_more whole raw a few short = record {
   few = rw (length-append whole (raw ∷ [])) (omega (arith, few));
-  short = All-push (λ line. length line ≤ line_limit) whole raw a.short short
+  short = All-push (λ line. length line ≤ line_limit) whole raw a.short short;
 }
 
 ran_more : {S : Type 0} {serves : Serving S} {input : List ℕ} {rest rest' : Option (List ℕ)} {count : ℕ} {old mid new : S} {outcomes : List (Option Outcome)} {raw : List ℕ} {e : Bool} (o : Option Outcome)
@@ -50,17 +35,17 @@ ran_more : {S : Type 0} {serves : Serving S} {input : List ℕ} {rest rest' : Op
 ran_more {S} {serves} {input} {rest} {rest'} {count} {old} {mid} {new} {outcomes} {raw} {e} o r few k step =
     let after = leaves r.left rest' raw e (rw r.is_left at k) in
     let line = line_text raw e in record {
-  left = after.rest;
-  is_left = after.is_rest;
-  done = r.done ++ line ∷ [];
-  all = r.all ∙ (ap (λ x. r.done ++ x) after.texts ∙ sym (append_assoc r.done (line ∷ []) (lines after.rest)));
-  run = run_more serves old r.done outcomes mid new line o r.run step;
-  whole = r.whole ++ raw ∷ [];
-  all_whole = r.all_whole ∙ (ap (λ x. r.whole ++ x) after.wholes ∙ sym (append_assoc r.whole (raw ∷ []) (whole_lines after.rest)));
-  allowed = let c = r.whole_count in allowed_more r.whole raw r.allowed (omega arith) k.short;
-  done_count = rw (length-append r.done (line ∷ [])) (ap (λ n. n + 1) r.done_count);
-  whole_count = rw (length-append r.whole (raw ∷ [])) (ap (λ n. n + 1) r.whole_count)
-}
+      left = after.rest;
+      is_left = after.is_rest;
+      done = r.done ++ line ∷ [];
+      all = r.all ∙ (ap (λ x. r.done ++ x) after.texts ∙ sym (append_assoc r.done (line ∷ []) (lines after.rest)));
+      run = run_more serves old r.done outcomes mid new line o r.run step;
+      whole = r.whole ++ raw ∷ [];
+      all_whole = r.all_whole ∙ (ap (λ x. r.whole ++ x) after.wholes ∙ sym (append_assoc r.whole (raw ∷ []) (whole_lines after.rest)));
+      allowed = let c = r.whole_count in allowed_more r.whole raw r.allowed (omega arith) k.short;
+      done_count = rw (length-append r.done (line ∷ [])) (ap (λ n. n + 1) r.done_count);
+      whole_count = rw (length-append r.whole (raw ∷ [])) (ap (λ n. n + 1) r.whole_count);
+    }
 
 ran_stopped : {S : Type 0} {serves : Serving S} (fault : PipeFault) {input : List ℕ} {rest : Option (List ℕ)} {count : ℕ} {old new : S} {outcomes : List (Option Outcome)} {before after : Option (List ℕ)}
     → Ran serves input rest count old new outcomes → AppendsUntil fault before after (script_text outcomes) → IsStopped serves fault input old new before after
@@ -69,7 +54,7 @@ ran_stopped {S} {serves} fault {input} {rest} {count} {old} {new} {outcomes} r t
   allowed = rw (r.all_whole, ← r.whole_count, take-append_seam r.whole (whole_lines r.left)) r.allowed;
   outcomes = outcomes;
   run = rw (r.all, ← r.done_count, take-append_seam r.done (lines r.left)) r.run;
-  text = t
+  text = t;
 }
 
 -- one more line was answered
@@ -80,7 +65,7 @@ served_more {S} {serves} {input} {rest} {rest'} {count} {old} {mid} {new} {befor
   outcomes = s.outcomes ++ v.outcome ∷ [];
   ran = ran_more v.outcome s.ran few k v.step;
   text = rw (flat_map-append line_of s.outcomes (v.outcome ∷ []), append-nil (line_of v.outcome)) (appends_then before after after' (script_text s.outcomes) (line_of v.outcome) s.text v.text);
-  end = v.end ∙ (ap (λ x. noted x v.outcome) s.end ∙ sym (fold-append noted nothing_noted s.outcomes (v.outcome ∷ [])))
+  end = v.end ∙ (ap (λ x. noted x v.outcome) s.end ∙ sym (fold-append noted nothing_noted s.outcomes (v.outcome ∷ [])));
 }
 
 -- nothing more is left
@@ -90,12 +75,12 @@ served_end {S} {serves} {input} s e =
     let last : s.ran.left ≡ [] = rw s.ran.is_left at e in
     let all : lines input ≡ s.ran.done = s.ran.all ∙ (ap (λ x. s.ran.done ++ lines x) last ∙ append-nil s.ran.done) in
     let whole : whole_lines input ≡ s.ran.whole = s.ran.all_whole ∙ (ap (λ x. s.ran.whole ++ whole_lines x) last ∙ append-nil s.ran.whole) in record {
-  allowed = rw whole s.ran.allowed;
-  outcomes = s.outcomes;
-  run = rw all s.ran.run;
-  text = s.text;
-  end = s.end
-}
+      allowed = rw whole s.ran.allowed;
+      outcomes = s.outcomes;
+      run = rw all s.ran.run;
+      text = s.text;
+      end = s.end;
+    }
 
 -- it stopped between two lines
 pub served_stopped : {S : Type 0} {serves : Serving S} (fault : PipeFault) {input : List ℕ} {rest : Option (List ℕ)} {count : ℕ} {old new : S} {before after : Option (List ℕ)} {ended : Ended}
@@ -108,7 +93,7 @@ pub served_cut : {S : Type 0} {serves : Serving S} (fault : PipeFault) {input : 
     → IsStopped serves fault input old new before after'
 served_cut fault {before = before} {after = after} {after' = after'} s few k v =
     ran_stopped fault (ran_more v.outcome s.ran few k v.step)
-      (rw (flat_map-append line_of s.outcomes (v.outcome ∷ []), append-nil (line_of v.outcome)) (until_then fault before after after' (script_text s.outcomes) (line_of v.outcome) s.text v.text))
+    (rw (flat_map-append line_of s.outcomes (v.outcome ∷ []), append-nil (line_of v.outcome)) (until_then fault before after after' (script_text s.outcomes) (line_of v.outcome) s.text v.text))
 
 -- a line was taken out, and nothing more came
 pub served_kept : {S : Type 0} {serves : Serving S} {input : List ℕ} {rest rest' : Option (List ℕ)} {count : ℕ} {old new : S} {before after : Option (List ℕ)} {ended : Ended}
@@ -117,25 +102,40 @@ served_kept {rest' = None} s k = absurd (rw s.ran.is_left at k)
 served_kept {rest' = Some ys} s k =
     let r = s.ran in
     let same : ys ≡ r.left = rw r.is_left at k in record {
-  outcomes = s.outcomes;
-  ran = record {
-    left = r.left; is_left = ap Some same; done = r.done; all = r.all; run = r.run; whole = r.whole;
-    all_whole = r.all_whole; allowed = r.allowed; done_count = r.done_count; whole_count = r.whole_count
-  };
-  text = s.text;
-  end = s.end
-}
+      outcomes = s.outcomes;
+      ran = record {
+        left = r.left;
+        is_left = ap Some same;
+        done = r.done;
+        all = r.all;
+        run = r.run;
+        whole = r.whole;
+        all_whole = r.all_whole;
+        allowed = r.allowed;
+        done_count = r.done_count;
+        whole_count = r.whole_count;
+      };
+      text = s.text;
+      end = s.end;
+    }
 
 pub served_start : {S : Type 0} (serves : Serving S) (input : List ℕ) (old : S) (before : Option (List ℕ)) → Served serves input (Some input) 0 old old before before nothing_noted
 served_start serves input old before = record {
   outcomes = [];
   ran = record {
-    left = input; is_left = refl; done = []; all = refl; run = refl; whole = []; all_whole = refl;
+    left = input;
+    is_left = refl;
+    done = [];
+    all = refl;
+    run = refl;
+    whole = [];
+    all_whole = refl;
     allowed = record { few = omega arith; short = All-nil (λ line. length line ≤ line_limit) };
-    done_count = refl; whole_count = refl
+    done_count = refl;
+    whole_count = refl;
   };
   text = appends_none before;
-  end = refl
+  end = refl;
 }
 
 -- a fact of the known bytes, carried on

@@ -1,16 +1,14 @@
 -- The members of a request: those that its line of the table names, each of its kind.
-use Rattle.std.specs.Prelude.{ℕ, suc, ◌==◌, Bool, true, false, List, [], ◌∷◌, Option, None, Some, option_and_then, option_map, if◌then◌else◌, ⊤}
-use Rattle.serde_json.specs.Data.{Num, Data, Items, no_items, item, Members, no_members, member}
+use Rattle.std.specs.Prelude.{ℕ, ◌==◌, Bool, true, false, List, [], ◌∷◌, Option, None, Some, option_and_then, option_map, if◌then◌else◌, ⊤}
+use Rattle.serde_json.specs.Data.{Num, Data, Items, no_items, item, Members}
+use Rattle.serde_json.specs.Events.{members_len}
 use Rattle.serde_json.specs.Find.{get, as_number, as_str, as_bool, as_array, as_object}
 use Rattle.thes_exchange.specs.Readings.{Reading, shaped}
 
-abbrev pub count : Members → ℕ
-count no_members = 0
-count (member name d ms) = suc (count ms)
-
+-- just so many members
 abbrev pub has_count : ℕ → Option Members → Bool
 has_count n None = false
-has_count n (Some ms) = count ms == n
+has_count n (Some ms) = members_len ms == n
 
 -- an object with just so many members
 abbrev pub members_of : ℕ → Data → Option ⊤

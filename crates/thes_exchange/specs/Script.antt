@@ -3,7 +3,7 @@ use Rattle.std.specs.Prelude.{◌≡◌, ◌⊎◌, ◌≤◌, ℕ, ◌==◌, �
 use Rattle.std.specs.List.{list_all, slice_split, All}
 use Rattle.std.specs.Str.Lines.{lines}
 use Rattle.std.specs.Io.KnownBytes.{Appends}
-use Rattle.thes_base.specs.Pipe.{AppendsFront}
+use Rattle.thes_base.specs.Pipe.{AppendsUntil}
 use Rattle.thes_base.specs.declared.fault.Fault.TheVariants.{OutOfMemory}
 use Rattle.thes_base.specs.declared.request.Answer.TheVariants as answer
 use Rattle.thes_exchange.specs.Feed.{line_limit}
@@ -13,7 +13,6 @@ use Rattle.thes_exchange.specs.declared.serve.Outcome.{Outcome}
 use Rattle.thes_exchange.specs.declared.serve.Outcome.TheVariants.{Told, Shown}
 use Rattle.thes_exchange.specs.declared.script.Ended.{Ended}
 use Rattle.thes_base.specs.declared.fault.PipeFault.{PipeFault}
-use Rattle.thes_base.specs.declared.fault.PipeFault.TheVariants as stop
 
 -- Limits.
 
@@ -87,13 +86,6 @@ pub record IsScript {S : Type 0} (serves : Serving S) (input : List ℕ) (old ne
   pub run : RunLines serves old (lines input) outcomes new
   pub text : Appends before after (script_text outcomes)
   pub end : ended ≡ ended_with outcomes
-
--- what is written of a text where a script is stopped: all of it, or a front where a write failed or was one too many
-abbrev pub AppendsUntil : PipeFault → Option (List ℕ) → Option (List ℕ) → List ℕ → Type 0
-AppendsUntil stop.Read old new text = Appends old new text
-AppendsUntil stop.Write old new text = AppendsFront old new text
-AppendsUntil stop.TooLong old new text = AppendsFront old new text
-AppendsUntil (stop.Fault f) old new text = Appends old new text
 
 -- the first lines were answered, all of them within the limits
 pub record IsStopped {S : Type 0} (serves : Serving S) (fault : PipeFault) (input : List ℕ) (old new : S) (before after : Option (List ℕ)) : Type 0 where

@@ -2,11 +2,12 @@
 use Rattle.std.specs.Prelude.{◌≡◌, ℕ, List, ◌++◌, length, Option, Some}
 use Rattle.std.specs.Str.Lines.{lines}
 use Rattle.std.specs.Io.KnownBytes.{Appends}
+use Rattle.thes_base.specs.Pipe.{AppendsUntil}
 use Rattle.thes_exchange.specs.declared.serve.Outcome.{Outcome}
 use Rattle.thes_exchange.specs.declared.script.Ended.{Ended}
 use Rattle.thes_base.specs.declared.fault.PipeFault.{PipeFault}
 use Rattle.thes_exchange.specs.Serving.{Serving}
-use Rattle.thes_exchange.specs.Script.{StepLine, RunLines, AreAllowed, whole_lines, AppendsUntil, line_of, script_text, noted, ended_with}
+use Rattle.thes_exchange.specs.Script.{StepLine, RunLines, AreAllowed, whole_lines, line_of, script_text, noted, ended_with}
 
 -- a line was answered or skipped
 pub record ServesLine {S : Type 0} (serves : Serving S) (line : List ℕ) (old new : S) (before after : Option (List ℕ)) (ended ended' : Ended) : Type 0 where

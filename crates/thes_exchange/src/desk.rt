@@ -52,7 +52,9 @@ pub enum Viewed {
 /// What performs requests and shows views: a state of its own, or a store that others see.
 pub trait Desk {
     ghost performs: { Self → Command → Result Answer Fault → Self → Type 0 };
+
     ghost shows: { Self → Query → Result Viewed Fault → Self → Type 0 };
+
     ghost is_open: { Self → Bool };
 
     /// Performs a request.

@@ -46,11 +46,19 @@ impl Feed {
         ensures { IfOk result (λ feed. feed ≡ []) }
     {
         let buffer = vec![in alloc; 0; BUFFER_SIZE]?;
-        Ok(Feed { buffer, at: 0, filled: 0 })
+        Ok(Feed {
+            buffer,
+            at: 0,
+            filled: 0,
+        })
     }
 
     /// The next byte, or none at the end of the input.
-    pub fn next_byte<R: Read>(&mut self, reader: &mut Pipe<R>, budget: &mut Budget) -> Result<Option<u8>, Stop>
+    pub fn next_byte<R: Read>(
+        &mut self,
+        reader: &mut Pipe<R>,
+        budget: &mut Budget,
+    ) -> Result<Option<u8>, Stop>
         requires { IsFresh reader.old }
         ensures byte { IfOk result (λ found. TakesByte found (left self.old (unread R.remaining reader.old)) (left self.new (unread R.remaining reader.new)) (ended_of reader.new)) }
         ensures err { OnErr result (Keeps (left self.old (unread R.remaining reader.old)) (left self.new (unread R.remaining reader.new)) × (ended_of reader.new ≡ false)) }
@@ -64,7 +72,12 @@ impl Feed {
     }
 
     /// Takes the next line out, without its end.
-    pub fn take_line<R: Read>(&mut self, reader: &mut Pipe<R>, budget: &mut Budget, line: &mut Vec<u8>) -> Result<Found, Stop>
+    pub fn take_line<R: Read>(
+        &mut self,
+        reader: &mut Pipe<R>,
+        budget: &mut Budget,
+        line: &mut Vec<u8>,
+    ) -> Result<Found, Stop>
         requires { IsFresh reader.old }
         ensures line { IfOk result (λ found. (found ≢ Found.End) → (raw : List ℕ)
             × TakesLine (left self.old (unread R.remaining reader.old)) (left self.new (unread R.remaining reader.new)) raw (ended_of reader.new)

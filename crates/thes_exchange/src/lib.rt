@@ -4,9 +4,11 @@
 pub mod answer;
 pub mod desk;
 mod feed;
+pub mod laws;
 mod lines;
 mod members;
 pub mod request;
 pub mod script;
 pub mod serve;
+pub mod view;
 mod words;

@@ -26,11 +26,19 @@ impl Lines {
     {
         let feed = Feed::new(alloc)?;
         let line = Vec::new(alloc);
-        Ok(Lines { feed, line, count: 0 })
+        Ok(Lines {
+            feed,
+            line,
+            count: 0,
+        })
     }
 
     /// Finds the next line. It is too long where the line is, or is one too many.
-    pub fn next_line<R: Read>(&mut self, reader: &mut Pipe<R>, budget: &mut Budget) -> Result<Found, Stop>
+    pub fn next_line<R: Read>(
+        &mut self,
+        reader: &mut Pipe<R>,
+        budget: &mut Budget,
+    ) -> Result<Found, Stop>
         requires fresh { IsFresh reader.old }
         requires within { self.old.count ≤ lines_limit }
         ensures line { IfOk result (λ found. (found ≢ Found.End) → (raw : List ℕ)

@@ -1,9 +1,10 @@
 //! The members of a request's object. A member that is not there, or is of another kind, is no request's shape.
 ghost use Rattle.std.specs.Prelude.{◌≡◌, ◌⊎◌, map, true, false, Option, Some, None, option_map, option_and_then, OnOk, IfOk, IfErr};
 ghost use Rattle.serde_json.specs.View.{view, number_view, items_view};
+ghost use Rattle.serde_json.specs.Events.{members_len};
 ghost use Rattle.serde_json.specs.Find.{as_object, as_str};
 ghost use Rattle.thes_exchange.specs.Words.{label_kind_named, link_kind_named, verb_named, noun_named};
-ghost use Rattle.thes_exchange.specs.Members.{has_count, count, members_of, number_in, text_in, truth_in, all_numbers, numbers_in};
+ghost use Rattle.thes_exchange.specs.Members.{has_count, members_of, number_in, text_in, truth_in, all_numbers, numbers_in};
 
 use crate::words::{Noun, Verb, label_kind_named, link_kind_named, noun_named, verb_named};
 use serde_json::{Number, Value};
@@ -16,7 +17,7 @@ pub const BAD_SHAPE: ReadStop = ReadStop::Form(FormFault::BadShape);
 
 // How many members an object has.
 fn member_count(value: &Value) -> Option<usize>
-    ensures { result ≡ option_map count (as_object (view value.now)) }
+    ensures { result ≡ option_map members_len (as_object (view value.now)) }
 {
     let members = value.as_object()?;
     Some(members.len())

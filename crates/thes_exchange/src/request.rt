@@ -21,6 +21,9 @@ use thes_base::number::{PostNo, ResNo};
 use thes_base::request::{Command, PostNos};
 use thes_base::text::{Iri, Key, Note, RecordName, Tag, Text};
 
+#[cfg(test)]
+mod tests;
+
 const BAD_NUMBER: ReadStop = ReadStop::Form(FormFault::BadNumber);
 
 /// What a request asks to see.
@@ -33,7 +36,7 @@ pub enum Query {
 }
 
 /// A request: to do something, or to see something.
-#[derive(Drop)]
+#[derive(Debug, Drop)]
 pub enum Request {
     Do(Command),
     Get(Query),

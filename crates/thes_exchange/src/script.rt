@@ -1,9 +1,9 @@
 //! Scripts: a request on each line, answered by a line before the next is read.
 ghost use Rattle.std.specs.Prelude.{◌≡◌, ◌≢◌, ◌⊎◌, ◌+◌, ◌<◌, ◌≤◌, true, false, List, ℕ, Option, Some, IfOk, IfErr, OnOk, OnErr, IfSome, IsErrOf, ◌↔◌, IsTrue};
 ghost use Rattle.std.specs.Io.KnownBytes.{Appends, Keeps, IsAtEnd};
-ghost use Rattle.thes_base.specs.Pipe.{failed_of, ended_of, IsFresh, unread, written, AppendsFront};
+ghost use Rattle.thes_base.specs.Pipe.{failed_of, ended_of, IsFresh, unread, written};
 ghost use Rattle.thes_exchange.specs.Feed.{left};
-ghost use Rattle.thes_exchange.specs.Script.{lines_limit, is_blank, StepLine, noted_outcome, nothing_noted, IsScript, IsStopped, AppendsUntil};
+ghost use Rattle.thes_exchange.specs.Script.{lines_limit, is_blank, StepLine, noted_outcome, nothing_noted, IsScript, IsStopped};
 ghost use Rattle.thes_exchange.specs.Serving.{Serves};
 ghost use Rattle.thes_exchange.specs.Served.{ServesLine, StopsAtLine, Served};
 
@@ -15,7 +15,7 @@ use crate::serve::{Outcome, serve};
 use std::alloc::Global;
 use std::io::{Read, Write};
 use thes_base::fault::{Fault, PipeFault};
-use thes_base::pipe::{Budget, Pipe, Stop};
+use thes_base::pipe::{Budget, Pipe};
 use thes_base::request::Answer;
 
 #[cfg(test)]
@@ -59,29 +59,6 @@ fn is_blank(line: &[u8]) -> bool
     line.iter().all(|byte| *byte == b' ' || *byte == b'\t')
 }
 
-fn reading(stop: Stop) -> PipeFault
-    ensures read { (result ≡ PipeFault.Read) ↔ (stop ≡ Stop.Failed) }
-    ensures too_long { (result ≡ PipeFault.TooLong) ↔ (stop ≡ Stop.TooLong) }
-    ensures not_write { result ≢ PipeFault.Write }
-{
-    match stop {
-        Stop::Failed => PipeFault::Read,
-        Stop::TooLong => PipeFault::TooLong,
-    }
-}
-
-fn writing(stop: Stop) -> PipeFault
-    ensures write { (result ≡ PipeFault.Write) ↔ (stop ≡ Stop.Failed) }
-    ensures too_long { (result ≡ PipeFault.TooLong) ↔ (stop ≡ Stop.TooLong) }
-    ensures not_read { result ≢ PipeFault.Read }
-    ensures front { (old new : Option (List ℕ)) (text : List ℕ) → AppendsFront old new text → AppendsUntil result old new text }
-{
-    match stop {
-        Stop::Failed => PipeFault::Write,
-        Stop::TooLong => PipeFault::TooLong,
-    }
-}
-
 // Whether a line is blank, as far as it is known.
 fn is_skipped(line: &[u8], found: Found) -> bool
     ensures skipped { result ≡ true → (found ≡ Found.Line) × (is_blank line.now ≡ true) }
@@ -105,7 +82,15 @@ fn outcome_of<D: Desk>(alloc: Global, desk: &mut D, line: &[u8], found: Found) -
 }
 
 // Answers one line, if it isn't blank.
-fn serve_line<W: Write, D: Desk>(alloc: Global, writer: &mut Pipe<W>, budget: &mut Budget, desk: &mut D, line: &[u8], found: Found, ended: &mut Ended) -> Result<(), PipeFault>
+fn serve_line<W: Write, D: Desk>(
+    alloc: Global,
+    writer: &mut Pipe<W>,
+    budget: &mut Budget,
+    desk: &mut D,
+    line: &[u8],
+    found: Found,
+    ended: &mut Ended,
+) -> Result<(), PipeFault>
     requires writer { failed_of writer.old ≡ false }
     requires open { D.is_open desk.old ≡ true }
     ensures ok { OnOk result ((text : List ℕ) → ((found ≡ Found.Line) → text ≡ line.now)
@@ -124,7 +109,7 @@ fn serve_line<W: Write, D: Desk>(alloc: Global, writer: &mut Pipe<W>, budget: &m
     let outcome = outcome_of(alloc, desk, line, found);
     ended.note(&outcome);
     if let Err(stop) = outcome.write(writer, budget) {
-        return Err(writing(stop));
+        return Err(stop.writing());
     }
     if !desk.is_open() {
         return Err(PipeFault::Fault(Fault::OutOfMemory));
@@ -133,7 +118,15 @@ fn serve_line<W: Write, D: Desk>(alloc: Global, writer: &mut Pipe<W>, budget: &m
 }
 
 // One line: whether there may be more. What was served before it and it are served after it.
-fn turn<R: Read, W: Write, D: Desk>(alloc: Global, lines: &mut Lines, reader: &mut Pipe<R>, writer: &mut Pipe<W>, budget: &mut Budget, desk: &mut D, ended: &mut Ended) -> Result<bool, PipeFault>
+fn turn<R: Read, W: Write, D: Desk>(
+    alloc: Global,
+    lines: &mut Lines,
+    reader: &mut Pipe<R>,
+    writer: &mut Pipe<W>,
+    budget: &mut Budget,
+    desk: &mut D,
+    ended: &mut Ended,
+) -> Result<bool, PipeFault>
     requires reader { IsFresh reader.old }
     requires writer { failed_of writer.old ≡ false }
     requires open { D.is_open desk.old ≡ true }
@@ -154,7 +147,7 @@ fn turn<R: Read, W: Write, D: Desk>(alloc: Global, lines: &mut Lines, reader: &m
 {
     let found = match lines.next_line(reader, budget) {
         Ok(found) => found,
-        Err(stop) => return Err(reading(stop)),
+        Err(stop) => return Err(stop.reading()),
     };
     if found == Found::End {
         return Ok(false);
@@ -166,7 +159,12 @@ fn turn<R: Read, W: Write, D: Desk>(alloc: Global, lines: &mut Lines, reader: &m
 /// Answers each line of the input.
 ///
 /// A line holds at most 1,048,576 bytes, and a script at most 1,000,000 lines, blank ones counted.
-pub fn script<R: Read, W: Write, D: Desk>(alloc: Global, reader: &mut Pipe<R>, writer: &mut Pipe<W>, desk: &mut D) -> Result<Ended, PipeFault>
+pub fn script<R: Read, W: Write, D: Desk>(
+    alloc: Global,
+    reader: &mut Pipe<R>,
+    writer: &mut Pipe<W>,
+    desk: &mut D,
+) -> Result<Ended, PipeFault>
     requires reader { IsFresh reader.old }
     requires writer { IsFresh writer.old }
     requires open { D.is_open desk.old ≡ true }
@@ -183,6 +181,14 @@ pub fn script<R: Read, W: Write, D: Desk>(alloc: Global, reader: &mut Pipe<R>, w
     let mut lines = Lines::new(alloc)?;
     let mut budget = Budget::new();
     let mut ended = Ended::new();
-    while turn(alloc, &mut lines, reader, writer, &mut budget, desk, &mut ended)? {}
+    while turn(
+        alloc,
+        &mut lines,
+        reader,
+        writer,
+        &mut budget,
+        desk,
+        &mut ended,
+    )? {}
     Ok(ended)
 }

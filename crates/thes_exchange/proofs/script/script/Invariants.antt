@@ -14,7 +14,7 @@ invariant-loop-lines g l = record {
   reader : IsFresh l.reader;
   writer : failed_of l.writer ≡ false;
   desk : g.D.Desk.is_open l.desk ≡ true;
-  within : l.lines.count ≤ lines_limit
+  within : l.lines.count ≤ lines_limit;
 }
 
 abbrev pub decreases-loop-lines : goal.decreases-loop-lines

@@ -8,7 +8,7 @@ abbrev pub invariant-loop-taken : goal.invariant-loop-taken
 invariant-loop-taken g l = record {
   front : TakesFront (left l.fn.self (unread g.R.Read.remaining l.fn.reader)) (left l.self (unread g.R.Read.remaining l.reader)) l.line.items l.held l.taken;
   fresh : IsFresh l.reader;
-  most : l.taken ≤ line_limit + 1
+  most : l.taken ≤ line_limit + 1;
 }
 
 abbrev pub decreases-loop-taken : goal.decreases-loop-taken

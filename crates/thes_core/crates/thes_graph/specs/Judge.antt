@@ -1,0 +1,29 @@
+-- What the judging calls answer, and the links in whose sight they do.
+use Rattle.std.specs.Prelude.{◌≡◌, ◌⊎◌, ℕ, List, Contains, Option, Some}
+use Rattle.std.specs.FinSet.{insert}
+use Rattle.thes_base.specs.declared.data.Link.{Link}
+use Rattle.thes_base.specs.declared.fault.Refusal.{Refusal}
+use Rattle.thes_base.specs.declared.fault.Refusal.TheVariants as no
+use Rattle.thes_base.specs.Rows.{Row, refused_if}
+use Rattle.thes_base.specs.Links.{Links, HeldIn, IsFirstBroken}
+use Rattle.thes_graph.specs.declared.sight.Sight.{Sight}
+use Rattle.thes_graph.specs.declared.sight.Sight.TheVariants.{AsHeld, With, Merged}
+use Rattle.thes_graph.specs.Reading.{EndsAt}
+use Rattle.thes_graph.specs.Sight.{WouldBe}
+use Rattle.thes_graph.specs.Local.{IsNear}
+
+-- the answer to a link that is handed in, in the order in which it would be kept
+abbrev pub row_of_add : Links → Link → Row
+row_of_add held new = refused_if (HeldIn held new) no.LinkThere (IsFirstBroken (HeldIn (insert held new)))
+
+-- the nodes of an edit
+abbrev pub IsEdited : Sight → (p n : ℕ) → Type 0
+IsEdited AsHeld p n = p ≡ n
+IsEdited (With new) p n = p ≡ n
+IsEdited (Merged source target) p n = (source ≡ n) ⊎ (p ≡ n)
+
+-- These have each held link that has an end at an edited node, or at one above, below or alike it in the links that would be.
+-- The least such list is the neighbourhood of the edit.
+abbrev pub HasNeighbourhood : Sight → Links → (p : ℕ) → List Link → Type 0
+HasNeighbourhood sight held p ns =
+    (l : Link) → HeldIn held l → (n : ℕ) → IsEdited sight p n ⊎ IsNear (WouldBe sight held) p n → EndsAt n l → Contains ns l

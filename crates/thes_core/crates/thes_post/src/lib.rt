@@ -1,0 +1,5 @@
+//! stub
+#![tactic(auto)]
+pub mod oracle;
+pub mod book;
+pub use book::Book;

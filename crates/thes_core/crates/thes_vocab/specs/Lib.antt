@@ -1,0 +1,4 @@
+pub mod Vocabulary
+pub mod Requests
+pub mod LabelData
+pub mod Rivals

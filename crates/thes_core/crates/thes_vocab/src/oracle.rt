@@ -1,0 +1,6 @@
+//! stub
+/// stub
+pub trait Oracle {
+    fn absurd(&self)
+        ensures { ⊥ };
+}

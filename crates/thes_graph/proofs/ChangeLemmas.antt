@@ -1,0 +1,134 @@
+-- Sets of links after several changes.
+use Rattle.std.proofs.Common.{◌≡◌, ◌≢◌, ◌+◌, ◌-◌, ◌<◌, ◌≤◌, ◌⊎◌, inl, inr, ℕ, zero, suc, List, [], ◌∷◌, ◌++◌, Bool, true, false, cond, not, ◌||◌, ◌==◌, Contains, length, take, get_or, Option, Some, None, slice_get, refl, sym, ap, subst, ◌∙◌, arith}
+use Rattle.std.specs.Option.{MatchOption}
+use Rattle.std.specs.FinSet.{insert, remove, retain, contains, len, empty, len-remove, empty_of_len, contains-empty}
+use Rattle.std.proofs.lemmas.Option.{slice_get_within, get_or_from_slice_get}
+use Rattle.std.proofs.lemmas.List.{take_more}
+use Rattle.thes_base.specs.declared.data.Link.{Link}
+use Rattle.thes_base.specs.Links.{Links, link_cmp, HeldIn, norm, sent, sent_link, contracted, without_node}
+use Rattle.thes_base.proofs.LinkSets.{links_total, link_inserted_cases, link_retained}
+use Rattle.thes_graph.specs.Reading.{HaveTwoEnds, EndsAt}
+use Rattle.thes_graph.specs.Sight.{place, becomes}
+use Rattle.thes_graph.specs.declared.sight.Sight.TheVariants.{Merged}
+use Rattle.thes_graph.specs.Net.{Net, is_marked, ends_at}
+use Rattle.thes_graph.specs.Moved.{with_all, without_all}
+use Rattle.thes_graph.proofs.NumberLemmas.{same_of, other_of}
+use Rattle.thes_graph.proofs.PivotLemmas.{same_or_not}
+use Rattle.thes_graph.proofs.WeightLemmas.{past_of_none, Contains-none, Contains-head, Contains-later, Contains-cons_cases}
+use Rattle.thes_graph.proofs.SightLemmas.{becomes-ends}
+use Rattle.thes_graph.proofs.NormLemmas.{norm_ends, norm_two, norm_again}
+use Rattle.thes_graph.proofs.SetLemmas.{same_links, inserted_held, insert_keeps, remove_keeps, removed_cases, retain_keeps, not_held_of, off_of_not}
+use Rattle.thes_graph.proofs.ContractLemmas.{contracted_from, contracted_to}
+use Rattle.thes_graph.proofs.IndexLemmas.{ends_of_test, test_of_ends}
+
+not_true : (b : Bool) → not b ≡ true → b ≡ false
+not_true true e = cc
+not_true false e = refl
+
+true_of_false : (b : Bool) → b ≡ false → not b ≡ true
+true_of_false false e = refl
+true_of_false true e = cc
+
+-- the last item of a list, if there is one
+pub last_of : {X : Type 0} (xs : List X) (o : Option X) → o ≡ slice_get xs (length xs - 1) → MatchOption o ((x : X) → Contains xs x → ⊥) (λ x. Contains xs x)
+last_of xs None e = λ x (k, within, is). let past : length xs ≤ length xs - 1 = past_of_none xs (length xs - 1) (sym e) in absurd (omega arith)
+last_of xs (Some x) e = (length xs - 1, slice_get_within xs (length xs - 1) x (sym e), get_or_from_slice_get xs (length xs - 1) x x (sym e))
+
+-- taking away one link at the node leaves the same without the node
+pub without_node_removed : (n : ℕ) (links : Links) (l : Link) → EndsAt n l → without_node n (remove links l) ≡ without_node n links
+without_node_removed n links l at =
+    same_links (without_node n (remove links l)) (without_node n links)
+    (λ m held. let r = link_retained (remove links l) (λ l. not (ends_at n l)) m held in retain_keeps links (λ l. not (ends_at n l)) m (removed_cases links l m r.0).1 r.1)
+    (λ m held. let r = link_retained links (λ l. not (ends_at n l)) m held in retain_keeps (remove links l) (λ l. not (ends_at n l)) m (remove_keeps links l m (λ same. not_held_of (ends_at n m) (not_true _ r.1) (test_of_ends n m (subst (EndsAt n) (sym same) at))) r.0) r.1)
+
+pub without_node_none : (n : ℕ) (links : Links) → ((l : Link) → HeldIn links l → EndsAt n l → ⊥) → without_node n links ≡ links
+without_node_none n links none =
+    same_links (without_node n links) links
+    (λ m held. (link_retained links (λ l. not (ends_at n l)) m held).0)
+    (λ m held. retain_keeps links (λ l. not (ends_at n l)) m held (true_of_false _ (off_of_not (ends_at n m) (λ e. none m held (ends_of_test n m e)))))
+
+pub without_node_from : (n : ℕ) (links : Links) (m : Link) → HeldIn (without_node n links) m → HeldIn links m × (EndsAt n m → ⊥)
+without_node_from n links m held =
+    let r = link_retained links (λ l. not (ends_at n l)) m held in (r.0, λ at. not_held_of (ends_at n m) (not_true _ r.1) (test_of_ends n m at))
+
+pub without_node_to : (n : ℕ) (links : Links) (m : Link) → HeldIn links m → (EndsAt n m → ⊥) → HeldIn (without_node n links) m
+without_node_to n links m held off = retain_keeps links (λ l. not (ends_at n l)) m held (true_of_false _ (off_of_not (ends_at n m) (λ e. off (ends_of_test n m e))))
+
+pub fewer_links : (links : Links) (l : Link) → HeldIn links l → len (remove links l) < len links
+fewer_links links l held =
+    let less : len (remove links l) ≡ len links - 1 = len-remove links_total links l ∙ ap (λ b. cond b (len links - 1) (len links)) held in
+    let some : len links ≢ 0 = λ none. not_held_of (contains links l) (ap (λ (s : Links). contains s l) (empty_of_len links none) ∙ contains-empty link_cmp l) held in
+    omega arith
+
+-- several at once
+
+pub with_push : (links : Links) (xs : List Link) (x : Link) → with_all links (xs ++ x ∷ []) ≡ insert (with_all links xs) x
+with_push links [] x = refl
+with_push links (y ∷ ys) x = with_push (insert links y) ys x
+
+pub without_push : (links : Links) (xs : List Link) (x : Link) → without_all links (xs ++ x ∷ []) ≡ remove (without_all links xs) x
+without_push links [] x = refl
+without_push links (y ∷ ys) x = without_push (remove links y) ys x
+
+with_more : (links : Links) (xs : List Link) (i : ℕ) (x : Link) → i < length xs → x ≡ get_or xs i x → with_all links (take (i + 1) xs) ≡ insert (with_all links (take i xs)) x
+with_more links xs i x within is = ap (with_all links) (take_more xs i x within ∙ ap (λ y. take i xs ++ y ∷ []) (sym is)) ∙ with_push links (take i xs) x
+
+without_more : (links : Links) (xs : List Link) (i : ℕ) (x : Link) → i < length xs → x ≡ get_or xs i x → without_all links (take (i + 1) xs) ≡ remove (without_all links (take i xs)) x
+without_more links xs i x within is = ap (without_all links) (take_more xs i x within ∙ ap (λ y. take i xs ++ y ∷ []) (sym is)) ∙ without_push links (take i xs) x
+
+pub with_from : (links : Links) (xs : List Link) (m : Link) → HeldIn (with_all links xs) m → HeldIn links m ⊎ Contains xs m
+with_from links [] m held = inl held
+with_from links (x ∷ xs) m held = elim (with_from (insert links x) xs m held) [
+  | inl now ↦ elim (link_inserted_cases links x m now) [ inl same ↦ inr (subst (λ (w : Link). Contains (x ∷ xs) w) (sym same) (Contains-head x xs)) | inr old ↦ inl old ]
+  | inr later ↦ inr (Contains-later x xs m later)
+]
+
+pub with_keeps : (links : Links) (xs : List Link) (m : Link) → HeldIn links m → HeldIn (with_all links xs) m
+with_keeps links [] m held = held
+with_keeps links (x ∷ xs) m held = with_keeps (insert links x) xs m (insert_keeps links x m held)
+
+pub with_has : (links : Links) (xs : List Link) (m : Link) → Contains xs m → HeldIn (with_all links xs) m
+with_has links [] m has = absurd (Contains-none m has)
+with_has links (x ∷ xs) m has = elim (Contains-cons_cases x xs m has) [
+  | inl same ↦ with_keeps (insert links x) xs m (subst (HeldIn (insert links x)) same (inserted_held links x))
+  | inr later ↦ with_has (insert links x) xs m later
+]
+
+without_from : (links : Links) (xs : List Link) (m : Link) → HeldIn (without_all links xs) m → HeldIn links m × (Contains xs m → ⊥)
+without_from links [] m held = (held, λ has. Contains-none m has)
+without_from links (x ∷ xs) m held =
+    let r = without_from (remove links x) xs m held in
+    let c = removed_cases links x m r.0 in
+    (c.1, λ has. elim (Contains-cons_cases x xs m has) [ inl same ↦ c.0 (sym same) | inr later ↦ r.1 later ])
+
+without_keeps : (links : Links) (xs : List Link) (m : Link) → HeldIn links m → (Contains xs m → ⊥) → HeldIn (without_all links xs) m
+without_keeps links [] m held off = held
+without_keeps links (x ∷ xs) m held off =
+    without_keeps (remove links x) xs m (remove_keeps links x m (λ same. off (subst (λ (w : Link). Contains (x ∷ xs) w) (sym same) (Contains-head x xs))) held) (λ has. off (Contains-later x xs m has))
+
+-- new links that were added and taken back
+pub taken_back : (links : Links) (xs : List Link) → ((l : Link) → Contains xs l → HeldIn links l → ⊥) → without_all (with_all links xs) xs ≡ links
+taken_back links xs new = same_links (without_all (with_all links xs) xs) links to from
+  where
+    to : (m : Link) → HeldIn (without_all (with_all links xs) xs) m → HeldIn links m
+    to m held =
+        let r = without_from (with_all links xs) xs m held in
+        elim (with_from links xs m r.0) [ inl old ↦ old | inr has ↦ absurd (r.1 has) ]
+
+    from : (m : Link) → HeldIn links m → HeldIn (without_all (with_all links xs) xs) m
+    from m held = without_keeps (with_all links xs) xs m (with_keeps links xs m held) (λ has. new m has held)
+
+-- a loop's step: one link more was added, or taken away
+pub net_with : (links : Links) (xs : List Link) (i : ℕ) (x y : Link) (before after : Net) → i < length xs → x ≡ get_or xs i x → y ≡ x
+    → (outside : Net) → before ≡ record { links = with_all links (take i xs); outside = outside.outside } → after ≡ record { links = insert before.links y; outside = before.outside }
+    → after ≡ record { links = with_all links (take (i + 1) xs); outside = outside.outside }
+net_with links xs i x y before after within is same outside e f =
+    f ∙ ap (λ (n : Net). record { links = insert n.links y; outside = n.outside }) e
+    ∙ ap (λ (s : Links). record { links = s; outside = outside.outside }) (ap (insert (with_all links (take i xs))) same ∙ sym (with_more links xs i x within is))
+
+pub net_without : (links : Links) (xs : List Link) (i : ℕ) (x : Link) (before after : Net) → i < length xs → x ≡ get_or xs i x
+    → (outside : Net) → before ≡ record { links = without_all links (take i xs); outside = outside.outside } → after ≡ record { links = remove before.links x; outside = before.outside }
+    → after ≡ record { links = without_all links (take (i + 1) xs); outside = outside.outside }
+net_without links xs i x before after within is outside e f =
+    f ∙ ap (λ (n : Net). record { links = remove n.links x; outside = n.outside }) e
+    ∙ ap (λ (s : Links). record { links = s; outside = outside.outside }) (sym (without_more links xs i x within is))

@@ -1,0 +1,68 @@
+use Rattle.std.proofs.Common.{◌≡◌, ◌≢◌, ◌==◌, ◌+◌, ◌*◌, ◌≤◌, ◌<◌, ◌⊎◌, inl, inr, ℕ, zero, suc, List, [], ◌∷◌, ◌++◌, length, ap, sym, subst, ◌∙◌, arith, refl, sum_by, Bool, true, false, nat_eq, if◌then◌else◌}
+use Rattle.std.specs.List.{IsDistinct, AllByRecursion}
+use Rattle.std.proofs.lemmas.List.Sums.{sum_by-cons}
+use Rattle.thes_base.specs.declared.data.Link.{Link}
+use Rattle.thes_graph.specs.declared.sight.Sight.{Sight}
+use Rattle.thes_graph.specs.Sight.{place, touches}
+use Rattle.thes_graph.proofs.ReadLemmas.{one_at}
+
+module _ {X : Type 0} where
+  pub sum_by-plus : (f g : X → ℕ) (xs : List X) → sum_by (λ x. f x + g x) xs ≡ sum_by f xs + sum_by g xs
+  sum_by-plus f g [] = omega arith
+  sum_by-plus f g (x ∷ xs) =
+      omega (arith, sum_by-plus f g xs, sum_by-cons f x xs, sum_by-cons g x xs, sum_by-cons (λ x. f x + g x) x xs)
+
+  pub sum_by-zero : (f : X → ℕ) (xs : List X) → AllByRecursion (λ x. f x ≡ 0) xs → sum_by f xs ≡ 0
+  sum_by-zero f [] none = refl
+  sum_by-zero f (x ∷ xs) none = omega (arith, none.0, sum_by-zero f xs none.1, sum_by-cons f x xs)
+
+  sum_by-none : (xs : List X) → sum_by (λ _. 0) xs ≡ 0
+  sum_by-none [] = refl
+  sum_by-none (x ∷ xs) = omega (arith, sum_by-none xs, sum_by-cons (λ (_ : X). 0) x xs)
+
+-- a number is at most once among distinct ones
+absent : (p x : ℕ) (xs : List ℕ) → (p == x) ≡ true → AllByRecursion (λ y. nat_eq x y ≡ false) xs → AllByRecursion (λ y. one_at p y ≡ 0) xs
+absent p x [] here apart = tt
+absent p x (y ∷ ys) here apart = ((let h : nat_eq x y ≡ false = apart.0 in grind arith), absent p x ys here apart.1)
+
+at_most_one : (p x s : ℕ) → one_at p x ≤ 1
+at_most_one p x s = grind arith
+
+sum_by-one_at : (p : ℕ) (xs : List ℕ) → IsDistinct nat_eq xs → sum_by (one_at p) xs ≤ 1
+unfolding IsDistinct
+sum_by-one_at p [] distinct = omega arith
+sum_by-one_at p (x ∷ xs) distinct =
+    elim (p == x) as (λ b. (p == x) ≡ b → sum_by (one_at p) (x ∷ xs) ≤ 1) [
+      | true ↦ λ here. omega (arith, sum_by-cons (one_at p) x xs, at_most_one p x 0, sum_by-zero (one_at p) xs (absent p x xs here distinct.0))
+      | false ↦ λ off. omega (arith, sum_by-cons (one_at p) x xs, off_zero off, sum_by-one_at p xs distinct.1)
+    ] refl
+  where
+    off_zero : (p == x) ≡ false → one_at p x ≡ 0
+    off_zero off = ap (λ b. if b then 1 else 0) off
+
+module _ (sight : Sight) (nodes : List ℕ) (distinct : IsDistinct nat_eq nodes) where
+  link_twice : (l : Link) → sum_by (λ n. touches sight n l) nodes ≤ 2
+  link_twice l =
+      omega (
+        arith,
+        sum_by-plus (one_at (place sight l.a)) (one_at (place sight l.b)) nodes,
+        sum_by-one_at (place sight l.a) nodes distinct,
+        sum_by-one_at (place sight l.b) nodes distinct,
+      )
+
+  -- over distinct nodes each link is met at most twice
+  pub met_twice : (ns : List Link) → sum_by (λ n. sum_by (touches sight n) ns) nodes ≤ 2 * length ns
+  met_twice [] = omega (arith, sum_by-none nodes)
+  met_twice (l ∷ ns) =
+      omega (arith, met_twice ns, link_twice l, split)
+    where
+      each : (n : ℕ) → sum_by (touches sight n) (l ∷ ns) ≡ touches sight n l + sum_by (touches sight n) ns
+      each n = sum_by-cons (touches sight n) l ns
+
+      same : (f g : ℕ → ℕ) → ((n : ℕ) → f n ≡ g n) → (xs : List ℕ) → sum_by f xs ≡ sum_by g xs
+      same f g agree [] = refl
+      same f g agree (x ∷ xs) = omega (arith, agree x, same f g agree xs, sum_by-cons f x xs, sum_by-cons g x xs)
+
+      split : sum_by (λ n. sum_by (touches sight n) (l ∷ ns)) nodes ≡ sum_by (λ n. touches sight n l) nodes + sum_by (λ n. sum_by (touches sight n) ns) nodes
+      split = same (λ n. sum_by (touches sight n) (l ∷ ns)) (λ n. touches sight n l + sum_by (touches sight n) ns) each nodes
+          ∙ sum_by-plus (λ n. touches sight n l) (λ n. sum_by (touches sight n) ns) nodes

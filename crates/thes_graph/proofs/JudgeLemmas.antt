@@ -1,0 +1,90 @@
+use Rattle.std.proofs.Common.{◌≡◌, ◌≢◌, ◌==◌, ◌+◌, ◌*◌, ◌≤◌, ◌<◌, ◌⊎◌, inl, inr, ℕ, zero, suc, List, [], ◌∷◌, ◌++◌, length, ap, sym, subst, ◌∙◌, arith, refl, Contains, Bool, true, false, if◌then◌else◌, Option, Some, None, length-append}
+use Rattle.std.proofs.lemmas.List.Elements.{Contains-append_left, Contains-append_right, Contains-append_cases}
+use Rattle.thes_base.specs.declared.data.Link.{Link}
+use Rattle.thes_base.specs.declared.data.LinkKind.{LinkKind}
+use Rattle.thes_base.specs.declared.fault.Refusal.{Refusal}
+use Rattle.thes_base.specs.Links.{Links, HeldIn, IsFirstBroken}
+use Rattle.thes_graph.specs.declared.sight.Sight.TheVariants.{AsHeld, With, Merged}
+use Rattle.thes_graph.specs.Reading.{HaveTwoEnds, EndsAt}
+use Rattle.thes_graph.specs.Sight.{place, WouldBe, TouchesAt}
+use Rattle.thes_graph.specs.Local.{BreakNone, AwayFrom, IsFirstBrokenAt, CoversNear}
+use Rattle.thes_graph.specs.Judge.{HasNeighbourhood}
+use Rattle.thes_graph.proofs.PivotLemmas.{BreakNone-within, IsFirstBroken-from_pivot, same_or_not}
+use Rattle.thes_graph.proofs.WeightLemmas.{cut, Contains-cons_cases}
+use Rattle.thes_graph.proofs.SightLemmas.{becomes-ends}
+
+pub link_same : (k k' : LinkKind) (a a' b b' : ℕ) → k ≡ k' → a ≡ a' → b ≡ b' → ◌≡◌ {A = Link} (record { kind = k; a = a; b = b }) (record { kind = k'; a = a'; b = b' })
+link_same k k' a a' b b' e f g = cc
+
+module _ (held : Links) (new : Link) (two : new.a ≢ new.b) (all_two : HaveTwoEnds (HeldIn held)) (legal : BreakNone (HeldIn held)) where
+  with_two : HaveTwoEnds (WouldBe (With new) held)
+  with_two l (inl has) = all_two l has
+  with_two l (inr same) = λ ends. two (ap (λ (w : Link). w.a) same ∙ ends ∙ sym (ap (λ (w : Link). w.b) same))
+
+  -- the links away from the new one's first end are those held before
+  with_away : BreakNone (AwayFrom (WouldBe (With new) held) new.a)
+  with_away = BreakNone-within (AwayFrom (WouldBe (With new) held) new.a) (HeldIn held) old legal
+    where
+      old : (l : Link) → AwayFrom (WouldBe (With new) held) new.a l → HeldIn held l
+      old l (inl has, _, _) = has
+      old l (inr same, not_a, _) = absurd (not_a (sym (ap (λ (w : Link). w.a) same)))
+
+  pub IsFirstBroken-with : (r : Option Refusal) → IsFirstBrokenAt (WouldBe (With new) held) new.a r → IsFirstBroken (WouldBe (With new) held) r
+  IsFirstBroken-with = IsFirstBroken-from_pivot (WouldBe (With new) held) new.a with_away with_two
+
+module _ (held : Links) (source target : ℕ) (two : source ≢ target) (legal : BreakNone (HeldIn held)) where
+  joined_two : HaveTwoEnds (WouldBe (Merged source target) held)
+  joined_two m (l, has, gives) = (becomes-ends source target l m gives).3
+
+  stays : (x y : ℕ) → y ≡ place (Merged source target) x → y ≢ target → y ≡ x
+  stays x y e off = grind arith
+
+  joined_away : BreakNone (AwayFrom (WouldBe (Merged source target) held) target)
+  joined_away = BreakNone-within (AwayFrom (WouldBe (Merged source target) held) target) (HeldIn held) old legal
+    where
+      old : (m : Link) → AwayFrom (WouldBe (Merged source target) held) target m → HeldIn held m
+      old m ((l, has, gives), not_a, not_b) =
+          let ends = becomes-ends source target l m gives in
+          subst (λ (w : Link). HeldIn held w)
+          (sym (link_same m.kind l.kind m.a l.a m.b l.b ends.0 (stays l.a m.a ends.1 not_a) (stays l.b m.b ends.2 not_b)))
+          has
+
+  pub IsFirstBroken-joined : (r : Option Refusal) → IsFirstBrokenAt (WouldBe (Merged source target) held) target r → IsFirstBroken (WouldBe (Merged source target) held) r
+  IsFirstBroken-joined = IsFirstBroken-from_pivot (WouldBe (Merged source target) held) target joined_away joined_two
+
+  place_back : (x n : ℕ) → place (Merged source target) x ≡ n → (source ≡ x) ⊎ (n ≡ x)
+  place_back x n at = grind arith
+
+  pub CoversNear-joined : (ns : List Link) → HasNeighbourhood (Merged source target) held target ns → CoversNear (Merged source target) held target ns
+  CoversNear-joined ns all n near l has touch = go touch
+    where
+      by : (x : ℕ) → ((m : ℕ) → x ≡ m → EndsAt m l) → (source ≡ x) ⊎ (n ≡ x) → Contains ns l
+      by x ends (inl same) = all l has source (inl (inl refl)) (ends source (sym same))
+      by x ends (inr same) = all l has n (inr near) (ends n (sym same))
+
+      go : TouchesAt (Merged source target) n l → Contains ns l
+      go (inl a) = by l.a (λ m e. inl e) (place_back l.a n a)
+      go (inr b) = by l.b (λ m e. inr e) (place_back l.b n b)
+
+pub CoversNear-held : (held : Links) (p : ℕ) (ns : List Link) → HasNeighbourhood AsHeld held p ns → CoversNear AsHeld held p ns
+CoversNear-held held p ns all n near l has touch = all l has n (inr near) touch
+
+-- one place among these is the new link's, which is not held
+pub CoversNear-with : (held : Links) (new : Link) (ns : List Link) → (HeldIn held new → ⊥) → Contains ns new → HasNeighbourhood (With new) held new.a ns
+    → (rest : List Link) × (length rest + 1 ≡ length ns) × CoversNear (With new) held new.a rest
+CoversNear-with held new ns fresh has_new all =
+    let c = cut ns new has_new in
+    (c.0 ++ c.1, shorter c.0 c.1 c.2, λ n near l has touch. without c.0 c.1 c.2 l has (all l has n (inr near) touch))
+  where
+    shorter : (before after : List Link) → ns ≡ before ++ new ∷ after → length (before ++ after) + 1 ≡ length ns
+    shorter before after is = omega (arith, ap length is, length-append before (new ∷ after), length-append before after)
+
+    without : (before after : List Link) → ns ≡ before ++ new ∷ after → (l : Link) → HeldIn held l → Contains ns l → Contains (before ++ after) l
+    without before after is l has in_ns =
+        elim (Contains-append_cases before (new ∷ after) l (subst (λ (ws : List Link). Contains ws l) is in_ns)) [
+          | inl left ↦ Contains-append_left before after l left
+          | inr right ↦ elim (Contains-cons_cases new after l right) [
+            | inl same ↦ absurd (fresh (subst (λ (w : Link). HeldIn held w) (sym same) has))
+            | inr later ↦ Contains-append_right before after l later
+          ]
+        ]

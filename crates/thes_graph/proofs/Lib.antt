@@ -1,0 +1,26 @@
+mod NumberLemmas
+mod MetLemmas
+mod StepLemmas
+mod ReachLemmas
+mod PivotLemmas
+mod WeightLemmas
+mod ReadLemmas
+mod CountLemmas
+mod SightLemmas
+mod WalkLemmas
+mod ProbeLemmas
+mod JudgeLemmas
+mod NormLemmas
+mod SetLemmas
+mod ContractLemmas
+mod OrderLemmas
+mod LinkOrderLemmas
+mod RowLemmas
+mod IndexLemmas
+mod MarkLemmas
+mod ChangeLemmas
+mod MovedLemmas
+mod MappingLemmas
+mod ReaderLemmas
+mod WholeLemmas
+pub mod AnswerLemmas

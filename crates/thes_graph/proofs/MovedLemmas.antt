@@ -1,0 +1,177 @@
+-- A merge: the new links are added, and those at the source dropped.
+use Rattle.std.proofs.Common.{◌≡◌, ◌≢◌, ◌⊎◌, ◌+◌, ◌<◌, ◌++◌, length, get_or, inl, inr, ℕ, zero, suc, List, [], ◌∷◌, Bool, true, false, cond, ◌==◌, nat_eq, Contains, take, Option, Some, None, if◌then◌else◌, refl, sym, ap, subst, ◌∙◌, arith}
+use Rattle.std.specs.Prelude.{option_and_then}
+use Rattle.std.specs.List.{filter_map, cons_option}
+use Rattle.std.specs.Option.{option_to_list}
+use Rattle.std.proofs.lemmas.List.{take_more}
+use Rattle.std.proofs.lemmas.List.Elements.{filter_map-append}
+use Rattle.std.specs.FinSet.{contains}
+use Rattle.std.proofs.lemmas.Bool.Decides.{Decides-eqb}
+use Rattle.thes_base.specs.declared.data.Link.{Link}
+use Rattle.thes_base.specs.Links.{Links, HeldIn, norm, sent, sent_link, contracted, without_node}
+use Rattle.thes_graph.specs.declared.sight.Sight.TheVariants.{Merged}
+use Rattle.thes_graph.specs.Reading.{HaveTwoEnds, EndsAt}
+use Rattle.thes_graph.specs.Sight.{place, becomes}
+use Rattle.thes_graph.specs.Net.{Net, is_marked, links_at}
+use Rattle.thes_graph.specs.Moved.{AreNormal, AreMoved, AreNew, merged_link, unless_held, with_all}
+use Rattle.thes_graph.proofs.PivotLemmas.{same_or_not}
+use Rattle.thes_graph.proofs.NumberLemmas.{other_of}
+use Rattle.thes_graph.proofs.WeightLemmas.{Contains-none, Contains-head, Contains-later, Contains-cons_cases}
+use Rattle.thes_graph.proofs.SightLemmas.{becomes-ends, filter_map-from, filter_map-to}
+use Rattle.thes_graph.proofs.JudgeLemmas.{link_same}
+use Rattle.thes_graph.proofs.NormLemmas.{norm_ends, norm_two, norm_again}
+use Rattle.thes_graph.proofs.SetLemmas.{same_links, off_of_not, not_held_of}
+use Rattle.thes_graph.proofs.ContractLemmas.{contracted_from, contracted_to}
+use Rattle.thes_graph.proofs.IndexLemmas.{links_at_from, links_at_to}
+use Rattle.thes_graph.proofs.ChangeLemmas.{with_from, with_keeps, with_has, without_node_from, without_node_to}
+
+pub Contains-take : {X : Type 0} → (i : ℕ) (xs : List X) (x : X) → Contains (take i xs) x → Contains xs x
+Contains-take zero xs x has = absurd (Contains-none x has)
+Contains-take (suc i) [] x has = absurd (Contains-none x has)
+Contains-take {X} (suc i) (y ∷ ys) x has = elim (Contains-cons_cases y (take i ys) x has) [
+  | inl same ↦ subst (λ (z : X). Contains (y ∷ ys) z) same (Contains-head y ys)
+  | inr later ↦ Contains-later y ys x (Contains-take i ys x later)
+]
+
+none_some : {X : Type 0} (x : X) → None ≡ Some x → ⊥
+none_some x e = cc
+
+some_same : {X : Type 0} (x y : X) → Some x ≡ Some y → x ≡ y
+some_same x y e = cc
+
+unless_held-some : (links : Links) (l m : Link) → unless_held links l ≡ Some m → (l ≡ m) × (HeldIn links l → ⊥)
+unless_held-some links l m e = go (contains links l) refl e
+  where
+    go : (b : Bool) → contains links l ≡ b → (if b then None else Some l) ≡ Some m → (l ≡ m) × (HeldIn links l → ⊥)
+    go true is e = absurd (none_some m e)
+    go false is e = (some_same l m e, not_held_of (contains links l) is)
+
+unless_held-new : (links : Links) (l : Link) → (HeldIn links l → ⊥) → unless_held links l ≡ Some l
+unless_held-new links l new = ap (λ b. if b then None else Some l) (off_of_not (contains links l) new)
+
+module _ (net : Net) (source target : ℕ) where
+  merged_from : (l m : Link) → merged_link net source target l ≡ Some m → (n : Link) × (becomes source target l ≡ Some n) × (m ≡ norm (is_marked net) n) × (HeldIn net.links m → ⊥)
+  merged_from l m e = go (becomes source target l) refl e
+    where
+      go : (o : Option Link) → becomes source target l ≡ o → option_and_then (λ n. unless_held net.links (norm (is_marked net) n)) o ≡ Some m
+          → (n : Link) × (becomes source target l ≡ Some n) × (m ≡ norm (is_marked net) n) × (HeldIn net.links m → ⊥)
+      go None is e = absurd (none_some m e)
+      go (Some n) is e =
+          let new = unless_held-some net.links (norm (is_marked net) n) m e in
+          (n, is, sym new.0, λ held. new.1 (subst (HeldIn net.links) (sym new.0) held))
+
+  merged_to : (l n : Link) → becomes source target l ≡ Some n → (HeldIn net.links (norm (is_marked net) n) → ⊥) → merged_link net source target l ≡ Some (norm (is_marked net) n)
+  merged_to l n gives new = ap (option_and_then (λ m. unless_held net.links (norm (is_marked net) m))) gives ∙ unless_held-new net.links (norm (is_marked net) n) new
+
+  module _ (moved : List Link) (are : AreMoved net source target moved) where
+    moved_from : (m : Link) → Contains moved m → (l : Link) × (n : Link) × HeldIn net.links l × (becomes source target l ≡ Some n) × (m ≡ norm (is_marked net) n) × (HeldIn net.links m → ⊥)
+    moved_from m has =
+        let r = filter_map-from (merged_link net source target) (links_at net.links source) m (subst (λ (ms : List Link). Contains ms m) are has) in
+        let made = merged_from r.0 m r.2 in
+        (r.0, made.0, (links_at_from net.links source r.0 r.1).0, made.1, made.2, made.3)
+
+    moved_to : (l n : Link) → HeldIn net.links l → EndsAt source l → becomes source target l ≡ Some n → (HeldIn net.links (norm (is_marked net) n) → ⊥) → Contains moved (norm (is_marked net) n)
+    moved_to l n held at gives new =
+        subst (λ (ms : List Link). Contains ms (norm (is_marked net) n)) (sym are)
+        (filter_map-to (merged_link net source target) (links_at net.links source) l (norm (is_marked net) n) (links_at_to net.links source l held at) (merged_to l n gives new))
+
+    pub AreNew-moved : AreNew net moved
+    AreNew-moved = record {
+      two_ends = λ m has. two m (moved_from m has);
+      normal = λ m has. normal m (moved_from m has);
+      new = λ m has. (moved_from m has).5;
+    }
+      where
+        two : (m : Link) → (l : Link) × (n : Link) × HeldIn net.links l × (becomes source target l ≡ Some n) × (m ≡ norm (is_marked net) n) × (HeldIn net.links m → ⊥) → m.a ≢ m.b
+        two m (l, n, _, gives, is, _) = subst (λ (w : Link). w.a ≢ w.b) (sym is) (norm_two (is_marked net) n (becomes-ends source target l n gives).3)
+
+        normal : (m : Link) → (l : Link) × (n : Link) × HeldIn net.links l × (becomes source target l ≡ Some n) × (m ≡ norm (is_marked net) n) × (HeldIn net.links m → ⊥) → norm (is_marked net) m ≡ m
+        normal m (l, n, _, _, is, _) = ap (norm (is_marked net)) is ∙ norm_again (is_marked net) n ∙ sym is
+
+    module _ (different : source ≢ target) (two_ends : HaveTwoEnds (HeldIn net.links)) (normal : AreNormal net) where
+      sent_other : (x : ℕ) → x ≢ source → sent source target x ≡ x
+      sent_other x other = grind arith
+
+      sent_never : (x : ℕ) → sent source target x ≢ source
+      sent_never x at = grind arith
+
+      off_a : (l : Link) → (EndsAt source l → ⊥) → l.a ≢ source
+      off_a l off e = off (inl e)
+
+      off_b : (l : Link) → (EndsAt source l → ⊥) → l.b ≢ source
+      off_b l off e = off (inr e)
+
+      -- a link without an end at the source stays
+      sent_stays : (l : Link) → (EndsAt source l → ⊥) → sent_link source target l ≡ l
+      sent_stays l off = link_same l.kind l.kind (sent source target l.a) l.a (sent source target l.b) l.b refl (sent_other l.a (off_a l off)) (sent_other l.b (off_b l off))
+
+      apart : (l : Link) → HeldIn net.links l → (EndsAt source l → ⊥) → (sent source target l.a == sent source target l.b) ≡ false
+      apart l held off = off_of_not (sent source target l.a == sent source target l.b)
+          (λ e. two_ends l held (sym (sent_other l.a (off_a l off)) ∙ (Decides-eqb (sent source target l.a) (sent source target l.b)).0 e ∙ sent_other l.b (off_b l off)))
+
+      becomes_itself : (l : Link) → HeldIn net.links l → (EndsAt source l → ⊥) → becomes source target l ≡ Some l
+      becomes_itself l held off = ap (λ b. if b then None else Some (sent_link source target l)) (apart l held off) ∙ ap Some (sent_stays l off)
+
+      never_source : (l n : Link) → becomes source target l ≡ Some n → EndsAt source (norm (is_marked net) n) → ⊥
+      never_source l n gives at = go (norm_ends (is_marked net) n source at)
+        where
+          go : EndsAt source n → ⊥
+          go (inl a) = sent_never l.a (sym (becomes-ends source target l n gives).1 ∙ a)
+          go (inr b) = sent_never l.b (sym (becomes-ends source target l n gives).2 ∙ b)
+
+      ends_or_not : (l : Link) → EndsAt source l ⊎ (EndsAt source l → ⊥)
+      ends_or_not l = go (same_or_not l.a source) (same_or_not l.b source)
+        where
+          go : (l.a ≡ source) ⊎ (l.a ≢ source) → (l.b ≡ source) ⊎ (l.b ≢ source) → EndsAt source l ⊎ (EndsAt source l → ⊥)
+          go (inl a) _ = inl (inl a)
+          go (inr _) (inl b) = inl (inr b)
+          go (inr a) (inr b) = inr (λ at. elim at [ inl e ↦ a e | inr e ↦ b e ])
+
+      held_or_not : (l : Link) → HeldIn net.links l ⊎ (HeldIn net.links l → ⊥)
+      held_or_not l = elim (contains net.links l) as (λ b. (b ≡ true) ⊎ (b ≡ true → ⊥)) [ true ↦ inl refl | false ↦ inr (λ e. not_held_of false refl e) ]
+
+      pub merged_links : without_node source (with_all net.links moved) ≡ contracted (is_marked net) source target net.links
+      merged_links = same_links (without_node source (with_all net.links moved)) (contracted (is_marked net) source target net.links) to from
+        where
+          to_from_moved : (m : Link) → (l : Link) × (n : Link) × HeldIn net.links l × (becomes source target l ≡ Some n) × (m ≡ norm (is_marked net) n) × (HeldIn net.links m → ⊥) → HeldIn (contracted (is_marked net) source target net.links) m
+          to_from_moved m (l, n, held, gives, is, _) = subst (HeldIn (contracted (is_marked net) source target net.links)) (sym is) (contracted_to (is_marked net) source target net.links l n held gives)
+
+          to : (m : Link) → HeldIn (without_node source (with_all net.links moved)) m → HeldIn (contracted (is_marked net) source target net.links) m
+          to m held =
+              let r = without_node_from source (with_all net.links moved) m held in
+              elim (with_from net.links moved m r.0) [
+                | inl old ↦ subst (HeldIn (contracted (is_marked net) source target net.links)) (normal m old) (contracted_to (is_marked net) source target net.links m m old (becomes_itself m old r.1))
+                | inr has ↦ to_from_moved m (moved_from m has)
+              ]
+
+          there : (l n : Link) → HeldIn net.links l → becomes source target l ≡ Some n → HeldIn (with_all net.links moved) (norm (is_marked net) n)
+          there l n held gives = elim (held_or_not (norm (is_marked net) n)) [
+            | inl old ↦ with_keeps net.links moved (norm (is_marked net) n) old
+            | inr new ↦ elim (ends_or_not l) [
+              | inl at ↦ with_has net.links moved (norm (is_marked net) n) (moved_to l n held at gives new)
+              | inr off ↦ absurd (new (subst (HeldIn net.links) (sym (ap (norm (is_marked net)) (some_same n l (sym gives ∙ becomes_itself l held off)) ∙ normal l held)) held))
+            ]
+          ]
+
+          from : (m : Link) → HeldIn (contracted (is_marked net) source target net.links) m → HeldIn (without_node source (with_all net.links moved)) m
+          from m held = go (contracted_from (is_marked net) source target net.links m held)
+            where
+              go : (l : Link) × (n : Link) × HeldIn net.links l × (becomes source target l ≡ Some n) × (m ≡ norm (is_marked net) n) → HeldIn (without_node source (with_all net.links moved)) m
+              go (l, n, was, gives, is) =
+                  subst (HeldIn (without_node source (with_all net.links moved))) (sym is)
+                  (without_node_to source (with_all net.links moved) (norm (is_marked net) n) (there l n was gives) (never_source l n gives))
+
+-- a loop's step over the links at the source
+pub filter_map_more : {X Y : Type 0} → (f : X → Option Y) (xs : List X) (i : ℕ) (x : X) (o : Option Y) → i < length xs → x ≡ get_or xs i x → o ≡ f x
+    → filter_map f (take (i + 1) xs) ≡ filter_map f (take i xs) ++ option_to_list o
+filter_map_more {Y = Y} f xs i x o within is gives =
+    ap (filter_map f) (take_more xs i x within ∙ ap (λ y. take i xs ++ y ∷ []) (sym is))
+    ∙ filter_map-append f (take i xs) (x ∷ [])
+    ∙ ap (λ ys. filter_map f (take i xs) ++ ys) (one o gives)
+  where
+    one : (p : Option Y) → p ≡ f x → filter_map f (x ∷ []) ≡ option_to_list p
+    one p e = ap (λ q. cons_option q []) (sym e) ∙ go p
+      where
+        go : (q : Option Y) → cons_option q [] ≡ option_to_list q
+        go None = refl
+        go (Some y) = refl

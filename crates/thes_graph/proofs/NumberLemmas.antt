@@ -1,0 +1,33 @@
+-- What tests on numbers say.
+use Rattle.std.proofs.Common.{◌≡◌, ◌≢◌, ℕ, Bool, true, false, not, nat_eq, sym, ◌∙◌}
+use Rattle.std.proofs.lemmas.Bool.Decides.{Decides-eqb}
+
+true_false : true ≡ false → ⊥
+true_false e = cc
+
+not_false : (b : Bool) → not b ≡ false → b ≡ true
+not_false true e = cc
+not_false false e = cc
+
+not_true : (b : Bool) → not b ≡ true → b ≡ false
+not_true true e = cc
+not_true false e = cc
+
+pub same_of : (a b : ℕ) → nat_eq a b ≡ true → a ≡ b
+same_of a b e = (Decides-eqb a b).0 e
+
+pub other_of : (a b : ℕ) → nat_eq a b ≡ false → a ≢ b
+other_of a b e same = true_false (sym ((Decides-eqb a b).1 same) ∙ e)
+
+-- what `==` and `!=` answered
+pub eq_same : (r : Bool) (a b : ℕ) → r ≡ nat_eq a b → r ≡ true → a ≡ b
+eq_same r a b is e = same_of a b (sym is ∙ e)
+
+pub eq_other : (r : Bool) (a b : ℕ) → r ≡ nat_eq a b → r ≡ false → a ≢ b
+eq_other r a b is e = other_of a b (sym is ∙ e)
+
+pub ne_other : (r : Bool) (a b : ℕ) → r ≡ not (nat_eq a b) → r ≡ true → a ≢ b
+ne_other r a b is e = other_of a b (not_true (nat_eq a b) (sym is ∙ e))
+
+pub ne_same : (r : Bool) (a b : ℕ) → r ≡ not (nat_eq a b) → r ≡ false → a ≡ b
+ne_same r a b is e = same_of a b (not_false (nat_eq a b) (sym is ∙ e))

@@ -1,0 +1,229 @@
+use Rattle.std.proofs.Common.{◌≡◌, ◌≢◌, ℕ, ◌⊎◌, inl, inr, List, [], ◌∷◌, ◌++◌, Option, Some, None, refl, sym, ap, subst, ◌∙◌, arith, Bool, true, false, nat_eq}
+use Rattle.std.proofs.lemmas.Bool.Decides.{Decides-eqb}
+use Rattle.thes_base.specs.declared.data.Link.{Link}
+use Rattle.thes_base.specs.declared.data.LinkKind.{LinkKind}
+use Rattle.thes_base.specs.declared.data.Direction.{Direction}
+use Rattle.thes_base.specs.declared.data.Direction.TheVariants.{Forward, Backward, Either, Never}
+use Rattle.thes_base.specs.declared.fault.Refusal.{Refusal}
+use Rattle.thes_base.specs.Links.{broader_way, related_way, exact_way, apart_way, Leads, Path, Chain, Joined, IsBroader, IsAbove, IsRelated, IsExact, IsApart, NoCycle, S27, S46, IsFirstBroken}
+use Rattle.thes_graph.specs.Reading.{HaveTwoEnds}
+use Rattle.thes_graph.specs.Steps.{Reaches}
+use Rattle.thes_graph.specs.Local.{BreakNone, AwayFrom, UpTo, Alike, NoCycleAt, NoS27At, NoS46At, IsFirstBrokenAt}
+use Rattle.thes_base.specs.declared.fault.Refusal.TheVariants as no
+use Rattle.thes_base.specs.declared.data.LinkKind.TheVariants.{Broader, Related, Exact, Close, Broad, Narrow, RelMatch, Member}
+
+-- two numbers are equal or not
+pub same_or_not : (a b : ℕ) → (a ≡ b) ⊎ (a ≢ b)
+same_or_not a b =
+    elim (nat_eq a b) as (λ t. nat_eq a b ≡ t → (a ≡ b) ⊎ (a ≢ b)) [
+      | true ↦ λ e. inl ((Decides-eqb a b).0 e)
+      | false ↦ λ e. inr (λ same. true_not_false (sym ((Decides-eqb a b).1 same) ∙ e))
+    ] refl
+  where
+    true_not_false : true ≡ false → ⊥
+    true_not_false e = cc
+
+-- joining chains
+module _ (S : ℕ → ℕ → Type 0) where
+  Path-join : (x : ℕ) (ms : List ℕ) (y : ℕ) (ns : List ℕ) (z : ℕ) → Path S x ms y → Path S y ns z → Path S x (ms ++ y ∷ ns) z
+  Path-join x [] y ns z one rest = (one, rest)
+  Path-join x (m ∷ ms) y ns z path rest = (path.0, Path-join m ms y ns z path.1 rest)
+
+  pub Chain-join : (x y z : ℕ) → Chain S x y → Chain S y z → Chain S x z
+  Chain-join x y z (ms, p) (ns, q) = (ms ++ y ∷ ns, Path-join x ms y ns z p q)
+
+  pub Chain-one : (x y : ℕ) → S x y → Chain S x y
+  Chain-one x y one = ([], one)
+
+  pub Chain-then_reach : (x y z : ℕ) → Chain S x y → Reaches S y z → Chain S x z
+  Chain-then_reach x y z c (inl same) = subst (λ (w : ℕ). Chain S x w) same c
+  Chain-then_reach x y z c (inr d) = Chain-join x y z c d
+
+  pub Reaches-then_chain : (x y z : ℕ) → Reaches S x y → Chain S y z → Chain S x z
+  Reaches-then_chain x y z (inl same) c = subst (λ (w : ℕ). Chain S w z) (sym same) c
+  Reaches-then_chain x y z (inr d) c = Chain-join x y z d c
+
+  -- back along a symmetric relation
+  module _ (T : ℕ → ℕ → Type 0) (turns : (x y : ℕ) → S x y → T y x) where
+    Path-turn : (x : ℕ) (ms : List ℕ) (y : ℕ) → Path S x ms y → Chain T y x
+    Path-turn x [] y one = ([], turns x y one)
+    Path-turn x (m ∷ ms) y path = chain_push y m x (Path-turn m ms y path.1) (turns x m path.0)
+      where
+        push : (x : ℕ) (ms : List ℕ) (y z : ℕ) → Path T x ms y → T y z → Path T x (ms ++ y ∷ []) z
+        push x [] y z p one = (p, one)
+        push x (m ∷ ms) y z p one = (p.0, push m ms y z p.1 one)
+
+        chain_push : (x y z : ℕ) → Chain T x y → T y z → Chain T x z
+        chain_push x y z (ns, p) one = (ns ++ y ∷ [], push x ns y z p one)
+
+    pub Chain-turn : (x y : ℕ) → Chain S x y → Chain T y x
+    Chain-turn x y (ms, p) = Path-turn x ms y p
+
+    pub Reaches-turn : (x y : ℕ) → Reaches S x y → Reaches T y x
+    Reaches-turn x y (inl same) = inl (sym same)
+    Reaches-turn x y (inr c) = inr (Chain-turn x y c)
+
+  module _ (T : ℕ → ℕ → Type 0) (more : (x y : ℕ) → S x y → T x y) where
+    Path-map : (x : ℕ) (ms : List ℕ) (y : ℕ) → Path S x ms y → Path T x ms y
+    Path-map x [] y one = more x y one
+    Path-map x (m ∷ ms) y path = (more x m path.0, Path-map m ms y path.1)
+
+    pub Chain-map : (x y : ℕ) → Chain S x y → Chain T x y
+    Chain-map x y (ms, p) = (ms, Path-map x ms y p)
+
+    pub Reaches-map : (x y : ℕ) → Reaches S x y → Reaches T x y
+    Reaches-map x y (inl same) = inl same
+    Reaches-map x y (inr c) = inr (Chain-map x y c)
+
+-- a link that has an end at p joins p to something
+Leads-at : (d : Direction) (a b x y p : ℕ) → Leads d a b x y → ((a ≡ p) ⊎ (b ≡ p)) → (x ≡ p) ⊎ (y ≡ p)
+Leads-at Forward a b x y p (e, f) (inl at) = inl (sym e ∙ at)
+Leads-at Forward a b x y p (e, f) (inr at) = inr (sym f ∙ at)
+Leads-at Backward a b x y p (e, f) (inl at) = inr (sym f ∙ at)
+Leads-at Backward a b x y p (e, f) (inr at) = inl (sym e ∙ at)
+Leads-at Either a b x y p (inl (e, f)) (inl at) = inl (sym e ∙ at)
+Leads-at Either a b x y p (inl (e, f)) (inr at) = inr (sym f ∙ at)
+Leads-at Either a b x y p (inr (e, f)) (inl at) = inr (sym f ∙ at)
+Leads-at Either a b x y p (inr (e, f)) (inr at) = inl (sym e ∙ at)
+Leads-at Never a b x y p h at = absurd h
+
+-- a link never leads one node twice if its ends differ
+Leads-two : (d : Direction) (a b x : ℕ) → a ≢ b → Leads d a b x x → ⊥
+Leads-two Forward a b x two (e, f) = two (e ∙ sym f)
+Leads-two Backward a b x two (e, f) = two (f ∙ sym e)
+Leads-two Either a b x two (inl (e, f)) = two (e ∙ sym f)
+Leads-two Either a b x two (inr (e, f)) = two (f ∙ sym e)
+Leads-two Never a b x two h = h
+
+module _ (Held : Link → Type 0) (p : ℕ) where
+  -- a step keeps away from p, or has an end at it
+  step_at : (way : LinkKind → Direction) (x y : ℕ) → Joined Held way x y
+      → Joined (AwayFrom Held p) way x y ⊎ ((x ≡ p) ⊎ (y ≡ p))
+  step_at way x y (l, held, leads) =
+      elim (same_or_not l.a p) [
+        | inl at ↦ inr (Leads-at (way l.kind) l.a l.b x y p leads (inl at))
+        | inr not_a ↦ elim (same_or_not l.b p) [
+          | inl at ↦ inr (Leads-at (way l.kind) l.a l.b x y p leads (inr at))
+          | inr not_b ↦ inl (l, (held, not_a, not_b), leads)
+        ]
+      ]
+
+  -- a path keeps away from p, or goes through it
+  path_at : (way : LinkKind → Direction) (x : ℕ) (ms : List ℕ) (y : ℕ) → Path (Joined Held way) x ms y
+      → Path (Joined (AwayFrom Held p) way) x ms y
+      ⊎ (Reaches (Joined Held way) x p × Reaches (Joined Held way) p y)
+  path_at way x [] y one =
+      elim (step_at way x y one) [
+        | inl away ↦ inl away
+        | inr (inl at) ↦ inr (inl at, inr (subst (λ (w : ℕ). Chain (Joined Held way) w y) at ([], one)))
+        | inr (inr at) ↦ inr (inr (subst (λ (w : ℕ). Chain (Joined Held way) x w) at ([], one)), inl (sym at))
+      ]
+  path_at way x (m ∷ ms) y path =
+      elim (step_at way x m path.0) [
+        | inl away ↦ elim (path_at way m ms y path.1) [
+          | inl rest ↦ inl (away, rest)
+          | inr through ↦ inr (inr (Chain-then_reach (Joined Held way) x m p ([], path.0) through.0), through.1)
+        ]
+        | inr (inl at) ↦ inr (inl at, inr (subst (λ (w : ℕ). Chain (Joined Held way) w y) at (m ∷ ms, path)))
+        | inr (inr at) ↦ inr (inr (subst (λ (w : ℕ). Chain (Joined Held way) x w) at ([], path.0)), inr (subst (λ (w : ℕ). Chain (Joined Held way) w y) at (ms, path.1)))
+      ]
+
+  chain_at : (way : LinkKind → Direction) (x y : ℕ) → Chain (Joined Held way) x y
+      → Chain (Joined (AwayFrom Held p) way) x y
+      ⊎ (Reaches (Joined Held way) x p × Reaches (Joined Held way) p y)
+  chain_at way x y (ms, path) =
+      elim (path_at way x ms y path) [ inl away ↦ inl (ms, away) | inr through ↦ inr through ]
+
+-- fewer links break no more
+module _ (Sub Sup : Link → Type 0) (within : (l : Link) → Sub l → Sup l) where
+  Joined-within : (way : LinkKind → Direction) (x y : ℕ) → Joined Sub way x y → Joined Sup way x y
+  Joined-within way x y (l, held, leads) = (l, within l held, leads)
+
+  pub BreakNone-within : BreakNone Sup → BreakNone Sub
+  BreakNone-within (c1, s27, s46) = (
+    record { none = λ x above. c1.none x (Chain-map (IsBroader Sub) (IsBroader Sup) (Joined-within broader_way) x x above) },
+    record { none = λ x y related above. s27.none x y (Joined-within related_way x y related) (Chain-map (IsBroader Sub) (IsBroader Sup) (Joined-within broader_way) x y above) },
+    record { none = λ x y exact apart. s46.none x y (Chain-map (Joined Sub exact_way) (Joined Sup exact_way) (Joined-within exact_way) x y exact) (Joined-within apart_way x y apart) },
+  )
+
+Leads-exact_turns : (kind : LinkKind) (a b x y : ℕ) → Leads (exact_way kind) a b x y → Leads (exact_way kind) a b y x
+Leads-exact_turns Exact a b x y (inl (e, f)) = inr (f, e)
+Leads-exact_turns Exact a b x y (inr (e, f)) = inl (f, e)
+Leads-exact_turns _ a b x y h = absurd h
+
+module _ (Held : Link → Type 0) where
+  pub exact_turns : (x y : ℕ) → Joined Held exact_way x y → Joined Held exact_way y x
+  exact_turns x y (l, held, leads) = (l, held, Leads-exact_turns l.kind l.a l.b x y leads)
+
+  pub Alike-turn : (x y : ℕ) → Alike Held x y → Alike Held y x
+  Alike-turn = Reaches-turn (Joined Held exact_way) (Joined Held exact_way) exact_turns
+
+-- what is broken through p is broken
+module _ (Held : Link → Type 0) (two : HaveTwoEnds Held) (p : ℕ) where
+  pub S27-witness : (x : ℕ) × (y : ℕ) × UpTo Held x p × UpTo Held p y × IsRelated Held x y → (x : ℕ) × (y : ℕ) × IsRelated Held x y × IsAbove Held x y
+  S27-witness (x, y, to, from, r) = (x, y, r, climb to from)
+    where
+      climb : UpTo Held x p → UpTo Held p y → IsAbove Held x y
+      climb to (inr from) = Reaches-then_chain (IsBroader Held) x p y to from
+      climb (inr to) (inl same) = subst (λ (w : ℕ). IsAbove Held x w) same to
+      climb (inl one) (inl same) = absurd (Leads-two (related_way r.0.kind) r.0.a r.0.b x (two r.0 r.1) (let P : ℕ → Type 0 = λ w. Leads (related_way r.0.kind) r.0.a r.0.b x w in subst P (sym same ∙ sym one) r.2))
+
+  pub S46-witness : (x : ℕ) × (y : ℕ) × Alike Held p x × Alike Held p y × IsApart Held x y → (x : ℕ) × (y : ℕ) × IsExact Held x y × IsApart Held x y
+  S46-witness (x, y, to, from, m) = (x, y, across to from, m)
+    where
+      across : Alike Held p x → Alike Held p y → IsExact Held x y
+      across to (inr from) = Reaches-then_chain (Joined Held exact_way) x p y (Alike-turn Held p x to) from
+      across (inr to) (inl same) = subst (λ (w : ℕ). IsExact Held x w) same (Chain-turn (Joined Held exact_way) (Joined Held exact_way) (exact_turns Held) p x to)
+      across (inl one) (inl same) = absurd (Leads-two (apart_way m.0.kind) m.0.a m.0.b x (two m.0 m.1) (let P : ℕ → Type 0 = λ w. Leads (apart_way m.0.kind) m.0.a m.0.b x w in subst P (sym same ∙ one) m.2))
+
+-- where the links away from p are legal, what the links break is broken through p
+module _ (Held : Link → Type 0) (p : ℕ) (legal : BreakNone (AwayFrom Held p)) where
+  no_cycle_from : NoCycleAt Held p → (x : ℕ) → IsAbove Held x x → ⊥
+  no_cycle_from none x bt =
+      elim (chain_at Held p broader_way x x bt) [
+        | inl away ↦ legal.0.none x away
+        | inr (to, from) ↦ none (round to from)
+      ]
+    where
+      round : UpTo Held x p → UpTo Held p x → IsAbove Held p p
+      round (inl same) from = subst (λ (w : ℕ). IsAbove Held w w) same bt
+      round (inr to) from = Reaches-then_chain (IsBroader Held) p x p from to
+
+  s27_from : NoS27At Held p → (x y : ℕ) → IsRelated Held x y → IsAbove Held x y → ⊥
+  s27_from none x y r bt =
+      elim (chain_at Held p broader_way x y bt) [
+        | inr (to, from) ↦ none x y to from r
+        | inl away ↦ elim (step_at Held p related_way x y r) [
+          | inl r_away ↦ legal.1.none x y r_away away
+          | inr (inl at) ↦ none x y (inl at) (inr (subst (λ (w : ℕ). IsAbove Held w y) at bt)) r
+          | inr (inr at) ↦ none x y (inr (subst (λ (w : ℕ). IsAbove Held x w) at bt)) (inl (sym at)) r
+        ]
+      ]
+
+  s46_from : NoS46At Held p → (x y : ℕ) → IsExact Held x y → IsApart Held x y → ⊥
+  s46_from none x y e m =
+      elim (chain_at Held p exact_way x y e) [
+        | inr (to, from) ↦ none x y (Alike-turn Held x p to) from m
+        | inl away ↦ elim (step_at Held p apart_way x y m) [
+          | inl m_away ↦ legal.2.none x y away m_away
+          | inr (inl at) ↦ none x y (inl (sym at)) (inr (subst (λ (w : ℕ). IsExact Held w y) at e)) m
+          | inr (inr at) ↦ none x y (Alike-turn Held x p (inr (subst (λ (w : ℕ). IsExact Held x w) at e))) (inl (sym at)) m
+        ]
+      ]
+
+  no_cycle_pivot : NoCycleAt Held p → NoCycle Held
+  no_cycle_pivot none = record { none = no_cycle_from none }
+
+  s27_pivot : NoS27At Held p → S27 Held
+  s27_pivot none = record { none = s27_from none }
+
+  s46_pivot : NoS46At Held p → S46 Held
+  s46_pivot none = record { none = s46_from none }
+
+  -- the theorem: what the links break at the pivot is what they break anywhere
+  pub IsFirstBroken-from_pivot : HaveTwoEnds Held → (r : Option Refusal) → IsFirstBrokenAt Held p r → IsFirstBroken Held r
+  IsFirstBroken-from_pivot two None (c1, s27, s46) = (no_cycle_pivot c1, s27_pivot s27, s46_pivot s46)
+  IsFirstBroken-from_pivot two (Some no.Cycle) above = (p, above)
+  IsFirstBroken-from_pivot two (Some no.S27) (c1, found) = (no_cycle_pivot c1, S27-witness Held two p found)
+  IsFirstBroken-from_pivot two (Some no.S46) (c1, s27, found) = (no_cycle_pivot c1, s27_pivot s27, S46-witness Held two p found)
+  IsFirstBroken-from_pivot two (Some _) h = absurd h

@@ -1,0 +1,95 @@
+use Rattle.std.proofs.Common.{◌≡◌, ◌≢◌, ◌==◌, ◌+◌, ◌≤◌, ◌<◌, ◌⊎◌, inl, inr, ℕ, zero, suc, List, [], ◌∷◌, ◌++◌, length, ap, sym, subst, ◌∙◌, arith, refl, Contains, Bool, true, false, if◌then◌else◌, Option, Some, None}
+use Rattle.std.specs.List.{filter_map, cons_option}
+use Rattle.std.proofs.lemmas.List.Elements.{Contains-append_left, Contains-push, Contains-push_cases}
+use Rattle.thes_base.specs.declared.data.Link.{Link}
+use Rattle.thes_base.specs.Links.{Links}
+use Rattle.thes_graph.specs.declared.sight.Sight.{Sight}
+use Rattle.thes_graph.specs.declared.sight.Sight.TheVariants.{AsHeld, With, Merged}
+use Rattle.thes_graph.specs.Reading.{EndsAt}
+use Rattle.thes_graph.specs.Sight.{place, becomes, WouldBe, TouchesAt, IsReadOf, shown}
+use Rattle.thes_graph.proofs.WeightLemmas.{Contains-none, Contains-head, Contains-later, Contains-cons_cases}
+
+module _ {X Y : Type 0} (h : X → Option Y) where
+  -- the first item gives one or none
+  pub map_head : (x : X) (xs : List X) → ((y : Y) × (h x ≡ Some y) × (filter_map h (x ∷ xs) ≡ y ∷ filter_map h xs)) ⊎ ((h x ≡ None) × (filter_map h (x ∷ xs) ≡ filter_map h xs))
+  map_head x xs = elim (h x) as (λ o. ((y : Y) × (o ≡ Some y) × (cons_option o (filter_map h xs) ≡ y ∷ filter_map h xs)) ⊎ ((o ≡ None) × (cons_option o (filter_map h xs) ≡ filter_map h xs))) [
+    | None ↦ inr (refl, refl)
+    | Some y ↦ inl (y, refl, refl)
+  ]
+
+  pub filter_map-from : (xs : List X) (y : Y) → Contains (filter_map h xs) y → (x : X) × Contains xs x × (h x ≡ Some y)
+  filter_map-from [] y has = absurd (Contains-none y has)
+  filter_map-from (x ∷ xs) y has = go (λ rest. let r = filter_map-from xs y rest in (r.0, Contains-later x xs r.0 r.1, r.2)) (map_head x xs)
+    where
+      go : (Contains (filter_map h xs) y → (x' : X) × Contains (x ∷ xs) x' × (h x' ≡ Some y)) → ((z : Y) × (h x ≡ Some z) × (filter_map h (x ∷ xs) ≡ z ∷ filter_map h xs)) ⊎ ((h x ≡ None) × (filter_map h (x ∷ xs) ≡ filter_map h xs)) → (x' : X) × Contains (x ∷ xs) x' × (h x' ≡ Some y)
+      go later (inl (z, gives, is)) = elim (Contains-cons_cases z (filter_map h xs) y (subst (λ (ws : List Y). Contains ws y) is has)) [
+        | inl same ↦ (x, Contains-head x xs, gives ∙ ap Some same)
+        | inr rest ↦ later rest
+      ]
+      go later (inr (_, is)) = later (subst (λ (ws : List Y). Contains ws y) is has)
+
+  pub filter_map-to : (xs : List X) (x : X) (y : Y) → Contains xs x → h x ≡ Some y → Contains (filter_map h xs) y
+  filter_map-to [] x y has gives = absurd (Contains-none x has)
+  filter_map-to (w ∷ xs) x y has gives = go (λ rest. filter_map-to xs x y rest gives) (map_head w xs)
+    where
+      none_some : None ≡ Some y → ⊥
+      none_some e = cc
+
+      some_same : (z : Y) → Some z ≡ Some y → z ≡ y
+      some_same z e = cc
+
+      at : w ≡ x → h w ≡ Some y
+      at same = ap h same ∙ gives
+
+      go : (Contains xs x → Contains (filter_map h xs) y) → ((z : Y) × (h w ≡ Some z) × (filter_map h (w ∷ xs) ≡ z ∷ filter_map h xs)) ⊎ ((h w ≡ None) × (filter_map h (w ∷ xs) ≡ filter_map h xs)) → Contains (filter_map h (w ∷ xs)) y
+      go later (inl (z, some, is)) = subst (λ (ws : List Y). Contains ws y) (sym is) (elim (Contains-cons_cases w xs x has) [
+        | inl same ↦ subst (λ (v : Y). Contains (z ∷ filter_map h xs) v) (some_same z (sym some ∙ at same)) (Contains-head z (filter_map h xs))
+        | inr rest ↦ Contains-later z (filter_map h xs) y (later rest)
+      ])
+      go later (inr (none, is)) = subst (λ (ws : List Y). Contains ws y) (sym is) (elim (Contains-cons_cases w xs x has) [
+        | inl same ↦ absurd (none_some (sym none ∙ at same))
+        | inr rest ↦ later rest
+      ])
+
+-- what a merge makes of a link
+pub becomes-ends : (source target : ℕ) (l m : Link) → becomes source target l ≡ Some m
+    → (m.kind ≡ l.kind) × (m.a ≡ place (Merged source target) l.a) × (m.b ≡ place (Merged source target) l.b) × (m.a ≢ m.b)
+becomes-ends source target l m e = go (place (Merged source target) l.a) (place (Merged source target) l.b) e
+  where
+    none_some : None ≡ Some m → ⊥
+    none_some e = cc
+
+    some_same : (w : Link) → Some w ≡ Some m → w ≡ m
+    some_same w e = cc
+
+    differ : (a b : ℕ) → (a == b) ≡ false → a ≡ b → ⊥
+    differ a b off same = grind arith
+
+    go : (a b : ℕ) → (if a == b then None else Some (record { kind = l.kind; a = a; b = b })) ≡ Some m → (m.kind ≡ l.kind) × (m.a ≡ a) × (m.b ≡ b) × (m.a ≢ m.b)
+    go a b e = elim (a == b) as (λ t. (a == b) ≡ t → (if t then None else Some (record { kind = l.kind; a = a; b = b })) ≡ Some m → (m.kind ≡ l.kind) × (m.a ≡ a) × (m.b ≡ b) × (m.a ≢ m.b)) [
+      | true ↦ λ _ e. absurd (none_some e)
+      | false ↦ λ off e.
+          let same : record { kind = l.kind; a = a; b = b } ≡ m = some_same (record { kind = l.kind; a = a; b = b }) e in (
+            sym (ap (λ (w : Link). w.kind) same),
+            sym (ap (λ (w : Link). w.a) same),
+            sym (ap (λ (w : Link). w.b) same),
+            λ ends. differ a b off (ap (λ (w : Link). w.a) same ∙ ends ∙ sym (ap (λ (w : Link). w.b) same)),
+          )
+    ] refl e
+
+module _ (held : Links) (node : ℕ) (row : List Link) where
+  pub shown-sound : (sight : Sight) → IsReadOf sight held node row → (m : Link) → Contains (shown sight row) m → WouldBe sight held m
+  shown-sound AsHeld is m has = is.sound m has
+  shown-sound (With new) is m has = elim (Contains-push_cases row new m has) [ inl x ↦ inl (is.sound m x) | inr same ↦ inr same ]
+  shown-sound (Merged source target) is m has = let r = filter_map-from (becomes source target) row m has in (r.0, is.sound r.0 r.1, r.2)
+
+  pub shown-complete : (sight : Sight) → IsReadOf sight held node row → (m : Link) → WouldBe sight held m → EndsAt node m → Contains (shown sight row) m
+  shown-complete AsHeld is m has at = is.complete m has at
+  shown-complete (With new) is m (inl has) at = Contains-append_left row (new ∷ []) m (is.complete m has at)
+  shown-complete (With new) is m (inr same) at = subst (λ (w : Link). Contains (row ++ new ∷ []) w) same (Contains-push row new)
+  shown-complete (Merged source target) is m (l, has, gives) at =
+      filter_map-to (becomes source target) row l m (is.complete l has (touch at)) gives
+    where
+      touch : EndsAt node m → TouchesAt (Merged source target) node l
+      touch (inl a) = inl (sym (becomes-ends source target l m gives).1 ∙ a)
+      touch (inr b) = inr (sym (becomes-ends source target l m gives).2 ∙ b)

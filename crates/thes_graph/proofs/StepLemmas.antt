@@ -1,0 +1,123 @@
+use Rattle.std.proofs.Common.{◌≡◌, ℕ, suc, ◌+◌, ◌<◌, ◌≤◌, ◌⊎◌, inl, inr, List, [], ◌∷◌, ◌++◌, length, take, get_or, Contains, nat_eq, Bool, true, false, ◌||◌, Option, Some, None, refl, sym, ap, subst, ◌∙◌, append_assoc, append-nil, arith, cond}
+use Rattle.std.specs.List.{IsDistinct, list_any}
+use Rattle.std.proofs.lemmas.Cmp.{nat_eq_equiv}
+use Rattle.std.proofs.lemmas.List.Elements.{Contains-append_left, Contains-push, Contains-push_cases, Contains-get_or}
+use Rattle.std.proofs.lemmas.Map.Keys.{IsDistinct-push}
+use Rattle.std.proofs.lemmas.List.{take_more}
+use Rattle.thes_base.specs.declared.data.Link.{Link}
+use Rattle.thes_base.specs.declared.data.Direction.{Direction}
+use Rattle.thes_base.specs.declared.data.Direction.TheVariants.{Forward, Backward, Either, Never}
+use Rattle.thes_base.specs.Links.{Leads}
+use Rattle.thes_graph.specs.declared.relation.Relation.{Relation}
+use Rattle.thes_graph.specs.Steps.{way_of, Steps, step_in, step_along, Extends, GrowsBy}
+
+-- a new node behind the others
+pub GrowsBy-push : (xs : List ℕ) (y : ℕ) → list_any (nat_eq y) xs ≡ false → GrowsBy xs (xs ++ y ∷ []) (λ z. y ≡ z)
+GrowsBy-push xs y fresh = record {
+  kept = (y ∷ [], refl);
+  taken = λ z same. subst (λ (w : ℕ). Contains (xs ++ y ∷ []) w) same (Contains-push xs y);
+  only = λ z has. Contains-push_cases xs y z has;
+  distinct = λ d. IsDistinct-push nat_eq_equiv xs y d (fresh);
+}
+
+-- a node that is there
+pub GrowsBy-there : (xs : List ℕ) (y : ℕ) → Contains xs y → GrowsBy xs xs (λ z. y ≡ z)
+GrowsBy-there xs y there = record {
+  kept = ([], sym (append-nil xs));
+  taken = λ z same. subst (λ (w : ℕ). Contains xs w) same there;
+  only = λ z has. inl has;
+  distinct = λ d. d;
+}
+
+pub GrowsBy-none : (xs : List ℕ) (P : ℕ → Type 0) → ((y : ℕ) → P y → ⊥) → GrowsBy xs xs P
+GrowsBy-none xs P none = record {
+  kept = ([], sym (append-nil xs));
+  taken = λ y p. absurd (none y p);
+  only = λ y has. inl has;
+  distinct = λ d. d;
+}
+
+Extends-trans : (xs ys zs : List ℕ) → Extends xs ys → Extends ys zs → Extends xs zs
+Extends-trans xs ys zs (m, e) (n, f) = (m ++ n, f ∙ ap (λ l. l ++ n) e ∙ append_assoc xs m n)
+
+-- two growths in a row, where S is P or Q
+pub GrowsBy-then : (xs ys zs : List ℕ) (P Q S : ℕ → Type 0) → ((y : ℕ) → S y → P y ⊎ Q y) → ((y : ℕ) → P y → S y) → ((y : ℕ) → Q y → S y)
+    → GrowsBy xs ys P → GrowsBy ys zs Q → GrowsBy xs zs S
+GrowsBy-then xs ys zs P Q S parts left right g h = record {
+  kept = Extends-trans xs ys zs g.kept h.kept;
+  taken = λ y s. elim (parts y s) [
+    | inl p ↦ Extends-keeps ys zs h.kept y (g.taken y p)
+    | inr q ↦ h.taken y q
+  ];
+  only = λ y has. elim (h.only y has) [
+    | inl in_ys ↦ elim (g.only y in_ys) [ inl in_xs ↦ inl in_xs | inr p ↦ inr (left y p) ]
+    | inr q ↦ inr (right y q)
+  ];
+  distinct = λ d. h.distinct (g.distinct d);
+}
+  where
+    Extends-keeps : (ys zs : List ℕ) → Extends ys zs → (y : ℕ) → Contains ys y → Contains zs y
+    Extends-keeps ys zs (more, e) y has = rw e (Contains-append_left ys more y has)
+
+-- a step along the link, and what the link says
+pub step_from_Leads : (d : Direction) (a b x y : ℕ) → Leads d a b x y → step_in d a b x ≡ Some y
+step_from_Leads Forward a b x y (p, q) = grind arith
+step_from_Leads Backward a b x y (p, q) = grind arith
+step_from_Leads Either a b x y (inl (p, q)) = grind arith
+step_from_Leads Either a b x y (inr (p, q)) = grind arith
+step_from_Leads Never a b x y h = absurd h
+
+pub Leads-from_step : (d : Direction) (a b x y : ℕ) → step_in d a b x ≡ Some y → Leads d a b x y
+Leads-from_step Forward a b x y e = grind arith
+Leads-from_step Backward a b x y e = grind arith
+Leads-from_step Either a b x y e = grind arith
+Leads-from_step Never a b x y e = absurd (None_not_Some e)
+  where
+    None_not_Some : {z : ℕ} → None ≡ Some z → ⊥
+    None_not_Some e = cc
+
+abbrev Says : Relation → Link → ℕ → ℕ → Type 0
+Says relation l x y = Leads (way_of relation l.kind) l.a l.b x y
+
+-- what one more link leads to
+module _ (relation : Relation) (links : List Link) (k : ℕ) (d : Link) (x : ℕ) (within : k < length links) where
+  Steps-parts : (y : ℕ) → Steps relation (Contains (take (k + 1) links)) x y → Steps relation (Contains (take k links)) x y ⊎ Says relation (get_or links k d) x y
+  Steps-parts y (l, has, leads) =
+      let P : List Link → Type 0 = λ ls. Contains ls l in
+      elim (Contains-push_cases (take k links) (get_or links k d) l (subst P (take_more links k d within) has)) [
+        | inl before ↦ inl (l, before, leads)
+        | inr same ↦ inr (let Q : Link → Type 0 = λ w. Says relation w x y in subst Q (sym same) leads)
+      ]
+
+  Steps-before : (y : ℕ) → Steps relation (Contains (take k links)) x y → Steps relation (Contains (take (k + 1) links)) x y
+  Steps-before y (l, has, leads) =
+      let P : List Link → Type 0 = λ ls. Contains ls l in
+      (l, subst P (sym (take_more links k d within)) (Contains-append_left (take k links) (get_or links k d ∷ []) l has), leads)
+
+  Steps-last : (y : ℕ) → Says relation (get_or links k d) x y → Steps relation (Contains (take (k + 1) links)) x y
+  Steps-last y leads =
+      let P : List Link → Type 0 = λ ls. Contains ls (get_or links k d) in
+      (get_or links k d, subst P (sym (take_more links k d within)) (Contains-push (take k links) (get_or links k d)), leads)
+
+  pub GrowsBy-step : (xs ys zs : List ℕ) (y : ℕ) → step_along relation (get_or links k d) x ≡ Some y
+      → GrowsBy xs ys (Steps relation (Contains (take k links)) x) → GrowsBy ys zs (λ z. y ≡ z)
+      → GrowsBy xs zs (Steps relation (Contains (take (k + 1) links)) x)
+  GrowsBy-step xs ys zs y leads =
+      GrowsBy-then xs ys zs (Steps relation (Contains (take k links)) x) (λ z. y ≡ z) (Steps relation (Contains (take (k + 1) links)) x)
+      (λ z has. elim (Steps-parts z has) [ inl before ↦ inl before | inr now ↦ inr (Some_same (sym leads ∙ step_from_Leads _ _ _ x z now)) ])
+      Steps-before
+      (λ z same. Steps-last z (Leads-from_step (way_of relation (get_or links k d).kind) (get_or links k d).a (get_or links k d).b x z (leads ∙ ap Some same)))
+    where
+      Some_same : {a b : ℕ} → Some a ≡ Some b → a ≡ b
+      Some_same e = cc
+
+  pub GrowsBy-no_step : (xs ys : List ℕ) → step_along relation (get_or links k d) x ≡ None
+      → GrowsBy xs ys (Steps relation (Contains (take k links)) x)
+      → GrowsBy xs ys (Steps relation (Contains (take (k + 1) links)) x)
+  GrowsBy-no_step xs ys none g =
+      GrowsBy-then xs ys ys (Steps relation (Contains (take k links)) x) (λ z. Says relation (get_or links k d) x z) (Steps relation (Contains (take (k + 1) links)) x)
+      Steps-parts Steps-before Steps-last g
+      (GrowsBy-none ys (λ z. Says relation (get_or links k d) x z) (λ z some. None_not_Some (sym none ∙ step_from_Leads _ _ _ x z some)))
+    where
+      None_not_Some : {a : ℕ} → None ≡ Some a → ⊥
+      None_not_Some e = cc

@@ -1,0 +1,78 @@
+use Rattle.std.proofs.Common.{◌≡◌, ◌≢◌, ◌+◌, ◌*◌, ◌≤◌, ◌<◌, ◌⊎◌, inl, inr, ℕ, zero, suc, List, [], ◌∷◌, ◌++◌, length, take, drop, get_or, ap, sym, subst, ◌∙◌, arith, Option, Some, None, slice_get, refl, Contains, AllPairs, sum_by, append_assoc, add-one}
+use Rattle.std.proofs.lemmas.Option.{slice_get_within, slice_get_cases, get_or_from_slice_get}
+use Rattle.std.proofs.lemmas.List.{take_more, get_or_default}
+use Rattle.std.proofs.lemmas.List.Elements.{Contains-append_left, Contains-append_right, Contains-append_cases}
+use Rattle.std.proofs.lemmas.List.Sums.{sum_by-append, sum_by-cons}
+use Rattle.thes_graph.specs.Sight.{place}
+
+-- the item that a read gave is the next
+pub take_next : {X : Type 0} (xs : List X) (i : ℕ) (x : X) → Some x ≡ slice_get xs i → take (i + 1) xs ≡ take i xs ++ x ∷ []
+take_next xs i x e =
+    take_more xs i x (slice_get_within xs i x (sym e)) ∙ ap (λ y. take i xs ++ y ∷ []) (get_or_from_slice_get xs i x x (sym e))
+
+-- there is no item past the end
+pub past_of_none : {X : Type 0} (xs : List X) (i : ℕ) → slice_get xs i ≡ None → length xs ≤ i
+past_of_none xs i none = elim (slice_get_cases xs i).1 [ inl (x, inside, is, _) ↦ absurd (none_some x (sym none ∙ is)) | inr (past, _) ↦ past ]
+  where
+    none_some : {X : Type 0} (x : X) → None ≡ Some x → ⊥
+    none_some x e = cc
+
+module _ {X : Type 0} where
+  pub Contains-none : (x : X) → Contains [] x → ⊥
+  Contains-none x (k, lt, e) = absurd (omega arith)
+
+  pub Contains-head : (x : X) (xs : List X) → Contains (x ∷ xs) x
+  Contains-head x xs = (0, omega arith, refl)
+
+  pub Contains-later : (x : X) (xs : List X) (y : X) → Contains xs y → Contains (x ∷ xs) y
+  Contains-later x xs y (k, lt, e) = (suc k, omega arith, e)
+
+  pub Contains-cons_cases : (x : X) (xs : List X) (y : X) → Contains (x ∷ xs) y → (x ≡ y) ⊎ Contains xs y
+  Contains-cons_cases x xs y (zero, lt, e) = inl e
+  Contains-cons_cases x xs y (suc k, lt, e) = inr (k, omega arith, e)
+
+  -- an element's place cuts the list
+  pub cut : (xs : List X) (x : X) → Contains xs x → (before : List X) × (after : List X) × (xs ≡ before ++ x ∷ after)
+  cut [] x has = absurd (Contains-none x has)
+  cut (y ∷ xs) x has =
+      elim (Contains-cons_cases y xs x has) [
+        | inl same ↦ ([], xs, ap (λ w. w ∷ xs) same)
+        | inr later ↦ let c = cut xs x later in (y ∷ c.0, c.1, ap (λ ws. y ∷ ws) c.2)
+      ]
+
+  abbrev IsOnce : List X → Type 0
+  IsOnce [] = Unit {0}
+  IsOnce (x ∷ xs) = ((y : X) → Contains xs y → x ≢ y) × IsOnce xs
+
+  once_from_pairs : (xs : List X) → AllPairs (λ x y. x ≢ y) xs → IsOnce xs
+  once_from_pairs [] apart = tt
+  once_from_pairs (x ∷ xs) apart = (
+    (λ y (k, lt, e) same. apart 0 (suc k) y (omega arith) (omega arith) (same ∙ sym e)),
+    once_from_pairs xs (λ i j d lt inside. apart (suc i) (suc j) d (omega arith) (omega arith)),
+  )
+
+  -- distinct elements of ns, each of weight one or more, are no more than the weight of ns
+  pub length-once : (weight : X → ℕ) (xs ns : List X) → IsOnce xs → ((x : X) → Contains xs x → Contains ns x) → ((x : X) → Contains xs x → 1 ≤ weight x) → length xs ≤ sum_by weight ns
+  length-once weight [] ns once within heavy = omega arith
+  length-once weight (x ∷ xs) ns once within heavy =
+      let c = cut ns x (within x (Contains-head x xs)) in
+      let rest : length xs ≤ sum_by weight (c.0 ++ c.1) =
+      length-once weight xs (c.0 ++ c.1) once.1 (inside c.0 c.1 c.2) (λ y has. heavy y (Contains-later x xs y has)) in
+      let one : 1 ≤ weight x = heavy x (Contains-head x xs) in
+      let whole : sum_by weight ns ≡ sum_by weight c.0 + sum_by weight (x ∷ c.1) = ap (sum_by weight) c.2 ∙ sum_by-append weight c.0 (x ∷ c.1) in
+      let head : sum_by weight (x ∷ c.1) ≡ weight x + sum_by weight c.1 = sum_by-cons weight x c.1 in
+      let parts : sum_by weight (c.0 ++ c.1) ≡ sum_by weight c.0 + sum_by weight c.1 = sum_by-append weight c.0 c.1 in
+      omega arith
+    where
+      inside : (before after : List X) → ns ≡ before ++ x ∷ after → (y : X) → Contains xs y → Contains (before ++ after) y
+      inside before after is y has =
+          elim (Contains-append_cases before (x ∷ after) y (subst (λ (ws : List X). Contains ws y) is (within y (Contains-later x xs y has)))) [
+            | inl left ↦ Contains-append_left before after y left
+            | inr right ↦ elim (Contains-cons_cases x after y right) [
+              | inl same ↦ absurd (once.0 y has same)
+              | inr later ↦ Contains-append_right before after y later
+            ]
+          ]
+
+  pub length-apart : (weight : X → ℕ) (xs ns : List X) → AllPairs (λ x y. x ≢ y) xs → ((x : X) → Contains xs x → Contains ns x) → ((x : X) → Contains xs x → 1 ≤ weight x) → length xs ≤ sum_by weight ns
+  length-apart weight xs ns apart = length-once weight xs ns (once_from_pairs xs apart)

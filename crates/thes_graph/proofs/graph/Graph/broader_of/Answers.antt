@@ -1,0 +1,11 @@
+use Rattle.std.proofs.Common.{ℕ}
+use Rattle.std.specs.Ordering.{nat_cmp}
+use Rattle.thes_base.specs.declared.data.LinkKind.TheVariants.{Broader}
+use Rattle.thes_graph.proofs.ReaderLemmas.{listing_as, ok_as, forward_link, link_forward}
+use Rattle.thes_graph.proofs.graph.Graph.broader_of.Goals as goal
+
+pub returns : goal.returns
+returns c =
+    ok_as _ _ c.linked.result
+    (λ found is. listing_as nat_cmp _ _ found.items (forward_link c.args.self.now.links Broader c.args.n) (link_forward c.args.self.now.links Broader c.args.n) is)
+    c.linked.ensures

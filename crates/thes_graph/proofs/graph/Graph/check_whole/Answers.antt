@@ -1,0 +1,14 @@
+use Rattle.std.proofs.Common.{◌≡◌, List, sym, subst, ap, ◌∙◌, rules}
+use Rattle.std.specs.FinSet.{from_list}
+use Rattle.thes_base.specs.declared.data.Link.{Link}
+use Rattle.thes_base.specs.Links.{Links, link_cmp}
+use Rattle.thes_graph.specs.Net.{Net, Walked}
+use Rattle.thes_graph.specs.Whole.{AreAll}
+use Rattle.thes_graph.proofs.IndexLemmas.{AreAll-keys}
+use Rattle.thes_graph.proofs.graph.Graph.check_whole.Goals as goal
+
+pub check_all-requires-clause-all : goal.check_all-requires-clause-all
+check_all-requires-clause-all c =
+    let listed : c.in_ok-all.all.items ≡ c.self.inside.held.keys = search rules in
+    rw (c.deref.ensures.value, listed)
+    (subst (λ (links : Links). AreAll links c.self.inside.held.keys) (ap (λ (net : Net). net.links) c.self.view_is ∙ sym (ap (λ (w : Walked). w.net.links) c.walk-walk.ensures)) (AreAll-keys c.self.inside.held.keys))

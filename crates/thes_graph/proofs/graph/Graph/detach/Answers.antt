@@ -1,0 +1,39 @@
+use Rattle.std.proofs.Common.{◌≡◌, ◌≢◌, List, Bool, true, ap, sym, subst, ◌∙◌}
+use Rattle.std.specs.FinSet.{remove, from_list}
+use Rattle.thes_base.specs.declared.data.Link.{Link}
+use Rattle.thes_base.specs.Links.{Links, link_cmp, HeldIn}
+use Rattle.thes_graph.specs.Net.{Net}
+use Rattle.thes_graph.proofs.SetLemmas.{remove_absent, not_held_of}
+use Rattle.thes_graph.proofs.IndexLemmas.{looked_up, row_sorted, other_sorted, IsIndexed-taken, from_list_without, without_computed}
+use Rattle.thes_graph.proofs.graph.Graph.detach.Goals as goal
+
+pub take-requires : goal.take-requires
+take-requires c = row_sorted c.self.inside.held.keys c.self.inside.marked.keys c.self.inside.rows c.self.invariant c.args.link.now.a
+
+pub take-requires-then-remove : goal.take-requires-then-remove
+take-requires-then-remove c =
+    other_sorted c.args.link.now.a c.args.link.now.b c.self.inside.rows c.take.new.rows
+    (c.self.invariant.two_ends c.args.link.now (sym (looked_up c.self.inside.held.keys c.args.link.now true c.if-remove.ensures.test)))
+    c.take.ensures.others
+    (row_sorted c.self.inside.held.keys c.self.inside.marked.keys c.self.inside.rows c.self.invariant c.args.link.now.b)
+
+pub invariant_of-self : goal.invariant_of-self
+invariant_of-self c =
+    IsIndexed-taken c.self.inside.held.keys c.self.inside.marked.keys c.self.inside.rows c.take.new.rows c.take-then-remove.new.rows c.args.link.now c.self.invariant
+    (c.self.invariant.two_ends c.args.link.now (sym (looked_up c.self.inside.held.keys c.args.link.now true c.if-remove.ensures.test)))
+    c.take.ensures.others c.take-then-remove.ensures.others c.remove.new.self.keys
+    c.take.ensures.here c.take-then-remove.ensures.here c.if-remove.ensures.keys
+
+pub returns-then-remove : goal.returns-then-remove
+returns-then-remove c =
+    ap (λ (links : Links). record { links = links; outside = from_list c.self.inside.marked.keys })
+    (ap from_list (without_computed c.self.inside.held.keys c.args.link.now c.remove.new.self.keys c.if-remove.ensures.keys)
+    ∙ from_list_without c.self.inside.held.keys c.args.link.now c.self.invariant.ordered)
+    ∙ ap (λ (net : Net). record { links = remove net.links c.args.link.now; outside = net.outside }) c.self.view_is
+
+pub returns-else-remove : goal.returns-else-remove
+returns-else-remove c =
+    ap (λ (links : Links). record { links = links; outside = from_list c.self.inside.marked.keys })
+    (ap from_list c.if-remove.ensures.unchanged
+    ∙ sym (remove_absent (from_list c.self.inside.held.keys) c.args.link.now (not_held_of _ (sym (looked_up c.self.inside.held.keys c.args.link.now _ c.if-remove.ensures.test)))))
+    ∙ ap (λ (net : Net). record { links = remove net.links c.args.link.now; outside = net.outside }) c.self.view_is

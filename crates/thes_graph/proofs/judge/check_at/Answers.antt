@@ -1,0 +1,11 @@
+use Rattle.thes_base.specs.Links.{HeldIn}
+use Rattle.thes_graph.proofs.PivotLemmas.{IsFirstBroken-from_pivot}
+use Rattle.thes_graph.proofs.JudgeLemmas.{CoversNear-held}
+use Rattle.thes_graph.proofs.judge.check_at.Goals as goal
+
+pub returns-clause-first : goal.returns-clause-first
+returns-clause-first g c =
+    IsFirstBroken-from_pivot (HeldIn (g.L.Links.held c.args.links.now)) c.args.pivot c.requires (c.in_ok-answer.ensures.two_ends tt) c.in_ok-answer.answer c.in_ok-answer.ensures.first
+
+pub returns-clause-count : goal.returns-clause-count
+returns-clause-count g c ns all = c.in_ok-answer.ensures.count ns (CoversNear-held (g.L.Links.held c.args.links.now) c.args.pivot ns all)

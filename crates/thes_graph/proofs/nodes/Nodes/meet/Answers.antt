@@ -1,0 +1,27 @@
+use Rattle.std.proofs.Common.{◌≡◌, Bool, true, false, not, ap, sym, ◌∙◌, nat_eq, Contains}
+use Rattle.std.specs.List.{list_any}
+use Rattle.thes_graph.proofs.MetLemmas.{has_of_test, IsMet-push}
+use Rattle.thes_graph.proofs.StepLemmas.{GrowsBy-push, GrowsBy-there}
+use Rattle.thes_graph.proofs.nodes.Nodes.meet.Goals as goal
+
+pub invariant_of-self-in-Continue-branch-3 : goal.invariant_of-self-in-Continue-branch-3
+invariant_of-self-in-Continue-branch-3 c =
+    rw (c.in_ok-push.ensures.items, c.reserve.ensures.items) (IsMet-push c.self.inside.list.items c.self.inside.met c.insert.new.self c.args.n c.self.invariant c.in_ok-insert.ensures.updates.0)
+
+pub returns-in_ok-push : goal.returns-in_ok-push
+returns-in_ok-push c =
+    rw (c.in_ok-push.ensures.items, c.reserve.ensures.items, ← c.self.view_is)
+    (GrowsBy-push c.self.inside.list.items c.args.n (sym (c.self.invariant c.args.n) ∙ off _ (sym c.in_ok-insert.ensures.added ∙ c.if-branch.true)))
+  where
+    off : (b : Bool) → not b ≡ true → b ≡ false
+    off true e = cc
+    off false e = cc
+
+pub returns-else-branch : goal.returns-else-branch
+returns-else-branch c =
+    rw (c.reserve.ensures.items, ← c.self.view_is)
+    (GrowsBy-there c.self.inside.list.items c.args.n (has_of_test _ _ (sym (c.self.invariant c.args.n) ∙ on _ (sym c.in_ok-insert.ensures.added ∙ c.if-branch.false))))
+  where
+    on : (b : Bool) → not b ≡ false → b ≡ true
+    on true e = cc
+    on false e = cc

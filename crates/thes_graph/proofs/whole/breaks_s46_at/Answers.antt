@@ -1,0 +1,32 @@
+use Rattle.std.proofs.Common.{◌≡◌, ◌⊎◌, inl, inr, ℕ, List, ◌++◌, Contains, sym, subst, refl}
+use Rattle.std.proofs.lemmas.List.Elements.{Contains-append_left}
+use Rattle.thes_base.specs.Links.{HeldIn}
+use Rattle.thes_graph.specs.Local.{NoS46At}
+use Rattle.thes_graph.proofs.PivotLemmas.{S46-witness}
+use Rattle.thes_graph.proofs.ProbeLemmas.{s46_found, s46_none}
+use Rattle.thes_graph.proofs.WholeLemmas.{class_free}
+use Rattle.thes_graph.proofs.whole.breaks_s46_at.Goals as goal
+
+pub returns-then-some_ties-clause-found : goal.returns-then-some_ties-clause-found
+returns-then-some_ties-clause-found g c =
+    S46-witness (HeldIn (g.L.Links.held c.args.links.now)) c.requires.two_ends c.args.n
+    (s46_found (HeldIn (g.L.Links.held c.args.links.now)) c.args.n c.in_ok-same.same.nodes c.in_ok-same.same.links.items c.in_ok-same.ensures.gathered
+    (rw (c.deref.ensures.value, c.if-some_ties.true) at c.some_ties.ensures))
+
+pub returns-clause-found : goal.returns-clause-found
+returns-clause-found g c =
+    c.in_ok-add_done.ensures.taken c.args.n (rw c.as_slice.ensures (c.in_ok-same.ensures.gathered.reach.complete c.args.n (inl refl)))
+
+pub returns-clause-kept : goal.returns-clause-kept
+returns-clause-kept g c m has =
+    rw c.in_ok-add_done.ensures.kept.1 (Contains-append_left c.args.done.now c.in_ok-add_done.ensures.kept.0 m has)
+
+pub returns-clause-done : goal.returns-clause-done
+returns-clause-done g c m has =
+    elim (c.in_ok-add_done.ensures.only m has) [
+      | inl old ↦ c.requires.done m old
+      | inr new ↦ class_free (HeldIn (g.L.Links.held c.args.links.now)) c.args.n m
+          (s46_none (HeldIn (g.L.Links.held c.args.links.now)) c.args.n c.in_ok-same.same.nodes c.in_ok-same.same.links.items c.in_ok-same.ensures.gathered
+          (rw (c.deref.ensures.value, c.if-some_ties.false) at c.some_ties.ensures))
+          (c.in_ok-same.ensures.gathered.reach.sound m (rw c.as_slice.ensures at new))
+    ]

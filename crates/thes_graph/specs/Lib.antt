@@ -1,0 +1,12 @@
+pub mod Reading
+pub mod Steps
+pub mod Sight
+pub mod Local
+pub mod Judge
+pub mod Met
+pub mod Net
+pub mod Rows
+pub mod Linked
+pub mod Mapped
+pub mod Moved
+pub mod Whole

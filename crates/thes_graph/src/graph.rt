@@ -1,0 +1,375 @@
+//! The links of a thesaurus: a set that knows the links at each node.
+ghost use Rattle.std.specs.Prelude.{◌≡◌, ◌≢◌, ◌↔◌, ◌⊎◌, ℕ, Contains, IfOk, OnOk, OnErr, MatchOption, slice_get};
+ghost use Rattle.std.specs.Ordering.{nat_cmp};
+ghost use Rattle.std.specs.FinSet.{empty, contains, insert, remove, len, items};
+ghost use Rattle.thes_base.specs.declared.data.Link.{Link};
+ghost use Rattle.thes_base.specs.declared.data.LinkKind.TheVariants as kinds;
+ghost use Rattle.thes_base.specs.Links.{HeldIn, norm, contracted, without_node, IsFirstBroken};
+ghost use Rattle.thes_base.specs.Listing.{IsListing};
+ghost use Rattle.thes_graph.specs.Reading.{HaveTwoEnds, EndsAt};
+ghost use Rattle.thes_graph.specs.Net.{is_marked, links_at};
+ghost use Rattle.thes_base.specs.Views.{HasLink, IsMapping, mapping_cmp};
+ghost use Rattle.thes_graph.specs.Linked.{IsLinked, KeepsOrder};
+ghost use Rattle.thes_graph.specs.Moved.{AreNormal, AreMoved, AreNew, merged_link, with_all, without_all};
+
+use crate::judge::in_order;
+use crate::linked::lead_by;
+use crate::links::Links;
+use crate::mapped::{as_seen, list_mapping};
+use crate::rows::{Rows, make_room, put, row, take};
+use crate::sight::merge;
+use crate::whole::check_all;
+use std::alloc::{AllocError, Global};
+use std::collections::{BTreeMap, BTreeSet};
+use std::marker::Model;
+use thes_base::data::{Direction, Link, LinkKind};
+use thes_base::fault::Refusal;
+use thes_base::number::ResNo;
+
+/// A set of links, and the resources marked as outside concepts. A link handed in has two different ends, and is kept in the order
+/// of its ends that the norm has.
+#[derive(Drop)]
+pub struct Graph {
+    alloc: Global,
+    held: BTreeSet<Link>,
+    rows: Rows,
+    marked: BTreeSet<ResNo>,
+}
+
+impl Model for Graph {
+    ghost use Rattle.std.specs.Coded.{codes};
+    ghost use Rattle.std.specs.FinSet as set;
+    ghost use Rattle.std.specs.FinSet.{from_list};
+    ghost use Rattle.thes_graph.specs.Net.{Net};
+    ghost use Rattle.thes_graph.specs.Rows.{IsIndexed};
+
+    ghost Value = { Net };
+
+    ghost coded = { Prim.hlevel (codes, set.code) };
+
+    ghost view = { λ g. record { links = from_list g.held.keys; outside = from_list g.marked.keys } };
+
+    ghost invariant = { λ g. IsIndexed g.held.keys g.rows g.marked.keys };
+}
+
+impl Graph {
+    /// No links, and no outside concepts.
+    pub fn new(alloc: Global) -> Graph
+        ensures { result ≡ record { links = empty; outside = empty } }
+    {
+        Graph {
+            alloc,
+            held: BTreeSet::new(alloc),
+            rows: BTreeMap::new(alloc),
+            marked: BTreeSet::new(alloc),
+        }
+    }
+
+    // The link as it is kept.
+    fn normal(&self, link: &Link) -> Link
+        ensures { result ≡ norm (is_marked self.now) link.now }
+    {
+        in_order(link, self.is_outside(link.a) || self.is_outside(link.b))
+    }
+
+    // The links with an end at the node, in their order.
+    fn at(&self, n: ResNo) -> &[Link]
+        ensures row { result.now ≡ links_at self.now.links n }
+        ensures two_ends { HaveTwoEnds (HeldIn self.now.links) }
+        ensures normal { AreNormal self.now }
+    {
+        row(&self.rows, n)
+    }
+
+    // The i-th of these links.
+    fn nth_at(&self, n: ResNo, i: usize) -> Option<Link>
+        ensures link { result ≡ slice_get (links_at self.now.links n) i }
+        ensures two_ends { HaveTwoEnds (HeldIn self.now.links) }
+    {
+        self.at(n).get(i).copied()
+    }
+
+    // Whether the link is held as it is handed in.
+    fn holds(&self, link: &Link) -> bool
+        ensures holds { result ≡ contains self.now.links link.now }
+        ensures two_ends { HaveTwoEnds (HeldIn self.now.links) }
+    {
+        self.held.contains(link)
+    }
+
+    /// Whether the resource was marked as an outside concept.
+    pub fn is_outside(&self, n: ResNo) -> bool
+        ensures { result ≡ is_marked self.now n }
+    {
+        self.marked.contains(&n)
+    }
+
+    /// Whether the link is held.
+    pub fn has(&self, link: &Link) -> bool
+        ensures { result ≡ contains self.now.links (norm (is_marked self.now) link.now) }
+    {
+        self.holds(&self.normal(link))
+    }
+
+    /// How many links are held.
+    pub fn size(&self) -> u64
+        ensures { result ≡ len self.now.links }
+    {
+        self.held.len() as u64
+    }
+
+    // What the links of this kind, taken this way, lead to from the node.
+    fn linked(
+        &self,
+        alloc: Global,
+        n: ResNo,
+        kind: LinkKind,
+        way: Direction,
+    ) -> Result<Vec<ResNo>, AllocError>
+        requires { KeepsOrder way kind }
+        ensures { IfOk result (λ found. IsListing nat_cmp (IsLinked self.now.links kind way n) found.items) }
+    {
+        let mut found = Vec::new(alloc);
+        for link in self.at(n) {
+            if let Some(m) = lead_by(kind, way, link, n) {
+                found.push(m)?;
+            }
+        }
+        Ok(found)
+    }
+
+    /// The concepts that are broader than this one in its own scheme, their numbers rising.
+    pub fn broader_of(&self, alloc: Global, n: ResNo) -> Result<Vec<ResNo>, AllocError>
+        ensures { IfOk result (λ found. IsListing nat_cmp (λ b. HasLink self.now.links kinds.Broader n b) found.items) }
+    {
+        self.linked(alloc, n, LinkKind::Broader, Direction::Forward)
+    }
+
+    /// The concepts that are narrower than this one in its own scheme, their numbers rising.
+    pub fn narrower_of(&self, alloc: Global, n: ResNo) -> Result<Vec<ResNo>, AllocError>
+        ensures { IfOk result (λ found. IsListing nat_cmp (λ a. HasLink self.now.links kinds.Broader a n) found.items) }
+    {
+        self.linked(alloc, n, LinkKind::Broader, Direction::Backward)
+    }
+
+    /// The concepts related to this one in its own scheme, their numbers rising.
+    pub fn related_of(&self, alloc: Global, n: ResNo) -> Result<Vec<ResNo>, AllocError>
+        ensures { IfOk result (λ found. IsListing nat_cmp (λ m. HasLink self.now.links kinds.Related n m ⊎ HasLink self.now.links kinds.Related m n) found.items) }
+    {
+        self.linked(alloc, n, LinkKind::Related, Direction::Either)
+    }
+
+    /// The collections that the resource is a member of, their numbers rising.
+    pub fn collections_of(&self, alloc: Global, n: ResNo) -> Result<Vec<ResNo>, AllocError>
+        ensures { IfOk result (λ found. IsListing nat_cmp (λ c. HasLink self.now.links kinds.Member c n) found.items) }
+    {
+        self.linked(alloc, n, LinkKind::Member, Direction::Backward)
+    }
+
+    /// The mappings of the concept as seen from it, in the order of their words, broad, close, exact, narrow and relMatch, and then by number.
+    pub fn mapped(&self, alloc: Global, n: ResNo) -> Result<Vec<(LinkKind, ResNo)>, AllocError>
+        ensures { IfOk result (λ found. IsListing mapping_cmp (IsMapping self.now.links n) found.items) }
+    {
+        let mut found = Vec::new(alloc);
+        for link in self.at(n) {
+            if let Some(mapping) = as_seen(link, n) {
+                list_mapping(&mut found, mapping)?;
+            }
+        }
+        Ok(found)
+    }
+
+    /// Adds the link. One that is held stays as it is.
+    pub fn add(&mut self, link: &Link) -> Result<(), AllocError>
+        requires { link.now.a ≢ link.now.b }
+        ensures ok { OnOk result (self.new ≡ record self.old { links = insert self.old.links (norm (is_marked self.old) link.now) }) }
+        ensures err { OnErr result (self.new ≡ self.old) }
+    {
+        let new = self.normal(link);
+        if self.holds(&new) {
+            return Ok(());
+        }
+        make_room(&mut self.rows, self.alloc, new.a)?;
+        make_room(&mut self.rows, self.alloc, new.b)?;
+        self.held.insert(new)?;
+        put(&mut self.rows, new.a, &new);
+        put(&mut self.rows, new.b, &new);
+        Ok(())
+    }
+
+    /// Takes the link away, if it is held.
+    pub fn remove(&mut self, link: &Link)
+        ensures { self.new ≡ record self.old { links = remove self.old.links (norm (is_marked self.old) link.now) } }
+    {
+        let old = self.normal(link);
+        self.detach(&old);
+    }
+
+    // Takes the link away as it is handed in, if it is held.
+    fn detach(&mut self, link: &Link)
+        ensures { self.new ≡ record self.old { links = remove self.old.links link.now } }
+    {
+        if self.held.remove(link) {
+            take(&mut self.rows, link.a, link);
+            take(&mut self.rows, link.b, link);
+        }
+    }
+
+    // The link as it would be kept after a merge, unless it joins the target to itself then or is held already.
+    fn merged(&self, link: &Link, source: ResNo, target: ResNo) -> Option<Link>
+        ensures { result ≡ merged_link self.now source target link.now }
+    {
+        let new = self.normal(&merge(link, source, target)?);
+        if self.holds(&new) { None } else { Some(new) }
+    }
+
+    // The links at the source as they are after a merge, without those that are held already.
+    fn moved(&self, source: ResNo, target: ResNo) -> Result<Vec<Link>, AllocError>
+        requires { source ≢ target }
+        ensures moved { IfOk result (λ moved. AreMoved self.now source target moved.items) }
+        ensures two_ends { HaveTwoEnds (HeldIn self.now.links) }
+        ensures normal { AreNormal self.now }
+    {
+        let mut moved = Vec::new(self.alloc);
+        for link in self.at(source) {
+            if let Some(new) = self.merged(link, source, target) {
+                moved.push(new)?;
+            }
+        }
+        Ok(moved)
+    }
+
+    // Adds these links, none of which is held, or none of them.
+    fn add_all(&mut self, links: &[Link]) -> Result<(), AllocError>
+        requires { AreNew self.old links.now }
+        ensures ok { OnOk result (self.new ≡ record self.old { links = with_all self.old.links links.now }) }
+        ensures err { OnErr result (self.new ≡ self.old) }
+    {
+        for (i, link) in links.iter().enumerate() {
+            if let Err(error) = self.add(link) {
+                self.detach_all(&links[..i]);
+                return Err(error);
+            }
+        }
+        Ok(())
+    }
+
+    // Takes these links away.
+    fn detach_all(&mut self, links: &[Link])
+        ensures { self.new ≡ record self.old { links = without_all self.old.links links.now } }
+    {
+        for link in links {
+            self.detach(link);
+        }
+    }
+
+    // A link with an end at the node.
+    fn last_at(&self, n: ResNo) -> Option<Link>
+        ensures { MatchOption result ((l : Link) → HeldIn self.now.links l → EndsAt n l → ⊥) (λ l. HeldIn self.now.links l × EndsAt n l) }
+    {
+        self.at(n).last().copied()
+    }
+
+    /// Takes all links of the node away.
+    pub fn drop_all(&mut self, n: ResNo)
+        ensures { self.new ≡ record self.old { links = without_node n self.old.links } }
+    {
+        while let Some(link) = self.last_at(n) {
+            self.detach(&link);
+        }
+    }
+
+    /// Replaces the source by the target in each link.
+    pub fn contract(&mut self, source: ResNo, target: ResNo) -> Result<(), AllocError>
+        requires { source ≢ target }
+        ensures ok { OnOk result (self.new ≡ record self.old { links = contracted (is_marked self.old) source target self.old.links }) }
+        ensures err { OnErr result (self.new ≡ self.old) }
+    {
+        let moved = self.moved(source, target)?;
+        self.add_all(&moved)?;
+        self.drop_all(source);
+        Ok(())
+    }
+
+    /// Marks the resource as an outside concept.
+    pub fn mark_outside(&mut self, n: ResNo) -> Result<(), AllocError>
+        requires { (l : Link) → HeldIn self.old.links l → EndsAt n l → ⊥ }
+        ensures ok { OnOk result (self.new ≡ record self.old { outside = insert self.old.outside n }) }
+        ensures err { OnErr result (self.new ≡ self.old) }
+    {
+        self.marked.insert(n)?;
+        Ok(())
+    }
+
+    /// The links, none of them visited yet.
+    pub fn walk(&self) -> Walk<'_>
+        ensures { result ≡ record { net = self.now; visits = 0 } }
+    {
+        Walk {
+            graph: self,
+            visits: 0,
+        }
+    }
+
+    /// The first rule that the links held break.
+    pub fn check_whole(&self, alloc: Global) -> Result<Option<Refusal>, AllocError>
+        ensures { IfOk result (IsFirstBroken (HeldIn self.now.links)) }
+    {
+        let all: Vec<Link> = self.held.iter().copied().collect(alloc)?;
+        let mut walk = self.walk();
+        let first = check_all(alloc, &mut walk, &all)?;
+        Ok(first)
+    }
+}
+
+/// The links of a graph, read one at a time, with a count of the visits.
+#[derive(Drop)]
+pub struct Walk<'a> {
+    graph: &'a Graph,
+    visits: u64,
+}
+
+impl<'a> Model for Walk<'a> {
+    ghost use Rattle.std.specs.Coded.{codes};
+    ghost use Rattle.std.specs.FinSet as set;
+    ghost use Rattle.thes_graph.specs.Net.{Walked};
+
+    ghost Value = { Walked };
+
+    ghost coded = { Prim.hlevel (codes, set.code) };
+
+    ghost view = { λ w. record { net = w.graph.now; visits = w.visits } };
+}
+
+impl<'a> Links for Walk<'a> {
+    ghost held = { λ w. w.net.links };
+
+    ghost outside = { λ w. is_marked w.net };
+
+    ghost links_of = { λ w. links_at w.net.links };
+
+    ghost count = { λ w. w.visits };
+
+    fn link_at(&mut self, node: ResNo, i: usize) -> Option<Link> {
+        match self.graph.nth_at(node, i) {
+            Some(link) => {
+                self.visits = self.visits.saturating_add(1);
+                Some(link)
+            }
+            None => None,
+        }
+    }
+
+    fn holds(&mut self, link: &Link) -> bool {
+        self.visits = self.visits.saturating_add(1);
+        self.graph.holds(link)
+    }
+
+    fn is_outside(&self, n: ResNo) -> bool {
+        self.graph.is_outside(n)
+    }
+
+    fn visits(&self) -> u64 {
+        self.visits
+    }
+}

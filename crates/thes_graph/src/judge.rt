@@ -1,0 +1,159 @@
+//! Whether the links, or those that would be, keep the rules. Only links near the edit are read: three walks from one node, up, down
+//! and along exact matches, find all that the edit can break.
+ghost use Rattle.std.specs.Prelude.{◌≡◌, ◌≢◌, ◌+◌, ◌*◌, ◌≤◌, List, Contains, OnOk, IfOk, length, nat_lt, if◌then◌else◌, ◌&&◌};
+ghost use Rattle.thes_base.specs.declared.data.Link.{Link};
+ghost use Rattle.thes_base.specs.Links.{HeldIn, is_symmetric, exchanged, norm, contracted, IsFirstBroken};
+ghost use Rattle.thes_graph.specs.declared.sight.Sight.TheVariants.{AsHeld, With, Merged};
+ghost use Rattle.thes_graph.specs.Reading.{HaveTwoEnds};
+ghost use Rattle.thes_graph.specs.Sight.{WouldBe, IsFit, LooksAsHeld};
+ghost use Rattle.thes_graph.specs.Local.{BreakNone, AwayFrom, IsFirstBrokenAt, CoversNear};
+ghost use Rattle.thes_graph.specs.Judge.{row_of_add, HasNeighbourhood};
+
+use crate::links::Links;
+use crate::nodes::Nodes;
+use crate::relation::Relation;
+use crate::sight::Sight;
+use crate::walk::{gather, some_ties};
+use std::alloc::{AllocError, Global};
+use thes_base::data::{Link, LinkKind};
+use thes_base::fault::Refusal;
+use thes_base::number::ResNo;
+
+/// The link as it is kept, where `outside` says whether an end is an outside concept.
+pub fn in_order(link: &Link, outside: bool) -> Link
+    ensures { result ≡ (if is_symmetric outside link.now.kind && nat_lt link.now.b link.now.a then exchanged link.now else link.now) }
+{
+    let symmetric = match link.kind {
+        LinkKind::Related => true,
+        LinkKind::Exact | LinkKind::Close | LinkKind::RelMatch => !outside,
+        _ => false,
+    };
+    if symmetric && link.b < link.a {
+        Link {
+            kind: link.kind,
+            a: link.b,
+            b: link.a,
+        }
+    } else {
+        *link
+    }
+}
+
+// The link as these links would keep it.
+fn normal<L: Links>(links: &L, link: &Link) -> Link
+    ensures { result ≡ norm (L.outside links.now) link.now }
+{
+    in_order(link, links.is_outside(link.a) || links.is_outside(link.b))
+}
+
+/// The first rule that the links that would be break by a chain or pair through the pivot.
+pub fn probe<L: Links>(
+    alloc: Global,
+    links: &mut L,
+    sight: &Sight,
+    pivot: ResNo,
+) -> Result<Option<Refusal>, AllocError>
+    requires { IsFit sight.now }
+    ensures held { L.held links.new ≡ L.held links.old }
+    ensures outside { L.outside links.new ≡ L.outside links.old }
+    ensures rows { L.links_of links.new ≡ L.links_of links.old }
+    ensures two_ends { OnOk result (LooksAsHeld sight.now → HaveTwoEnds (HeldIn (L.held links.old))) }
+    ensures first { IfOk result (IsFirstBrokenAt (WouldBe sight.now (L.held links.old)) pivot) }
+    ensures count { OnOk result ((ns : List Link) → CoversNear sight.now (L.held links.old) pivot ns → L.count links.new ≤ L.count links.old + 6 * length ns) }
+{
+    let up = gather(alloc, links, sight, pivot, Relation::Broader)?;
+    let here = Nodes::only(alloc, pivot)?;
+    if some_ties(Relation::Broader, &up.links, &up.nodes, &here) {
+        return Ok(Some(Refusal::Cycle));
+    }
+    let down = gather(alloc, links, sight, pivot, Relation::Narrower)?;
+    if some_ties(Relation::Related, &up.links, &down.nodes, &up.nodes) {
+        return Ok(Some(Refusal::S27));
+    }
+    let same = gather(alloc, links, sight, pivot, Relation::Exact)?;
+    if some_ties(Relation::Apart, &same.links, &same.nodes, &same.nodes) {
+        return Ok(Some(Refusal::S46));
+    }
+    Ok(None)
+}
+
+/// The first rule that the links held break, where those without an end at the pivot break none.
+///
+/// The bound on visits holds for every list that has the links near the pivot: those with an end at it, or at a node above it, below
+/// it or in its class of exact matches.
+pub fn check_at<L: Links>(
+    alloc: Global,
+    links: &mut L,
+    pivot: ResNo,
+) -> Result<Option<Refusal>, AllocError>
+    requires { BreakNone (AwayFrom (HeldIn (L.held links.old)) pivot) }
+    ensures held { L.held links.new ≡ L.held links.old }
+    ensures outside { L.outside links.new ≡ L.outside links.old }
+    ensures first { IfOk result (IsFirstBroken (HeldIn (L.held links.old))) }
+    ensures count { OnOk result ((ns : List Link) → HasNeighbourhood AsHeld (L.held links.old) pivot ns → L.count links.new ≤ L.count links.old + 6 * length ns) }
+{
+    let answer = probe(alloc, links, &Sight::AsHeld, pivot)?;
+    Ok(answer)
+}
+
+/// What speaks against one more link: that it is there, or else the first rule that the links with it would break.
+///
+/// The bound on visits is that of `check_at`, with the new link among those near its first end.
+pub fn judge_add<L: Links>(
+    alloc: Global,
+    links: &mut L,
+    link: &Link,
+) -> Result<Option<Refusal>, AllocError>
+    requires ends { link.now.a ≢ link.now.b }
+    requires unbroken { BreakNone (HeldIn (L.held links.old)) }
+    ensures held { L.held links.new ≡ L.held links.old }
+    ensures outside { L.outside links.new ≡ L.outside links.old }
+    ensures answer { IfOk result (row_of_add (L.held links.old) (norm (L.outside links.old) link.now)) }
+    ensures count { let new = norm (L.outside links.old) link.now in OnOk result ((ns : List Link) → Contains ns new → HasNeighbourhood (With new) (L.held links.old) new.a ns → L.count links.new ≤ L.count links.old + 6 * length ns) }
+{
+    let new = normal(links, link);
+    let answer = judge_normal(alloc, links, &new)?;
+    Ok(answer)
+}
+
+// The same for a link in the order in which it would be kept.
+fn judge_normal<L: Links>(
+    alloc: Global,
+    links: &mut L,
+    new: &Link,
+) -> Result<Option<Refusal>, AllocError>
+    requires ends { new.now.a ≢ new.now.b }
+    requires unbroken { BreakNone (HeldIn (L.held links.old)) }
+    ensures held { L.held links.new ≡ L.held links.old }
+    ensures outside { L.outside links.new ≡ L.outside links.old }
+    ensures answer { IfOk result (row_of_add (L.held links.old) new.now) }
+    ensures count { OnOk result ((ns : List Link) → Contains ns new.now → HasNeighbourhood (With new.now) (L.held links.old) new.now.a ns → L.count links.new ≤ L.count links.old + 6 * length ns) }
+{
+    if links.holds(new) {
+        return Ok(Some(Refusal::LinkThere));
+    }
+    let sight = Sight::With(*new);
+    let answer = probe(alloc, links, &sight, new.a)?;
+    Ok(answer)
+}
+
+/// What speaks against a merge of the source into the target: the first rule that the links after it would break.
+///
+/// The bound on visits is that of `check_at` at the target, with the links at the source.
+pub fn judge_contract<L: Links>(
+    alloc: Global,
+    links: &mut L,
+    source: ResNo,
+    target: ResNo,
+) -> Result<Option<Refusal>, AllocError>
+    requires ends { source ≢ target }
+    requires unbroken { BreakNone (HeldIn (L.held links.old)) }
+    ensures held { L.held links.new ≡ L.held links.old }
+    ensures outside { L.outside links.new ≡ L.outside links.old }
+    ensures first { IfOk result (IsFirstBroken (HeldIn (contracted (L.outside links.old) source target (L.held links.old)))) }
+    ensures count { OnOk result ((ns : List Link) → HasNeighbourhood (Merged source target) (L.held links.old) target ns → L.count links.new ≤ L.count links.old + 6 * length ns) }
+{
+    let sight = Sight::Merged(source, target);
+    let answer = probe(alloc, links, &sight, target)?;
+    Ok(answer)
+}

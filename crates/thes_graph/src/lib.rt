@@ -1,0 +1,14 @@
+//! Links between concepts: what is held, and whether one more link or a merge keeps the rules.
+#![tactic(auto)]
+
+pub mod graph;
+pub mod judge;
+pub mod linked;
+pub mod links;
+pub mod mapped;
+pub mod nodes;
+pub mod relation;
+pub mod rows;
+pub mod sight;
+pub mod walk;
+pub mod whole;

@@ -1,0 +1,52 @@
+//! Links that are read one at a time, and how often they were.
+ghost use Rattle.std.specs.Prelude.{◌≡◌, ℕ, List, Bool, slice_get};
+ghost use Rattle.std.specs.FinSet.{contains};
+ghost use Rattle.thes_base.specs.Links.{Links as LinkSet, HeldIn};
+ghost use Rattle.thes_base.specs.declared.data.Link.{Link};
+ghost use Rattle.thes_graph.specs.Reading.{HaveTwoEnds, IsRow, visited, visited_by};
+
+use thes_base::data::Link;
+use thes_base::number::ResNo;
+
+/// A set of links that is read link by link, with a count of the visits. A visit is one link handed out at one of its ends, or one
+/// look-up of a given link. Nothing here makes a value, copies one or sets its count back.
+pub trait Links {
+    /// The links held.
+    ghost held: { Self → LinkSet };
+
+    /// Which resources are outside concepts.
+    ghost outside: { Self → ℕ → Bool };
+
+    /// The links held that have an end at a node, in the order in which they are handed out.
+    ghost links_of: { Self → ℕ → List Link };
+
+    /// The number of visits.
+    ghost count: { Self → ℕ };
+
+    /// The i-th link with an end at the node; a visit where there is one.
+    fn link_at(&mut self, node: ResNo, i: usize) -> Option<Link>
+        ensures held { held self.new ≡ held self.old }
+        ensures outside { outside self.new ≡ outside self.old }
+        ensures rows { links_of self.new ≡ links_of self.old }
+        ensures two_ends { HaveTwoEnds (HeldIn (held self.old)) }
+        ensures listed { IsRow (held self.old) node (links_of self.old node) }
+        ensures link { result ≡ slice_get (links_of self.old node) i }
+        ensures count { count self.new ≡ visited_by (count self.old) result };
+
+    /// Whether the link is held; a visit.
+    fn holds(&mut self, link: &Link) -> bool
+        ensures held { held self.new ≡ held self.old }
+        ensures outside { outside self.new ≡ outside self.old }
+        ensures rows { links_of self.new ≡ links_of self.old }
+        ensures two_ends { HaveTwoEnds (HeldIn (held self.old)) }
+        ensures holds { result ≡ contains (held self.old) link.now }
+        ensures count { count self.new ≡ visited (count self.old) };
+
+    /// Whether the resource is an outside concept.
+    fn is_outside(&self, n: ResNo) -> bool
+        ensures { result ≡ outside self.now n };
+
+    /// How many visits there were. A count at its greatest value stays there.
+    fn visits(&self) -> u64
+        ensures { result ≡ count self.now };
+}

@@ -1,0 +1,64 @@
+//! Mappings as seen from one of their ends.
+ghost use Rattle.std.specs.Prelude.{◌≡◌, OnOk};
+ghost use Rattle.std.specs.BTreeSet.{insert_key};
+ghost use Rattle.std.specs.List.Sorted.{IsStrictlySortedBy};
+ghost use Rattle.thes_base.specs.Views.{mapping_cmp, word_place};
+ghost use Rattle.thes_graph.specs.Mapped.{as_seen_from};
+
+use std::alloc::AllocError;
+use thes_base::data::{Link, LinkKind};
+use thes_base::number::ResNo;
+
+// Where the kind's word stands among those of mappings.
+fn place_of(kind: LinkKind) -> u8
+    ensures { result ≡ word_place kind }
+{
+    match kind {
+        LinkKind::Broad => 1,
+        LinkKind::Close => 2,
+        LinkKind::Exact => 3,
+        LinkKind::Narrow => 4,
+        LinkKind::RelMatch => 5,
+        LinkKind::Broader => 6,
+        LinkKind::Related => 7,
+        LinkKind::Member => 8,
+    }
+}
+
+// By what mappings are ordered: where the word stands, then the number.
+fn key_of(mapping: &(LinkKind, ResNo)) -> (u8, ResNo)
+    ensures { result ≡ (word_place mapping.now.0, mapping.now.1) }
+{
+    (place_of(mapping.0), mapping.1)
+}
+
+/// The mapping that a link at the node is, as seen from there, if it is one.
+pub fn as_seen(link: &Link, n: ResNo) -> Option<(LinkKind, ResNo)>
+    ensures { result ≡ as_seen_from n link.now }
+{
+    let forward = link.a == n;
+    let other = if forward { link.b } else { link.a };
+    match link.kind {
+        LinkKind::Exact | LinkKind::Close | LinkKind::RelMatch => Some((link.kind, other)),
+        LinkKind::Broad if forward => Some((LinkKind::Broad, other)),
+        LinkKind::Broad => Some((LinkKind::Narrow, other)),
+        LinkKind::Narrow if forward => Some((LinkKind::Narrow, other)),
+        LinkKind::Narrow => Some((LinkKind::Broad, other)),
+        _ => None,
+    }
+}
+
+/// Puts the mapping at its place in the list, unless it is there.
+pub fn list_mapping(
+    list: &mut Vec<(LinkKind, ResNo)>,
+    mapping: (LinkKind, ResNo),
+) -> Result<(), AllocError>
+    requires { IsStrictlySortedBy mapping_cmp list.old.items }
+    ensures { OnOk result (list.new.items ≡ insert_key mapping_cmp list.old.items mapping) }
+{
+    match list.binary_search_by_key(&key_of(&mapping), |other| key_of(other)) {
+        Ok(_) => {}
+        Err(i) => list.insert(i, mapping)?,
+    }
+    Ok(())
+}

@@ -1,0 +1,81 @@
+//! The nodes that a walk met.
+ghost use Rattle.std.specs.Prelude.{◌≡◌, ◌<◌, ◌^◌, ◌∷◌, [], Contains, IfOk, OnOk, IfSome, MatchBool, length, slice_get};
+ghost use Rattle.thes_graph.specs.Steps.{GrowsBy};
+
+use std::alloc::{AllocError, Global};
+use std::collections::BTreeSet;
+use std::marker::Model;
+use thes_base::number::ResNo;
+
+/// Nodes in the order in which a walk met them, each once; seen by contracts as that list.
+#[derive(Drop)]
+pub struct Nodes {
+    list: Vec<ResNo>,
+    met: BTreeSet<ResNo>,
+}
+
+impl Model for Nodes {
+    ghost use Rattle.std.specs.Prelude.{List, ℕ};
+    ghost use Rattle.thes_graph.specs.Met.{IsMet};
+
+    ghost Value = { List ℕ };
+
+    ghost view = { λ a. a.list.items };
+
+    ghost invariant = { λ a. IsMet a.list.items a.met };
+}
+
+impl Nodes {
+    /// No nodes.
+    pub fn none(alloc: Global) -> Nodes
+        ensures { result ≡ [] }
+    {
+        Nodes {
+            list: Vec::new(alloc),
+            met: BTreeSet::new(alloc),
+        }
+    }
+
+    /// The start alone.
+    pub fn only(alloc: Global, start: ResNo) -> Result<Nodes, AllocError>
+        ensures { IfOk result (λ nodes. nodes ≡ start ∷ []) }
+    {
+        let list = vec![in alloc; start]?;
+        let mut met = BTreeSet::new(alloc);
+        met.insert(start)?;
+        Ok(Nodes { list, met })
+    }
+
+    /// The nodes in the order in which they were met.
+    pub fn as_slice(&self) -> &[ResNo]
+        ensures { result.now ≡ self.now }
+    {
+        self.list.as_slice()
+    }
+
+    /// The i-th node that was met.
+    pub fn get(&self, i: usize) -> Option<ResNo>
+        ensures node { result ≡ slice_get self.now i }
+        ensures small { length self.now < 2 ^ 63 }
+    {
+        self.list.get(i).copied()
+    }
+
+    /// Whether the node was met.
+    pub fn has(&self, n: ResNo) -> bool
+        ensures { MatchBool result (Contains self.now n) (Contains self.now n → ⊥) }
+    {
+        self.met.contains(&n)
+    }
+
+    /// Notes that a node was met.
+    pub fn meet(&mut self, n: ResNo) -> Result<(), AllocError>
+        ensures { OnOk result (GrowsBy self.old self.new (λ m. n ≡ m)) }
+    {
+        self.list.reserve(1)?;
+        if self.met.insert(n)? {
+            self.list.push(n)?;
+        }
+        Ok(())
+    }
+}

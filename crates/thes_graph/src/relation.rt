@@ -1,0 +1,54 @@
+//! What links say of two nodes.
+ghost use Rattle.std.specs.Prelude.{◌≡◌};
+ghost use Rattle.thes_graph.specs.Steps.{way_of, step_in, step_along};
+
+use thes_base::data::{Direction, Link, LinkKind};
+use thes_base::number::ResNo;
+
+/// What links can say of two nodes. `Apart` are the broader and related matches, which no exact match may be.
+#[derive(Clone, Copy)]
+pub enum Relation {
+    Broader,
+    Narrower,
+    Related,
+    Exact,
+    Apart,
+}
+
+/// Which way a link of this kind leads in the relation.
+pub fn way(relation: Relation, kind: LinkKind) -> Direction
+    ensures { result ≡ way_of relation kind }
+{
+    match (relation, kind) {
+        (Relation::Broader, LinkKind::Broader | LinkKind::Broad) => Direction::Forward,
+        (Relation::Broader, LinkKind::Narrow) => Direction::Backward,
+        (Relation::Narrower, LinkKind::Broader | LinkKind::Broad) => Direction::Backward,
+        (Relation::Narrower, LinkKind::Narrow) => Direction::Forward,
+        (Relation::Related, LinkKind::Related | LinkKind::RelMatch) => Direction::Either,
+        (Relation::Exact, LinkKind::Exact) => Direction::Either,
+        (Relation::Apart, LinkKind::Broad) => Direction::Forward,
+        (Relation::Apart, LinkKind::Narrow) => Direction::Backward,
+        (Relation::Apart, LinkKind::RelMatch) => Direction::Either,
+        _ => Direction::Never,
+    }
+}
+
+/// The node that the link, taken this way, leads to from `x`.
+pub fn lead(way: Direction, link: &Link, x: ResNo) -> Option<ResNo>
+    ensures { result ≡ step_in way link.now.a link.now.b x }
+{
+    match way {
+        Direction::Forward if link.a == x => Some(link.b),
+        Direction::Backward if link.b == x => Some(link.a),
+        Direction::Either if link.a == x => Some(link.b),
+        Direction::Either if link.b == x => Some(link.a),
+        _ => None,
+    }
+}
+
+/// The node that the link leads to from `x` in the relation.
+pub fn step(relation: Relation, link: &Link, x: ResNo) -> Option<ResNo>
+    ensures { result ≡ step_along relation link.now x }
+{
+    lead(way(relation, link.kind), link, x)
+}

@@ -1,0 +1,180 @@
+//! A walk from a node: the nodes that a relation leads to, and the links that were read on the way.
+ghost use Rattle.std.specs.Prelude.{◌≡◌, ◌≢◌, ◌+◌, ◌*◌, ◌≤◌, ℕ, List, Contains, OnOk, IfOk, MatchBool, length, sum_by};
+ghost use Rattle.thes_base.specs.declared.data.Link.{Link};
+ghost use Rattle.thes_base.specs.Links.{HeldIn};
+ghost use Rattle.thes_graph.specs.declared.sight.Sight.TheVariants.{Merged};
+ghost use Rattle.thes_graph.specs.Reading.{HaveTwoEnds, IsRow};
+ghost use Rattle.thes_graph.specs.Steps.{Steps, GrowsBy, Ties};
+ghost use Rattle.thes_graph.specs.Sight.{WouldBe, touches, IsReadOf, CoversAt, shown, IsFit, LooksAsHeld};
+ghost use Rattle.thes_graph.specs.Local.{IsGathered};
+
+use crate::links::Links;
+use crate::nodes::Nodes;
+use crate::relation::{Relation, step, way};
+use crate::sight::{Sight, show};
+use std::alloc::{AllocError, Global};
+use thes_base::data::{Direction, Link};
+use thes_base::number::ResNo;
+
+// Adds what the links lead to from `x`.
+fn take_steps(
+    nodes: &mut Nodes,
+    links: &[Link],
+    relation: Relation,
+    x: ResNo,
+) -> Result<(), AllocError>
+    ensures { OnOk result (GrowsBy nodes.old nodes.new (Steps relation (Contains links.now) x)) }
+{
+    for link in links {
+        match step(relation, link, x) {
+            Some(y) => nodes.meet(y)?,
+            None => {}
+        }
+    }
+    Ok(())
+}
+
+// The links at the node.
+fn fetch<L: Links>(alloc: Global, links: &mut L, node: ResNo) -> Result<Vec<Link>, AllocError>
+    ensures held { L.held links.new ≡ L.held links.old }
+    ensures outside { L.outside links.new ≡ L.outside links.old }
+    ensures rows { L.links_of links.new ≡ L.links_of links.old }
+    ensures two_ends { OnOk result (HaveTwoEnds (HeldIn (L.held links.old))) }
+    ensures listed { IfOk result (λ row. IsRow (L.held links.old) node row.items) }
+    ensures count { IfOk result (λ row. L.count links.new ≤ L.count links.old + length row.items) }
+{
+    let mut row = Vec::new(alloc);
+    for i in 0..usize::MAX {
+        match links.link_at(node, i) {
+            Some(link) => row.push(link)?,
+            None => return Ok(row),
+        }
+    }
+    Ok(row)
+}
+
+// The held links that have an end in this place.
+fn read<L: Links>(
+    alloc: Global,
+    links: &mut L,
+    sight: &Sight,
+    node: ResNo,
+) -> Result<Vec<Link>, AllocError>
+    requires { IsFit sight.now }
+    ensures held { L.held links.new ≡ L.held links.old }
+    ensures outside { L.outside links.new ≡ L.outside links.old }
+    ensures rows { L.links_of links.new ≡ L.links_of links.old }
+    ensures two_ends { OnOk result (LooksAsHeld sight.now → HaveTwoEnds (HeldIn (L.held links.old))) }
+    ensures read { IfOk result (λ row. IsReadOf sight.now (L.held links.old) node row.items) }
+    ensures count { OnOk result ((ns : List Link) → CoversAt sight.now (L.held links.old) node ns → L.count links.new ≤ L.count links.old + sum_by (touches sight.now node) ns) }
+{
+    match sight {
+        Sight::AsHeld => {
+            let row = fetch(alloc, links, node)?;
+            Ok(row)
+        }
+        Sight::With(_) => {
+            let row = fetch(alloc, links, node)?;
+            Ok(row)
+        }
+        Sight::Merged(source, target) => {
+            let row = read_merged(alloc, links, *source, *target, node)?;
+            Ok(row)
+        }
+    }
+}
+
+// The held links that have an end in this place after the merge: none at the source, and at the target those of both.
+fn read_merged<L: Links>(
+    alloc: Global,
+    links: &mut L,
+    source: ResNo,
+    target: ResNo,
+    node: ResNo,
+) -> Result<Vec<Link>, AllocError>
+    requires { source ≢ target }
+    ensures held { L.held links.new ≡ L.held links.old }
+    ensures outside { L.outside links.new ≡ L.outside links.old }
+    ensures rows { L.links_of links.new ≡ L.links_of links.old }
+    ensures read { IfOk result (λ row. IsReadOf (Merged source target) (L.held links.old) node row.items) }
+    ensures count { OnOk result ((ns : List Link) → CoversAt (Merged source target) (L.held links.old) node ns → L.count links.new ≤ L.count links.old + sum_by (touches (Merged source target) node) ns) }
+{
+    if node == source {
+        return Ok(Vec::new(alloc));
+    }
+    if node != target {
+        let row = fetch(alloc, links, node)?;
+        return Ok(row);
+    }
+    let mut row = fetch(alloc, links, target)?;
+    let more = fetch(alloc, links, source)?;
+    row.extend_from_slice(&more)?;
+    Ok(row)
+}
+
+/// Nodes that were reached, and the links at these.
+#[derive(Drop)]
+pub struct Gathered {
+    pub nodes: Nodes,
+    pub links: Vec<Link>,
+}
+
+/// `start` and all that it leads to in the links that would be, with the links there.
+pub fn gather<L: Links>(
+    alloc: Global,
+    links: &mut L,
+    sight: &Sight,
+    start: ResNo,
+    relation: Relation,
+) -> Result<Gathered, AllocError>
+    requires { IsFit sight.now }
+    ensures held { L.held links.new ≡ L.held links.old }
+    ensures outside { L.outside links.new ≡ L.outside links.old }
+    ensures rows { L.links_of links.new ≡ L.links_of links.old }
+    ensures two_ends { OnOk result (LooksAsHeld sight.now → HaveTwoEnds (HeldIn (L.held links.old))) }
+    ensures gathered { IfOk result (λ got. IsGathered (WouldBe sight.now (L.held links.old)) relation start got.nodes got.links.items) }
+    ensures count { IfOk result (λ got. (ns : List Link) → ((n : ℕ) → Contains got.nodes n → CoversAt sight.now (L.held links.old) n ns) → L.count links.new ≤ L.count links.old + 2 * length ns) }
+{
+    let mut nodes = Nodes::only(alloc, start)?;
+    let mut found = Vec::new(alloc);
+    for i in 0..usize::MAX {
+        let x = match nodes.get(i) {
+            Some(x) => x,
+            None => break,
+        };
+        let raw = read(alloc, links, sight, x)?;
+        let row = show(alloc, sight, raw)?;
+        take_steps(&mut nodes, &row, relation, x)?;
+        found.extend_from_slice(&row)?;
+    }
+    Ok(Gathered {
+        nodes,
+        links: found,
+    })
+}
+
+// Whether the link leads from one of `xs` to one of `ys`.
+fn ties(relation: Relation, link: &Link, xs: &Nodes, ys: &Nodes) -> bool
+    ensures { MatchBool result (Ties relation link.now xs.now ys.now) (Ties relation link.now xs.now ys.now → ⊥) }
+{
+    match way(relation, link.kind) {
+        Direction::Forward => xs.has(link.a) && ys.has(link.b),
+        Direction::Backward => xs.has(link.b) && ys.has(link.a),
+        Direction::Either => {
+            (xs.has(link.a) && ys.has(link.b)) || (xs.has(link.b) && ys.has(link.a))
+        }
+        Direction::Never => false,
+    }
+}
+
+/// Whether some link leads from one of `xs` to one of `ys`.
+pub fn some_ties(relation: Relation, links: &[Link], xs: &Nodes, ys: &Nodes) -> bool
+    ensures { MatchBool result ((l : Link) × Contains links.now l × Ties relation l xs.now ys.now) ((l : Link) → Contains links.now l → Ties relation l xs.now ys.now → ⊥) }
+{
+    for link in links {
+        if ties(relation, link, xs, ys) {
+            return true;
+        }
+    }
+    false
+}

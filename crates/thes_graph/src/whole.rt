@@ -1,0 +1,164 @@
+//! The check of all links: cycles by one pass over them, exact classes each once, and what is above related concepts.
+ghost use Rattle.std.specs.Prelude.{◌≡◌, ◌⊎◌, ℕ, true, Contains, Ok, IfOk, OnOk, MatchBool};
+ghost use Rattle.thes_base.specs.declared.data.Link.{Link};
+ghost use Rattle.thes_base.specs.Links.{HeldIn, IsAbove, IsRelated, IsExact, IsApart, NoCycle, S27, S46, IsFirstBroken};
+ghost use Rattle.thes_graph.specs.Reading.{HaveTwoEnds};
+ghost use Rattle.thes_graph.specs.Steps.{GrowsBy};
+ghost use Rattle.thes_graph.specs.Local.{UpTo, NoS46At};
+ghost use Rattle.thes_graph.specs.Whole.{AreAll, HasWay, IsSomeCycle, IsSomeS27, IsSomeS46};
+
+use crate::links::Links;
+use crate::nodes::Nodes;
+use crate::relation::{Relation, way};
+use crate::sight::Sight;
+use crate::walk::{gather, some_ties};
+use std::alloc::{AllocError, Global};
+use thes_base::data::{Direction, Link};
+use thes_base::fault::Refusal;
+use thes_base::number::ResNo;
+
+// Whether a chain of broader links leads from the node back to it.
+fn is_on_cycle<L: Links>(alloc: Global, links: &mut L, n: ResNo) -> Result<bool, AllocError>
+    ensures held { L.held links.new ≡ L.held links.old }
+    ensures cycle { IfOk result (λ found. MatchBool found (IsAbove (HeldIn (L.held links.old)) n n) (IsAbove (HeldIn (L.held links.old)) n n → ⊥)) }
+{
+    let up = gather(alloc, links, &Sight::AsHeld, n, Relation::Broader)?;
+    let here = Nodes::only(alloc, n)?;
+    let found = some_ties(Relation::Broader, &up.links, &up.nodes, &here);
+    Ok(found)
+}
+
+// Whether a chain of broader links leads from some node back to it.
+fn has_cycle<L: Links>(alloc: Global, links: &mut L, all: &[Link]) -> Result<bool, AllocError>
+    requires { AreAll (L.held links.old) all.now }
+    ensures held { L.held links.new ≡ L.held links.old }
+    ensures cycle { IfOk result (λ found. MatchBool found (IsSomeCycle (HeldIn (L.held links.old))) (NoCycle (HeldIn (L.held links.old)))) }
+{
+    for link in all {
+        if is_on_cycle(alloc, links, link.a)? {
+            return Ok(true);
+        }
+    }
+    Ok(false)
+}
+
+// Whether the second node is the first one or above it.
+fn is_up<L: Links>(alloc: Global, links: &mut L, x: ResNo, y: ResNo) -> Result<bool, AllocError>
+    ensures held { L.held links.new ≡ L.held links.old }
+    ensures up { IfOk result (λ found. MatchBool found (UpTo (HeldIn (L.held links.old)) x y) (UpTo (HeldIn (L.held links.old)) x y → ⊥)) }
+{
+    let up = gather(alloc, links, &Sight::AsHeld, x, Relation::Broader)?;
+    let found = up.nodes.has(y);
+    Ok(found)
+}
+
+// Whether one end of the link is above the other.
+fn has_end_above<L: Links>(alloc: Global, links: &mut L, link: &Link) -> Result<bool, AllocError>
+    ensures held { L.held links.new ≡ L.held links.old }
+    ensures above { IfOk result (λ found. MatchBool found (UpTo (HeldIn (L.held links.old)) link.now.a link.now.b ⊎ UpTo (HeldIn (L.held links.old)) link.now.b link.now.a) ((UpTo (HeldIn (L.held links.old)) link.now.a link.now.b → ⊥) × (UpTo (HeldIn (L.held links.old)) link.now.b link.now.a → ⊥))) }
+{
+    if is_up(alloc, links, link.a, link.b)? {
+        return Ok(true);
+    }
+    let found = is_up(alloc, links, link.b, link.a)?;
+    Ok(found)
+}
+
+// Whether links of this kind have a way in the relation.
+fn counts(relation: Relation, link: &Link) -> bool
+    ensures { MatchBool result (HasWay relation link.now) (HasWay relation link.now → ⊥) }
+{
+    match way(relation, link.kind) {
+        Direction::Never => false,
+        _ => true,
+    }
+}
+
+// Whether two related concepts stand one above the other.
+fn breaks_s27<L: Links>(alloc: Global, links: &mut L, all: &[Link]) -> Result<bool, AllocError>
+    requires all { AreAll (L.held links.old) all.now }
+    requires two_ends { HaveTwoEnds (HeldIn (L.held links.old)) }
+    ensures held { L.held links.new ≡ L.held links.old }
+    ensures s27 { IfOk result (λ found. MatchBool found (IsSomeS27 (HeldIn (L.held links.old))) (S27 (HeldIn (L.held links.old)))) }
+{
+    for link in all {
+        if counts(Relation::Related, link) && has_end_above(alloc, links, link)? {
+            return Ok(true);
+        }
+    }
+    Ok(false)
+}
+
+// Adds these nodes to those that are done.
+fn add_done(done: &mut Nodes, nodes: &[ResNo]) -> Result<(), AllocError>
+    ensures { OnOk result (GrowsBy done.old done.new (Contains nodes.now)) }
+{
+    for n in nodes {
+        done.meet(*n)?;
+    }
+    Ok(())
+}
+
+// Whether two of the node's class of exact matches are broader or related matches. If not, the class is done.
+fn breaks_s46_at<L: Links>(
+    alloc: Global,
+    links: &mut L,
+    n: ResNo,
+    done: &mut Nodes,
+) -> Result<bool, AllocError>
+    requires done { (m : ℕ) → Contains done.old m → NoS46At (HeldIn (L.held links.old)) m }
+    requires two_ends { HaveTwoEnds (HeldIn (L.held links.old)) }
+    ensures held { L.held links.new ≡ L.held links.old }
+    ensures found { IfOk result (λ found. MatchBool found (IsSomeS46 (HeldIn (L.held links.old))) (Contains done.new n)) }
+    ensures kept { OnOk result ((m : ℕ) → Contains done.old m → Contains done.new m) }
+    ensures done { OnOk result ((m : ℕ) → Contains done.new m → NoS46At (HeldIn (L.held links.old)) m) }
+{
+    let same = gather(alloc, links, &Sight::AsHeld, n, Relation::Exact)?;
+    if some_ties(Relation::Apart, &same.links, &same.nodes, &same.nodes) {
+        return Ok(true);
+    }
+    add_done(done, same.nodes.as_slice())?;
+    Ok(false)
+}
+
+// Whether two exact matches are broader or related matches too.
+fn breaks_s46<L: Links>(alloc: Global, links: &mut L, all: &[Link]) -> Result<bool, AllocError>
+    requires all { AreAll (L.held links.old) all.now }
+    requires two_ends { HaveTwoEnds (HeldIn (L.held links.old)) }
+    ensures held { L.held links.new ≡ L.held links.old }
+    ensures s46 { IfOk result (λ found. MatchBool found (IsSomeS46 (HeldIn (L.held links.old))) (S46 (HeldIn (L.held links.old)))) }
+{
+    let mut done = Nodes::none(alloc);
+    for link in all {
+        if counts(Relation::Exact, link)
+            && !done.has(link.a)
+            && breaks_s46_at(alloc, links, link.a, &mut done)?
+        {
+            return Ok(true);
+        }
+    }
+    Ok(false)
+}
+
+/// The first rule that the links break, of which `all` is the list.
+pub fn check_all<L: Links>(
+    alloc: Global,
+    links: &mut L,
+    all: &[Link],
+) -> Result<Option<Refusal>, AllocError>
+    requires all { AreAll (L.held links.old) all.now }
+    requires two_ends { HaveTwoEnds (HeldIn (L.held links.old)) }
+    ensures held { L.held links.new ≡ L.held links.old }
+    ensures first { IfOk result (IsFirstBroken (HeldIn (L.held links.old))) }
+{
+    if has_cycle(alloc, links, all)? {
+        return Ok(Some(Refusal::Cycle));
+    }
+    if breaks_s27(alloc, links, all)? {
+        return Ok(Some(Refusal::S27));
+    }
+    if breaks_s46(alloc, links, all)? {
+        return Ok(Some(Refusal::S46));
+    }
+    Ok(None)
+}
