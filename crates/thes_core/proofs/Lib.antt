@@ -2,3 +2,4 @@ pub mod GrowthLemmas
 pub mod NextLemmas
 pub mod JudgeLemmas
 pub mod ApplyLemmas
+pub mod ShownLemmas

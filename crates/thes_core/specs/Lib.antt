@@ -3,3 +3,4 @@ pub mod Kept
 pub mod Decides
 pub mod Requests
 pub mod View
+pub mod Shown

@@ -7,6 +7,7 @@ mod judging;
 pub mod machine;
 pub mod reading;
 mod room;
+pub mod shown;
 mod thesaurus;
 pub mod verdict;
 

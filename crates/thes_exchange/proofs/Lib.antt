@@ -4,3 +4,4 @@ pub mod FeedLemmas
 pub mod LineLemmas
 pub mod ScriptLemmas
 pub mod ViewLemmas
+pub mod CoreLemmas

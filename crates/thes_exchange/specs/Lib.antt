@@ -7,8 +7,8 @@ pub mod Feed
 pub mod Serving
 pub mod Script
 pub mod Served
-pub mod Shown
 pub mod ViewTexts
 pub mod ConceptMembers
 pub mod ViewOf
 pub mod Laws
+pub mod CoreDesk

@@ -2,6 +2,7 @@
 #![tactic(auto)]
 
 pub mod answer;
+pub mod core_desk;
 pub mod desk;
 mod feed;
 pub mod laws;
@@ -11,4 +12,5 @@ pub mod request;
 pub mod script;
 pub mod serve;
 pub mod view;
+pub mod viewing;
 mod words;

@@ -3,7 +3,7 @@ ghost use Rattle.std.specs.Prelude.{◌≡◌, IfOk, OnOk, map, false};
 ghost use Rattle.serde_json.specs.View.{view, members_view};
 ghost use Rattle.serde_json.specs.Written.{has_float};
 ghost use Rattle.thes_base.specs.Postings.{place};
-ghost use Rattle.thes_exchange.specs.Shown.{tagged};
+ghost use Rattle.thes_core.specs.Shown.{tagged};
 ghost use Rattle.thes_exchange.specs.ConceptMembers.{with_labels, with_links, with_facts};
 ghost use Rattle.thes_exchange.specs.ViewTexts.{num, listed, number_or_null, tagged_data, mapping_data, move_data, row_data, totals_data, concept_data, postings_data, posting_data, line_text, view_text};
 
@@ -42,7 +42,7 @@ pub struct ConceptView<'a> {
 impl<'a> Model for ConceptView<'a> {
     ghost use Rattle.std.specs.Prelude.{map};
     ghost use Rattle.thes_base.specs.Views.{ConceptShown};
-    ghost use Rattle.thes_exchange.specs.Shown.{tagged};
+    ghost use Rattle.thes_core.specs.Shown.{tagged};
 
     ghost Value = { ConceptShown };
 

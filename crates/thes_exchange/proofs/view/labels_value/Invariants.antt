@@ -1,6 +1,6 @@
 use Rattle.std.proofs.Common.{◌≡◌, map, take}
 use Rattle.serde_json.specs.View.{view}
-use Rattle.thes_exchange.specs.Shown.{tagged}
+use Rattle.thes_core.specs.Shown.{tagged}
 use Rattle.thes_exchange.specs.ViewTexts.{tagged_data}
 use Rattle.thes_exchange.proofs.view.labels_value.Given as goal
 
