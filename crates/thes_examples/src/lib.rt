@@ -14,6 +14,8 @@ mod hierarchy;
 #[cfg(test)]
 mod labels;
 #[cfg(test)]
+mod library;
+#[cfg(test)]
 mod lines;
 #[cfg(test)]
 mod mappings;

@@ -77,7 +77,10 @@ pub fn outcome<R: Read + Drop>(
     requests: R,
 ) -> Result<(String, Result<Ended, PipeFault>), Fail> {
     if core.is_spent() {
-        return Ok((String::new(alloc), Err(PipeFault::Fault(Fault::OutOfMemory))));
+        return Ok((
+            String::new(alloc),
+            Err(PipeFault::Fault(Fault::OutOfMemory)),
+        ));
     }
     let mut reader = Pipe::new(requests);
     let mut writer = Pipe::new(Vec::new(alloc));
