@@ -22,20 +22,20 @@ use Rattle.thes_base.specs.State.{State}
 use Rattle.thes_base.specs.Changes.{killed, dead, made, outside_made, histories_split, scheme_resource, collection_resource, merged, split_off, deprecated, is_listed, concept_resource, outside_resource, next_number}
 use Rattle.thes_base.specs.Legal.{Legal, LegalLinks}
 use Rattle.thes_base.specs.Machine.{next_state, row_of}
-use Rattle.thes_base.specs.Refusals.{Setting, unless_within, unless_unique, unless_owner, unless_pair, unless_listed, unless_live_concept, row_merge, row_split}
+use Rattle.thes_base.specs.Refusals.{Setting, IsSetting, unless_within, unless_unique, unless_owner, unless_pair, unless_listed, unless_live_concept, row_merge, row_split}
 use Rattle.thes_base.proofs.RowLemmas.{passed_if, passed_unless}
 use Rattle.thes_base.proofs.RowParts.{IsPart, live_concept_part, listed_part, unique_part}
 use Rattle.thes_base.proofs.NumberedLemmas.{push_old, push_new, push_cases, numbered_bound, set_cases, set_same, set_other}
 use Rattle.thes_base.proofs.ResourceLemmas.{killed_at, same_some, live_of_parts, live_from_test}
 use Rattle.thes_base.proofs.MoveLemmas.{count_moved}
 use Rattle.thes_base.proofs.ListedLemmas.{listed_count}
-use Rattle.thes_vocab.specs.Vocabulary.{Vocabulary, IsLiveOwner}
+use Rattle.thes_vocab.specs.Vocabulary.{Vocabulary, empty_vocabulary, IsLiveOwner}
 use Rattle.thes_vocab.specs.Requests.{unless_new, with_new}
 use Rattle.thes_base.proofs.Uniqueness.{scheme_at}
 use Rattle.thes_graph.specs.Net.{Net}
 use Rattle.thes_core.specs.declared.thesaurus.Thesaurus.{Thesaurus}
 use Rattle.thes_base.specs.Headline.{IsInOrder}
-use Rattle.thes_base.proofs.MachineLemmas.{legal_is_in_order}
+use Rattle.thes_base.proofs.MachineLemmas.{legal_empty, legal_is_in_order}
 use Rattle.thes_core.specs.Kept.{Kept}
 use Rattle.thes_core.specs.Decides.{Accepts}
 use Rattle.thes_core.specs.Requests.{command_of, is_foreign}
@@ -55,7 +55,7 @@ becomes old new s v g b is_v is_g is_b is_l is_s base knows = record {
 -- What is kept after an accepted request.
 pub kept_after : (old new : Thesaurus) (command : Command) → IsKept old → Accepts (setting_of old) (state_of old) command → Becomes old (next_state command (state_of old)) new → IsKept new
 kept_after old new command kept ok made = record {
-  fit = subst (λ (x : Setting). Rattle.thes_base.specs.Refusals.IsSetting x) (sym made.setting) kept.fit;
+  fit = subst IsSetting (sym made.setting) kept.fit;
   legal = subst (λ (x : List ℕ). Legal x (state_of new)) (sym (ap (λ (x : Setting). x.base) made.setting)) (subst (Legal old.vocab.base) (sym made.state) (next_legal (setting_of old) kept.fit (state_of old) command kept.legal ok));
   outside = made.outside;
 }
@@ -246,3 +246,15 @@ kept_in_order t kept = legal_is_in_order t.vocab.base (state_of t) kept.legal
 
 pub in_order_at : (t : Thesaurus) (spent : Bool) (k : Kept) → record { state = state_of t; setting = setting_of t; spent = spent } ≡ k → k.spent ≡ false → (spent ≡ false → IsKept t) → IsInOrder k.setting.base k.state
 in_order_at t spent k is unspent kept = subst (λ (x : Kept). IsInOrder x.setting.base x.state) is (kept_in_order t (kept (ap (λ (x : Kept). x.spent) is ∙ unspent)))
+
+none_outside : (n : ℕ) → is_outside [] n ≡ false
+none_outside zero = refl
+none_outside (suc n) = refl
+
+-- What is kept where there is nothing yet.
+pub kept_empty : (t : Thesaurus) (base : List ℕ) → IsSetting (record { base = base; limits = t.limits }) → t.vocab ≡ empty_vocabulary base → t.graph ≡ record { links = set.empty; outside = set.empty } → t.book ≡ [] → IsKept t
+kept_empty t base fit vocab graph book = record {
+  fit = subst IsSetting (λ i. record { base = (sym vocab i).base; limits = t.limits }) fit;
+  legal = subst (λ (p : Vocabulary × (Net × List History)). Legal p.0.base (record { resources = p.0.resources; iris = p.0.iris; labels = p.0.labels; links = p.1.0.links; histories = p.1.1 })) (λ i. (sym vocab i, (sym graph i, sym book i))) (legal_empty base);
+  outside = λ n. ap (λ (g : Net). set.contains g.outside n) graph ∙ set.contains-empty nat_cmp n ∙ sym (none_outside n) ∙ ap (λ (v : Vocabulary). is_outside v.resources n) (sym vocab);
+}

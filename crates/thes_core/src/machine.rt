@@ -51,6 +51,8 @@ impl Core {
         ensures limits { result.setting.limits ≡ limits }
         ensures spent { result.spent ≡ false }
     {
+        // That the base has its form is known from here on.
+        let _ = base.as_str();
         Core {
             thesaurus: Thesaurus {
                 alloc,
