@@ -17,7 +17,8 @@ use Rattle.thes_base.specs.Links.{Links, HeldIn}
 use Rattle.thes_base.specs.Listing.{IsListing}
 use Rattle.thes_graph.specs.Reading.{HaveTwoEnds, EndsAt}
 use Rattle.thes_graph.specs.Net.{links_at}
-use Rattle.thes_graph.specs.Mapped.{HasLink, IsMapping, word_place, mapping_cmp, seen, as_seen_from}
+use Rattle.thes_base.specs.Views.{HasLink, IsMapping, word_place, mapping_cmp}
+use Rattle.thes_graph.specs.Mapped.{seen, as_seen_from}
 use Rattle.thes_graph.proofs.NumberLemmas.{same_of, other_of}
 use Rattle.thes_graph.proofs.SetLemmas.{off_of_not}
 use Rattle.thes_graph.proofs.SightLemmas.{filter_map-from, filter_map-to}

@@ -20,7 +20,7 @@ use Rattle.thes_graph.specs.Reading.{HaveTwoEnds, EndsAt}
 use Rattle.thes_graph.specs.Steps.{step_in}
 use Rattle.thes_graph.specs.Net.{Net, is_marked, links_at}
 use Rattle.thes_graph.specs.Moved.{AreNormal}
-use Rattle.thes_graph.specs.Mapped.{HasLink}
+use Rattle.thes_base.specs.Views.{HasLink}
 use Rattle.thes_graph.specs.Linked.{IsLinked, led_by, KeepsOrder}
 use Rattle.thes_graph.proofs.StepLemmas.{step_from_Leads, Leads-from_step}
 use Rattle.thes_graph.proofs.SightLemmas.{map_head, filter_map-from, filter_map-to}

@@ -8,7 +8,7 @@ ghost use Rattle.thes_base.specs.Links.{HeldIn, norm, contracted, without_node, 
 ghost use Rattle.thes_base.specs.Listing.{IsListing};
 ghost use Rattle.thes_graph.specs.Reading.{HaveTwoEnds, EndsAt};
 ghost use Rattle.thes_graph.specs.Net.{is_marked, links_at};
-ghost use Rattle.thes_graph.specs.Mapped.{HasLink, IsMapping, mapping_cmp};
+ghost use Rattle.thes_base.specs.Views.{HasLink, IsMapping, mapping_cmp};
 ghost use Rattle.thes_graph.specs.Linked.{IsLinked, KeepsOrder};
 ghost use Rattle.thes_graph.specs.Moved.{AreNormal, AreMoved, AreNew, merged_link, with_all, without_all};
 

@@ -2,7 +2,8 @@
 ghost use Rattle.std.specs.Prelude.{◌≡◌, OnOk};
 ghost use Rattle.std.specs.BTreeSet.{insert_key};
 ghost use Rattle.std.specs.List.Sorted.{IsStrictlySortedBy};
-ghost use Rattle.thes_graph.specs.Mapped.{as_seen_from, mapping_cmp, word_place};
+ghost use Rattle.thes_base.specs.Views.{mapping_cmp, word_place};
+ghost use Rattle.thes_graph.specs.Mapped.{as_seen_from};
 
 use std::alloc::AllocError;
 use thes_base::data::{Link, LinkKind};

@@ -4,7 +4,8 @@ use Rattle.std.proofs.Math.Seq.{take-length}
 use Rattle.thes_base.specs.declared.data.LinkKind.{LinkKind}
 use Rattle.thes_base.specs.declared.data.Link.{Link}
 use Rattle.thes_base.specs.Listing.{IsListing}
-use Rattle.thes_graph.specs.Mapped.{mapping_cmp, as_seen_from}
+use Rattle.thes_base.specs.Views.{mapping_cmp}
+use Rattle.thes_graph.specs.Mapped.{as_seen_from}
 use Rattle.thes_graph.proofs.MappingLemmas.{listing_none, listing_more, listing_no_more, mapping_listing}
 use Rattle.thes_graph.proofs.graph.Graph.mapped.Goals as goal
 use Rattle.thes_graph.proofs.graph.Graph.mapped.Goals.{in-Some+in_ok-list_mapping, in_default}

@@ -1,7 +1,8 @@
 use Rattle.std.proofs.Common.{Contains, take}
 use Rattle.std.specs.List.{filter_map}
 use Rattle.thes_base.specs.Listing.{IsListing}
-use Rattle.thes_graph.specs.Mapped.{mapping_cmp, as_seen_from}
+use Rattle.thes_base.specs.Views.{mapping_cmp}
+use Rattle.thes_graph.specs.Mapped.{as_seen_from}
 use Rattle.thes_graph.proofs.graph.Graph.mapped.Given as goal
 
 abbrev pub invariant-loop-link : goal.invariant-loop-link

@@ -1,0 +1,95 @@
+-- A part of a row, judged alone, carries into the row: where it refuses, the row refuses with that name whatever
+-- its rest is; and where it refuses nothing, the row says what its rest says.
+use Rattle.std.proofs.Common.{◌≡◌, ◌≢◌, ◌⊎◌, ℕ, inl, inr, true}
+use Rattle.std.specs.Prelude.{Option, None, Some, List}
+use Rattle.std.specs.FinMap as dict
+use Rattle.std.specs.FinSet as set
+use Rattle.thes_base.specs.declared.data.Resource.{Resource}
+use Rattle.thes_base.specs.declared.data.Link.{Link}
+use Rattle.thes_base.specs.declared.data.History.{History}
+use Rattle.thes_base.specs.declared.fault.Refusal.{Refusal}
+use Rattle.thes_base.specs.declared.fault.Refusal.TheVariants as no
+use Rattle.thes_base.specs.Rows.{Row, refused_if, refused_unless, accepted}
+use Rattle.thes_base.specs.Resources.{Iris, BeginsWith, IsScheme}
+use Rattle.thes_base.specs.Labels.{Label, Labels}
+use Rattle.thes_base.specs.Refusals.{unless_unique, unless_known, unless_scheme, unless_foreign, unless_owner, unless_label, unless_dropped, unless_relabelled, unless_ends, unless_live_concept, unless_pair, unless_listed, unless_standing}
+
+-- a part of a row, as what it makes of the row's rest
+pub record IsPart (part : Row → Row) : Type 1 where
+  pub stops : (rest : Row) (name : Refusal) → part accepted (Some name) → part rest (Some name)
+  pub passes : (rest : Row) (answer : Option Refusal) → part accepted None → rest answer → part rest answer
+
+-- no sentence
+nothing : IsPart (λ rest. rest)
+nothing = record { stops = λ rest name e. absurd (cc); passes = λ rest answer e says. says }
+
+then_if : (sentence : Type 0) (name : Refusal) (part : Row → Row) → IsPart part → IsPart (λ rest. refused_if sentence name (part rest))
+then_if sentence name part is = record { stops = stops; passes = passes }
+  where
+    stops : (rest : Row) (other : Refusal) → refused_if sentence name (part accepted) (Some other) → refused_if sentence name (part rest) (Some other)
+    stops rest other (inl found) = inl found
+    stops rest other (inr (holds_not, says)) = inr (holds_not, is.stops rest other says)
+
+    passes : (rest : Row) (answer : Option Refusal) → refused_if sentence name (part accepted) None → rest answer → refused_if sentence name (part rest) answer
+    passes rest answer (inl (holds, e)) says = absurd (cc)
+    passes rest answer (inr (holds_not, part_passes)) says = inr (holds_not, is.passes rest answer part_passes says)
+
+then_unless : (condition : Type 0) (name : Refusal) (part : Row → Row) → IsPart part → IsPart (λ rest. refused_unless condition name (part rest))
+then_unless condition name part is = record { stops = stops; passes = passes }
+  where
+    stops : (rest : Row) (other : Refusal) → refused_unless condition name (part accepted) (Some other) → refused_unless condition name (part rest) (Some other)
+    stops rest other (inl found) = inl found
+    stops rest other (inr (holds, says)) = inr (holds, is.stops rest other says)
+
+    passes : (rest : Row) (answer : Option Refusal) → refused_unless condition name (part accepted) None → rest answer → refused_unless condition name (part rest) answer
+    passes rest answer (inl (holds_not, e)) says = absurd (cc)
+    passes rest answer (inr (holds, part_passes)) says = inr (holds, is.passes rest answer part_passes says)
+
+-- The parts of the rows.
+
+pub unique_part : (resources : List Resource) (labels : Labels) → IsPart (unless_unique resources labels)
+unique_part resources labels = then_unless _ _ (λ rest. rest) nothing
+
+pub known_part : (is_right : ℕ → Type 0) (resources : List Resource) (n : ℕ) → IsPart (unless_known is_right resources n)
+known_part is_right resources n = then_unless _ _ (λ rest. refused_unless (is_right n) no.WrongKind rest) (then_unless _ _ (λ rest. rest) nothing)
+
+pub scheme_part : (resources : List Resource) (n : ℕ) → IsPart (unless_scheme resources n)
+scheme_part resources n = known_part (IsScheme resources) resources n
+
+pub foreign_part : (base : List ℕ) (iris : Iris) (iri : List ℕ) → IsPart (unless_foreign base iris iri)
+foreign_part base iris iri = then_if _ _ (λ rest answer. ((n : ℕ) × (dict.get iris n ≡ Some iri) × (answer ≡ Some (no.OutsideKnown n))) ⊎ (((n : ℕ) → dict.get iris n ≢ Some iri) × rest answer)) (record { stops = stops; passes = passes })
+  where
+    stops : (rest : Row) (name : Refusal) → ((n : ℕ) × (dict.get iris n ≡ Some iri) × (Some name ≡ Some (no.OutsideKnown n))) ⊎ (((n : ℕ) → dict.get iris n ≢ Some iri) × accepted (Some name)) → ((n : ℕ) × (dict.get iris n ≡ Some iri) × (Some name ≡ Some (no.OutsideKnown n))) ⊎ (((n : ℕ) → dict.get iris n ≢ Some iri) × rest (Some name))
+    stops rest name (inl known) = inl known
+    stops rest name (inr (fresh, e)) = absurd (cc)
+
+    passes : (rest : Row) (answer : Option Refusal) → ((n : ℕ) × (dict.get iris n ≡ Some iri) × (None ≡ Some (no.OutsideKnown n))) ⊎ (((n : ℕ) → dict.get iris n ≢ Some iri) × accepted None) → rest answer → ((n : ℕ) × (dict.get iris n ≡ Some iri) × (answer ≡ Some (no.OutsideKnown n))) ⊎ (((n : ℕ) → dict.get iris n ≢ Some iri) × rest answer)
+    passes rest answer (inl (n, has, e)) says = absurd (cc)
+    passes rest answer (inr (fresh, _)) says = inr (fresh, says)
+
+pub owner_part : (resources : List Resource) (n : ℕ) → IsPart (unless_owner resources n)
+owner_part resources n = then_unless _ _ _ (then_unless _ _ _ (then_unless _ _ (λ rest. rest) nothing))
+
+pub label_part : (labels : Labels) (resources : List Resource) (after : Labels) (l : Label) → IsPart (unless_label labels resources after l)
+label_part labels resources after l = then_if _ _ _ (then_unless _ _ _ (then_unless _ _ _ (unique_part resources after)))
+
+pub dropped_part : (labels : Labels) (l : Label) → IsPart (unless_dropped labels l)
+dropped_part labels l = then_unless _ _ _ (then_unless _ _ (λ rest. rest) nothing)
+
+pub relabelled_part : (labels : Labels) (resources : List Resource) (after : Labels) (owner : ℕ) (tag : List ℕ) → IsPart (unless_relabelled labels resources after owner tag)
+relabelled_part labels resources after owner tag = then_unless _ _ _ (then_unless _ _ _ (unique_part resources after))
+
+pub ends_part : (resources : List Resource) (l : Link) → IsPart (unless_ends resources l)
+ends_part resources l = then_unless _ _ _ (then_unless _ _ _ (then_unless _ _ _ (then_if _ _ _ (then_unless _ _ (λ rest. rest) nothing))))
+
+pub live_concept_part : (resources : List Resource) (n : ℕ) → IsPart (unless_live_concept resources n)
+live_concept_part resources n = then_unless _ _ _ (then_unless _ _ _ (then_unless _ _ (λ rest. rest) nothing))
+
+pub pair_part : (resources : List Resource) (source target : ℕ) → IsPart (unless_pair resources source target)
+pair_part resources source target = then_unless _ _ _ (then_unless _ _ _ (then_unless _ _ _ (then_if _ _ _ (then_unless _ _ (λ rest. rest) nothing))))
+
+pub listed_part : (histories : List History) (source : ℕ) (postings : List ℕ) → IsPart (unless_listed histories source postings)
+listed_part histories source postings = then_unless _ _ _ (then_unless _ _ _ (then_unless _ _ _ (then_unless _ _ (λ rest. rest) nothing)))
+
+pub standing_part : (histories : List History) (posting : ℕ) → IsPart (unless_standing histories posting)
+standing_part histories posting = then_unless _ _ _ (then_unless _ _ (λ rest. rest) nothing)

@@ -1,0 +1,205 @@
+//! A reader or a writer that notes what its device did.
+ghost use Rattle.std.specs.Prelude.{◌≡◌, ◌≢◌, ◌+◌, ◌<◌, ◌≤◌, length, true, false, IsTrue, IfOk, IfErr, OnOk, OnErr, IsErrOf, ◌↔◌, ◌⊎◌};
+ghost use Rattle.std.specs.Io.{ReadsAtMost, WritesAtMost};
+ghost use Rattle.std.specs.Io.KnownBytes.{ReadConsumes, WriteAppends, Appends};
+ghost use Rattle.std.specs.IoError.{error_kind};
+ghost use Rattle.thes_base.specs.Pipe.{device_of, failed_of, ended_of, IsFresh, unread, written, AppendsFront};
+
+use std::io;
+use std::io::{ErrorKind, Read, Write};
+use std::marker::Model;
+
+#[cfg(test)]
+mod tests;
+
+/// How many reads and writes the call of an engine may still make, all its pipes together.
+#[derive(Drop)]
+pub struct Budget {
+    left: u32,
+}
+
+impl Model for Budget {
+    ghost use Rattle.std.specs.Prelude.{ℕ};
+
+    ghost Value = { ℕ };
+
+    ghost view = { λ b. b.left };
+}
+
+impl Budget {
+    /// The budget of one call.
+    pub fn new() -> Budget
+        ensures { result ≡ 100000000 }
+    {
+        Budget { left: 100_000_000 }
+    }
+}
+
+/// A reader or writer, whether it failed, and whether the end of its input was seen.
+#[derive(Drop)]
+pub struct Pipe<T> {
+    device: T,
+    failed: bool,
+    ended: bool,
+}
+
+/// Why a pipe gave up.
+#[derive(Clone, Copy, Debug, PartialEq, Eq)]
+pub enum Stop {
+    /// The device failed.
+    Failed,
+    /// The budget is used up.
+    TooLong,
+}
+
+// Whether the device gave up, rather than to be asked again.
+fn is_failure(error: &io::Error) -> bool
+    ensures { IsTrue result ↔ (error_kind error.now ≢ ErrorKind.Interrupted) }
+{
+    error.kind() != ErrorKind::Interrupted
+}
+
+impl<T> Pipe<T> {
+    /// A pipe of which nothing is noted yet.
+    pub fn new(device: T) -> Pipe<T>
+        ensures device { device_of result ≡ device }
+        ensures fresh { IsFresh result }
+    {
+        Pipe {
+            device,
+            failed: false,
+            ended: false,
+        }
+    }
+
+    /// Whether the device failed.
+    pub fn failed(&self) -> bool
+        ensures { result ≡ failed_of self.now }
+    {
+        self.failed
+    }
+
+    /// Whether a read told the end of the input.
+    pub fn ended(&self) -> bool
+        ensures { result ≡ ended_of self.now }
+    {
+        self.ended
+    }
+
+    /// The reader or writer back.
+    pub fn into_device(self) -> T
+        ensures { result ≡ device_of self }
+    {
+        let Pipe { device, .. } = self;
+        device
+    }
+}
+
+impl<R: Read> Pipe<R> {
+    /// One read of the device.
+    pub fn read_once(&mut self, budget: &mut Budget, buf: &mut [u8]) -> io::Result<usize>
+        requires room { 0 < length buf.old }
+        requires left { 0 < budget.old }
+        ensures bound { ReadsAtMost result buf.new }
+        ensures bytes { ReadConsumes (unread R.remaining self.old) (unread R.remaining self.new) result buf.new }
+
+        // The end is noted just where no byte came, and a failure just where an error other than Interrupted came.
+        ensures ended { IfOk result (λ n. IsTrue (ended_of self.new) ↔ (IsTrue (ended_of self.old) ⊎ (n ≡ 0))) }
+        ensures not_ended { OnErr result (ended_of self.new ≡ ended_of self.old) }
+        ensures failed { IfErr result (λ e. IsTrue (failed_of self.new) ↔ (IsTrue (failed_of self.old) ⊎ (error_kind e ≢ ErrorKind.Interrupted))) }
+        ensures not_failed { OnOk result (failed_of self.new ≡ failed_of self.old) }
+        ensures counted { budget.new + 1 ≡ budget.old }
+    {
+        budget.left -= 1;
+        let result = self.device.read(buf);
+        match &result {
+            Ok(0) => self.ended = true,
+            Err(error) if is_failure(error) => self.failed = true,
+            _ => {}
+        }
+        result
+    }
+
+    /// Reads at least one byte, or none at the end of the input. A read that is interrupted is made again.
+    pub fn read(&mut self, budget: &mut Budget, buf: &mut [u8]) -> Result<usize, Stop>
+        requires room { 0 < length buf.old }
+        requires fresh { IsFresh self.old }
+        ensures bound { ReadsAtMost result buf.new }
+        ensures bytes { ReadConsumes (unread R.remaining self.old) (unread R.remaining self.new) result buf.new }
+        ensures ended { IfOk result (λ n. IsTrue (ended_of self.new) ↔ (n ≡ 0)) }
+        ensures not_ended { OnErr result (ended_of self.new ≡ false) }
+        ensures failed { IsErrOf result Stop.Failed ↔ (failed_of self.new ≡ true) }
+        ensures too_long { IsErrOf result Stop.TooLong → budget.new ≡ 0 }
+        ensures spent { OnOk result (budget.new < budget.old) }
+        ensures never_more { budget.new ≤ budget.old }
+    {
+        while budget.left > 0 {
+            match self.read_once(budget, buf) {
+                Ok(n) => return Ok(n),
+                Err(_) => {
+                    if self.failed() {
+                        return Err(Stop::Failed);
+                    }
+                }
+            }
+        }
+        Err(Stop::TooLong)
+    }
+}
+
+impl<W: Write> Pipe<W> {
+    /// One write to the device.
+    pub fn write_once(&mut self, budget: &mut Budget, bytes: &[u8]) -> io::Result<usize>
+        requires some { 0 < length bytes.now }
+        requires left { 0 < budget.old }
+        ensures bound { WritesAtMost result bytes.now }
+        ensures bytes { WriteAppends (written W.contents self.old) (written W.contents self.new) result bytes.now }
+
+        // A failure is noted just where no byte was taken, or an error other than Interrupted came.
+        ensures stuck { IfOk result (λ n. IsTrue (failed_of self.new) ↔ (IsTrue (failed_of self.old) ⊎ (n ≡ 0))) }
+        ensures failed { IfErr result (λ e. IsTrue (failed_of self.new) ↔ (IsTrue (failed_of self.old) ⊎ (error_kind e ≢ ErrorKind.Interrupted))) }
+        ensures ended { ended_of self.new ≡ ended_of self.old }
+        ensures counted { budget.new + 1 ≡ budget.old }
+    {
+        budget.left -= 1;
+        let result = self.device.write(bytes);
+        match &result {
+            Ok(0) => self.failed = true,
+            Err(error) if is_failure(error) => self.failed = true,
+            _ => {}
+        }
+        result
+    }
+
+    /// Writes all the bytes, or a front of them where it stops. A write that is interrupted is made again.
+    pub fn write_all(&mut self, budget: &mut Budget, bytes: &[u8]) -> Result<(), Stop>
+        requires { failed_of self.old ≡ false }
+        ensures ok { OnOk result (Appends (written W.contents self.old) (written W.contents self.new) bytes.now) }
+        ensures err { OnErr result (AppendsFront (written W.contents self.old) (written W.contents self.new) bytes.now) }
+        ensures ended { ended_of self.new ≡ ended_of self.old }
+        ensures failed { IsErrOf result Stop.Failed ↔ (failed_of self.new ≡ true) }
+        ensures too_long { IsErrOf result Stop.TooLong → budget.new ≡ 0 }
+        ensures never_more { budget.new ≤ budget.old }
+    {
+        let mut at = 0;
+        while at < bytes.len() {
+            if budget.left == 0 {
+                return Err(Stop::TooLong);
+            }
+            match self.write_once(budget, &bytes[at..]) {
+                Ok(n) => {
+                    if self.failed() {
+                        return Err(Stop::Failed);
+                    }
+                    at += n;
+                }
+                Err(_) => {
+                    if self.failed() {
+                        return Err(Stop::Failed);
+                    }
+                }
+            }
+        }
+        Ok(())
+    }
+}

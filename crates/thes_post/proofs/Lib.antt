@@ -1,0 +1,8 @@
+pub mod HistoryLemmas
+pub mod IndexLemmas
+pub mod JudgeLemmas
+pub mod KeyLemmas
+pub mod ListedLemmas
+pub mod OnceLemmas
+pub mod RisingLemmas
+pub mod StandingLemmas
