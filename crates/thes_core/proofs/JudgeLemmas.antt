@@ -108,7 +108,7 @@ module _ (t : Thesaurus) (kept : IsKept t) where
 
   module _ (owner : ℕ) (may : unless_owner t.vocab.resources owner accepted None) where
     abbrev add_row : LabelData → Row
-    add_row l = unless_label t.vocab.labels t.vocab.resources (set.insert t.vocab.labels (owned owner l)) (owned owner l)  (room (label_added (owned owner l) s))
+    add_row l = unless_label t.vocab.labels t.vocab.resources (set.insert t.vocab.labels (owned owner l)) (owned owner l) (room (label_added (owned owner l) s))
 
     pub add_stops : (l : LabelData) (r : Refusal) → unless_label t.vocab.labels t.vocab.resources (set.insert t.vocab.labels (owned owner l)) (owned owner l) accepted (Some r) → row_add_label (setting_of t) s (label_added (owned owner l) s) (owned owner l) (Some r)
     add_stops l r says =

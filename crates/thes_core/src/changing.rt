@@ -164,7 +164,11 @@ impl Thesaurus {
         ensures state { OnOk result (Becomes self.old (next_state (request.Split source tag.now text.now postings.now) (state_of self.old)) self.new) }
     {
         let scheme = self.scheme(source);
-        let new = NewResource::Concept(scheme, tag.try_clone(self.alloc)?, text.try_clone(self.alloc)?);
+        let new = NewResource::Concept(
+            scheme,
+            tag.try_clone(self.alloc)?,
+            text.try_clone(self.alloc)?,
+        );
         let concept = self.vocab.add_resource(new)?;
         let moved = self.book.move_listed(source, concept, postings)?;
         Ok((concept, moved))

@@ -69,10 +69,17 @@ impl Thesaurus {
         ensures { refused_unless (HasRoom self.now.limits (state_of self.now) growth) no.TooMany accepted result }
     {
         let limits = &self.limits;
-        if may_rise(limits.resources, self.vocab.resource_count(), growth.resources)
-            && may_rise(limits.labels, self.vocab.label_count(), growth.labels)
+        if may_rise(
+            limits.resources,
+            self.vocab.resource_count(),
+            growth.resources,
+        ) && may_rise(limits.labels, self.vocab.label_count(), growth.labels)
             && may_rise(limits.links, self.graph.size(), growth.links)
-            && may_rise(limits.postings, self.book.totals().accepted, growth.postings)
+            && may_rise(
+                limits.postings,
+                self.book.totals().accepted,
+                growth.postings,
+            )
             && may_rise(limits.moves, u64::from(self.book.moves()), growth.moves)
         {
             None
@@ -121,7 +128,13 @@ impl Thesaurus {
     }
 
     // What refuses another preferred label.
-    pub(crate) fn judge_relabel(&self, owner: ResNo, tag: &Tag, text: &Text, keep: bool) -> Option<Refusal>
+    pub(crate) fn judge_relabel(
+        &self,
+        owner: ResNo,
+        tag: &Tag,
+        text: &Text,
+        keep: bool,
+    ) -> Option<Refusal>
         requires { IsKept self.now }
         ensures { let command = request.Relabel owner tag.now text.now keep in row_of (setting_of self.now) (state_of self.now) (next_state command (state_of self.now)) command result }
     {
@@ -205,7 +218,11 @@ impl Thesaurus {
     }
 
     // What refuses a merge.
-    pub(crate) fn judge_merge(&self, source: ResNo, target: ResNo) -> Result<Option<Refusal>, AllocError>
+    pub(crate) fn judge_merge(
+        &self,
+        source: ResNo,
+        target: ResNo,
+    ) -> Result<Option<Refusal>, AllocError>
         requires { IsKept self.now }
         ensures { let command = request.Merge source target in IfOk result (row_of (setting_of self.now) (state_of self.now) (next_state command (state_of self.now)) command) }
     {

@@ -1,17 +1,20 @@
 -- What carries the answers of the judging calls into rows of refusals, and how many links a merge leaves.
-use Rattle.std.proofs.Common.{◌≡◌, ◌⊎◌, inl, inr, ◌+◌, ◌≤◌, ℕ, List, [], ◌∷◌, Bool, true, false, not, ◌==◌, cond, Contains, length, Option, None, Some, map, refl, sym, ap, subst, ◌∙◌, arith}
+use Rattle.std.proofs.Common.{◌≡◌, ◌≢◌, ◌⊎◌, inl, inr, ◌+◌, ◌≤◌, ℕ, List, [], ◌∷◌, Bool, true, false, not, ◌==◌, cond, Contains, length, Option, None, Some, map, refl, sym, ap, subst, ◌∙◌, arith}
 use Rattle.std.specs.Prelude.{filter}
 use Rattle.std.specs.FinSet.{insert, contains, items, from_list, len, len-insert, len-empty}
-use Rattle.std.proofs.lemmas.List.Sums.{length-filter}
 use Rattle.thes_base.specs.declared.data.Link.{Link}
 use Rattle.thes_base.specs.declared.fault.Refusal.{Refusal}
 use Rattle.thes_base.specs.declared.fault.Refusal.TheVariants as no
 use Rattle.thes_base.specs.Rows.{Row, refused_if, found_or}
 use Rattle.thes_base.specs.Links.{Links, link_cmp, HeldIn, norm, sent, sent_link, contracted, IsFirstBroken, unless_broken}
-use Rattle.thes_base.proofs.LinkSets.{links_total}
+use Rattle.thes_base.proofs.LinkSets.{links_total, link_inserted_cases}
 use Rattle.thes_base.proofs.LinkLemmas.{row_of_first, first_of_row}
 use Rattle.thes_graph.specs.Judge.{row_of_add}
+use Rattle.thes_graph.specs.Reading.{EndsAt}
+use Rattle.thes_graph.specs.Local.{BreakNone, AwayFrom}
 use Rattle.thes_graph.specs.Net.{listed}
+use Rattle.thes_graph.proofs.PivotLemmas.{BreakNone-within}
+use Rattle.thes_graph.proofs.NormLemmas.{ends_norm}
 use Rattle.thes_graph.proofs.SetLemmas.{same_links, held_from_list, listed_of_held, held_of_item, item_of_held, Contains-map, Contains-from_map, Contains-filter, Contains-from_filter}
 use Rattle.thes_graph.proofs.IndexLemmas.{held_of_listed, listed_held, listed_sorted, len_is}
 
@@ -28,6 +31,20 @@ module _ (links : Links) (new : Link) (rest : Row) (answer : Option Refusal) whe
   added_of_row first (inl (held, there)) (inr (off, _)) = absurd (off held)
   added_of_row first (inr (off, broken)) (inl (held, _)) = absurd (off held)
   added_of_row first (inr (off, broken)) (inr (_, row)) = first_of_row (HeldIn (insert links new)) rest answer first broken row
+
+-- Where the links break no rule, and one with an end at p is added, those without an end at p break none: the condition of `check_at`.
+pub away_of_added : (is_outside : ℕ → Bool) (links : Links) (l : Link) (p : ℕ) → EndsAt p l → BreakNone (HeldIn links) → BreakNone (AwayFrom (HeldIn (insert links (norm is_outside l))) p)
+away_of_added is_outside links l p at = BreakNone-within (AwayFrom (HeldIn (insert links (norm is_outside l))) p) (HeldIn links) old
+  where
+    off : EndsAt p (norm is_outside l) → (norm is_outside l).a ≢ p → (norm is_outside l).b ≢ p → ⊥
+    off (inl a) not_a not_b = not_a a
+    off (inr b) not_a not_b = not_b b
+
+    old : (m : Link) → AwayFrom (HeldIn (insert links (norm is_outside l))) p m → HeldIn links m
+    old m (held, not_a, not_b) = elim (link_inserted_cases links (norm is_outside l) m held) [
+      | inl same ↦ absurd (off (ends_norm is_outside l p at) (subst (λ (w : Link). w.a ≢ p) same not_a) (subst (λ (w : Link). w.b ≢ p) same not_b))
+      | inr was ↦ was
+    ]
 
 -- How many.
 

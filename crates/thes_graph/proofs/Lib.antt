@@ -2,7 +2,7 @@ mod NumberLemmas
 mod MetLemmas
 mod StepLemmas
 mod ReachLemmas
-mod PivotLemmas
+pub mod PivotLemmas
 mod WeightLemmas
 mod ReadLemmas
 mod CountLemmas
@@ -10,15 +10,15 @@ mod SightLemmas
 mod WalkLemmas
 mod ProbeLemmas
 mod JudgeLemmas
-mod NormLemmas
-mod SetLemmas
-mod ContractLemmas
+pub mod NormLemmas
+pub mod SetLemmas
+pub mod ContractLemmas
 mod OrderLemmas
 mod LinkOrderLemmas
 mod RowLemmas
 mod IndexLemmas
 mod MarkLemmas
-mod ChangeLemmas
+pub mod ChangeLemmas
 mod MovedLemmas
 mod MappingLemmas
 mod ReaderLemmas

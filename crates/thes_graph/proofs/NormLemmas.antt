@@ -88,7 +88,7 @@ IsFirstBroken-same P Q to back (Some _) h = absurd h
 
 -- the norm again changes nothing, and keeps two ends
 
-norm_cases : (f : ℕ → Bool) (l : Link) → (norm f l ≡ l) ⊎ ((norm f l ≡ exchanged l) × (nat_lt l.b l.a ≡ true))
+pub norm_cases : (f : ℕ → Bool) (l : Link) → (norm f l ≡ l) ⊎ ((norm f l ≡ exchanged l) × (nat_lt l.b l.a ≡ true))
 norm_cases f l = go (is_symmetric (f l.a || f l.b) l.kind) (nat_lt l.b l.a)
   where
     go : (s t : Bool) → ((if s && t then exchanged l else l) ≡ l) ⊎ (((if s && t then exchanged l else l) ≡ exchanged l) × (t ≡ true))
@@ -132,3 +132,14 @@ norm_ends f l n = go (norm_cases f l)
     go : (norm f l ≡ l) ⊎ ((norm f l ≡ exchanged l) × (nat_lt l.b l.a ≡ true)) → EndsAt n (norm f l) → EndsAt n l
     go (inl same) at = subst (EndsAt n) same at
     go (inr (is, _)) at = turn (subst (EndsAt n) is at)
+
+pub ends_norm : (f : ℕ → Bool) (l : Link) (n : ℕ) → EndsAt n l → EndsAt n (norm f l)
+ends_norm f l n = go (norm_cases f l)
+  where
+    turn : EndsAt n l → EndsAt n (exchanged l)
+    turn (inl at) = inr at
+    turn (inr at) = inl at
+
+    go : (norm f l ≡ l) ⊎ ((norm f l ≡ exchanged l) × (nat_lt l.b l.a ≡ true)) → EndsAt n l → EndsAt n (norm f l)
+    go (inl same) at = subst (EndsAt n) (sym same) at
+    go (inr (is, _)) at = subst (EndsAt n) (sym is) (turn at)

@@ -14,6 +14,8 @@ use Rattle.thes_graph.specs.Reading.{HaveTwoEnds}
 use Rattle.thes_graph.specs.Steps.{Steps, Reaches, GrowsBy, Ties}
 use Rattle.thes_graph.specs.Local.{UpTo, Alike, NoCycleAt, NoS27At, NoS46At, IsGathered}
 use Rattle.thes_graph.specs.Whole.{AreAll, HasWay, IsSomeCycle, IsSomeS27, IsSomeS46}
+use Rattle.std.specs.BTreeMap.{BTreeMap}
+use Rattle.thes_graph.specs.Levels.{level_of, Rises}
 use Rattle.thes_graph.proofs.PivotLemmas.{Reaches-then_chain, Chain-then_reach, Chain-one, exact_turns, Alike-turn, S46-witness}
 use Rattle.thes_graph.proofs.StepLemmas.{GrowsBy-then}
 use Rattle.thes_graph.proofs.ProbeLemmas.{cycle_found, cycle_none, s46_found, s46_none}
@@ -146,3 +148,17 @@ module _ (Held : Link → Type 0) where
       go : (x y : ℕ) (ms : List ℕ) → Path (Joined Held exact_way) x ms y → IsApart Held x y → ⊥
       go x y [] one apart = first x y y one.0 one.1 one.2 (inl refl) apart
       go x y (m ∷ ms) path apart = first x m y path.0.0 path.0.1 path.0.2 (inr (ms, path.1)) apart
+
+-- where levels rise along each link there is no cycle
+pub no_cycle_levels : (levels : BTreeMap ℕ ℕ) (Held : Link → Type 0) → ((l : Link) → Held l → Rises levels l) → NoCycle Held
+no_cycle_levels levels Held rises = record { none = λ x (ms, path). let lower : level_of levels x < level_of levels x = falls x ms x path in absurd (omega arith) }
+  where
+    step : (x y : ℕ) → IsBroader Held x y → level_of levels y < level_of levels x
+    step x y (l, held, leads) = rises l held x y leads
+
+    falls : (x : ℕ) (ms : List ℕ) (y : ℕ) → Path (IsBroader Held) x ms y → level_of levels y < level_of levels x
+    falls x [] y one = step x y one
+    falls x (m ∷ ms) y path =
+        let first : level_of levels m < level_of levels x = step x m path.0 in
+        let rest : level_of levels y < level_of levels m = falls m ms y path.1 in
+        omega arith

@@ -3,6 +3,7 @@
 
 pub mod graph;
 pub mod judge;
+pub mod levels;
 pub mod linked;
 pub mod links;
 pub mod mapped;

@@ -7,6 +7,7 @@ ghost use Rattle.thes_graph.specs.Steps.{GrowsBy};
 ghost use Rattle.thes_graph.specs.Local.{UpTo, NoS46At};
 ghost use Rattle.thes_graph.specs.Whole.{AreAll, HasWay, IsSomeCycle, IsSomeS27, IsSomeS46};
 
+use crate::levels::{climb, find_levels, first_falling};
 use crate::links::Links;
 use crate::nodes::Nodes;
 use crate::relation::{Relation, way};
@@ -28,8 +29,12 @@ fn is_on_cycle<L: Links>(alloc: Global, links: &mut L, n: ResNo) -> Result<bool,
     Ok(found)
 }
 
-// Whether a chain of broader links leads from some node back to it.
-fn has_cycle<L: Links>(alloc: Global, links: &mut L, all: &[Link]) -> Result<bool, AllocError>
+// Whether a chain of broader links leads from some node back to it, asked at each link.
+fn has_cycle_by_walks<L: Links>(
+    alloc: Global,
+    links: &mut L,
+    all: &[Link],
+) -> Result<bool, AllocError>
     requires { AreAll (L.held links.old) all.now }
     ensures held { L.held links.new ≡ L.held links.old }
     ensures cycle { IfOk result (λ found. MatchBool found (IsSomeCycle (HeldIn (L.held links.old))) (NoCycle (HeldIn (L.held links.old)))) }
@@ -40,6 +45,27 @@ fn has_cycle<L: Links>(alloc: Global, links: &mut L, all: &[Link]) -> Result<boo
         }
     }
     Ok(false)
+}
+
+// Whether a chain of broader links leads from some node back to it. Where there are levels that rise along each link there is no
+// such chain, and else climbing among the nodes without a level ends on one; so each link is asked by walks only if neither serves.
+fn has_cycle<L: Links>(alloc: Global, links: &mut L, all: &[Link]) -> Result<bool, AllocError>
+    requires { AreAll (L.held links.old) all.now }
+    ensures held { L.held links.new ≡ L.held links.old }
+    ensures cycle { IfOk result (λ found. MatchBool found (IsSomeCycle (HeldIn (L.held links.old))) (NoCycle (HeldIn (L.held links.old)))) }
+{
+    let levels = find_levels(alloc, links, all)?;
+    match first_falling(&levels, all) {
+        None => return Ok(false),
+        Some(low) => {
+            let suspect = climb(links, &levels, low, all.len());
+            if is_on_cycle(alloc, links, suspect)? {
+                return Ok(true);
+            }
+        }
+    }
+    let found = has_cycle_by_walks(alloc, links, all)?;
+    Ok(found)
 }
 
 // Whether the second node is the first one or above it.

@@ -199,7 +199,7 @@ module _ (labels : Labels) (l : Label) where
     pub breaks_unique : l.kind ≡ Pref → HasRival rs labels l.owner l.tag l.text → UniquePreferred rs more → ⊥
     breaks_unique is rival p1 =
         rival.other (p1 rival.rival l.owner rival.scheme l.tag l.text rival.holder.0.0 rival.concept rival.holder.0.1 rival.within (inserted_kept labels l _ rival.holder.1)
-          (subst (λ k. HasLabel more l.owner k l.tag l.text) is (inserted_new labels l)))
+        (subst (λ k. HasLabel more l.owner k l.tag l.text) is (inserted_new labels l)))
 
     pub keeps_unique : UniquePreferred rs labels → (l.kind ≢ Pref) ⊎ (HasRival rs labels l.owner l.tag l.text → ⊥) → UniquePreferred rs more
     keeps_unique p1 apart m n scheme tag text lm ln sm sn hm hn = go (inserted_cases labels l _ hm) (inserted_cases labels l _ hn) (same_or_not n m)
@@ -339,7 +339,7 @@ module _ (labels : Labels) (owner : ℕ) (tag text old : List ℕ) (keep : Bool)
     pub renamed_breaks_unique : HasRival rs labels owner tag text → UniquePreferred rs after → ⊥
     renamed_breaks_unique rival p1 =
         rival.other (p1 rival.rival owner rival.scheme tag text rival.holder.0.0 rival.concept rival.holder.0.1 rival.within
-          (renamed_old (label rival.rival Pref tag text) (λ e. rival.other (ap (λ (l : Label). l.owner) e)) rival.holder.1) renamed_fresh)
+        (renamed_old (label rival.rival Pref tag text) (λ e. rival.other (ap (λ (l : Label). l.owner) e)) rival.holder.1) renamed_fresh)
 
     pub renamed_keeps_unique : UniquePreferred rs labels → (HasRival rs labels owner tag text → ⊥) → UniquePreferred rs after
     renamed_keeps_unique p1 none m n scheme t x lm ln sm sn hm hn = go (renamed_cases _ hm) (renamed_cases _ hn) (same_or_not n m)

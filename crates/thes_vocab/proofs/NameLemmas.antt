@@ -113,7 +113,7 @@ module _ (alloc : Global) (old new : Schemes) (scheme : ℕ) (was now : ByTag) (
   pub scheme_put : (tag text : List ℕ) (value : Option ℕ) → IsTagPut was now tag text value → IsPut (record { alloc = alloc; schemes = old }) (record { alloc = alloc; schemes = new }) scheme tag text value
   scheme_put tag text value put =
       let all = put_found nat_cmp nat_cmp_total exact_unsigned (λ (tags : ByTag) (p : List ℕ × List ℕ). tag_holder tags p.0 p.1) old new scheme now set (tag, text) value (λ p. (p.0 ≡ tag) × (p.1 ≡ text)) put.0
-          (λ p apart. put.1 p.0 p.1 apart ∙ sym (before p.0 p.1)) in
+      (λ p apart. put.1 p.0 p.1 apart ∙ sym (before p.0 p.1)) in
       (all.0, λ s t x apart. all.1 s (t, x) (λ h. apart (h.0, h.1.0, h.1.1)))
 
   pub scheme_kept : AreSameTags was now → AreSame (record { alloc = alloc; schemes = old }) (record { alloc = alloc; schemes = new })

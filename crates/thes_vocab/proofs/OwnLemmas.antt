@@ -77,6 +77,7 @@ or_true false = refl
 -- what is found
 pub has_at : (own : List LabelData) (l : LabelData) (i : ℕ) → StandsAt own l i → has_own own l ≡ true
 has_at own l i s = ap (λ xs. has_own xs l) s.is ∙ list_any-append (eq_by_cmp data_cmp l) s.front (l ∷ s.back) ∙ ap (λ b. has_own s.front l || (b || has_own s.back l)) (ties l l refl) ∙ or_true (has_own s.front l)
+
 -- what is not
 pub lacks_at : (own : List LabelData) (l : LabelData) (i : ℕ) → FitsAt own l i → has_own own l ≡ false
 lacks_at own l i f = ap (λ xs. has_own xs l) f.is ∙ list_any-append (eq_by_cmp data_cmp l) f.front f.back ∙ ap (λ b. b || has_own f.back l) (none_below data_total l f.front f.below) ∙ none_above data_total l f.back f.above
@@ -260,9 +261,9 @@ pub second_of_two : (x y : LabelData) (xs : List LabelData) → IsStrictlySorted
 unfolding IsStrictlySortedBy
 second_of_two x y xs sorted two = elim (or_cases _ _ two.first) [
   | inl a ↦ elim (or_cases _ _ two.second) [
-      | inl b ↦ absurd (two.apart (tied _ x a ∙ sym (tied _ x b)))
-      | inr later ↦ preferred_in_rest y xs two.second_tag two.second_text sorted.1 later
-    ]
+    | inl b ↦ absurd (two.apart (tied _ x a ∙ sym (tied _ x b)))
+    | inr later ↦ preferred_in_rest y xs two.second_tag two.second_text sorted.1 later
+  ]
   | inr later ↦ preferred_in_rest y xs two.first_tag two.first_text sorted.1 later
 ]
 

@@ -42,11 +42,11 @@ pub owned_tie : (q : Label) (owner : ℕ) (l : LabelData) → eq_by_cmp label_cm
 owned_tie q owner l =
     then_eq (nat_cmp q.owner owner) _
     ∙ ap (λ b. eq_by_cmp nat_cmp q.owner owner && b) (
-      then_eq (nat_cmp (label_kind_no q.kind) (label_kind_no l.kind)) _
-      ∙ ap (λ b. is_eq (nat_cmp (label_kind_no q.kind) (label_kind_no l.kind)) && b) (then_eq (slice_cmp nat_cmp q.tag l.tag) _)
-      ∙ and_group (is_eq (nat_cmp (label_kind_no q.kind) (label_kind_no l.kind))) (is_eq (slice_cmp nat_cmp q.tag l.tag)) (is_eq (slice_cmp nat_cmp q.text l.text))
-      ∙ sym (then_eq (ordering_then (nat_cmp (label_kind_no q.kind) (label_kind_no l.kind)) (slice_cmp nat_cmp q.tag l.tag)) _
-        ∙ ap (λ b. b && is_eq (slice_cmp nat_cmp q.text l.text)) (then_eq (nat_cmp (label_kind_no q.kind) (label_kind_no l.kind)) (slice_cmp nat_cmp q.tag l.tag)))
+    then_eq (nat_cmp (label_kind_no q.kind) (label_kind_no l.kind)) _
+    ∙ ap (λ b. is_eq (nat_cmp (label_kind_no q.kind) (label_kind_no l.kind)) && b) (then_eq (slice_cmp nat_cmp q.tag l.tag) _)
+    ∙ and_group (is_eq (nat_cmp (label_kind_no q.kind) (label_kind_no l.kind))) (is_eq (slice_cmp nat_cmp q.tag l.tag)) (is_eq (slice_cmp nat_cmp q.text l.text))
+    ∙ sym (then_eq (ordering_then (nat_cmp (label_kind_no q.kind) (label_kind_no l.kind)) (slice_cmp nat_cmp q.tag l.tag)) _
+    ∙ ap (λ b. b && is_eq (slice_cmp nat_cmp q.text l.text)) (then_eq (nat_cmp (label_kind_no q.kind) (label_kind_no l.kind)) (slice_cmp nat_cmp q.tag l.tag)))
     )
 
 and_or : (a b c : Bool) → ((a && b) || (a && c)) ≡ (a && (b || c))
@@ -106,15 +106,15 @@ pub put_labels : (old new : BTreeMap ℕ (List LabelData)) (owner : ℕ) (l : La
 put_labels old new owner l o n is = set.same_set labels_total labels_exact _ _ (λ q.
     has_label new n q ∙ is q.owner (data_of q)
     ∙ sym (set.contains-insert labels_total (labels_in old.entries) (owned owner l) q
-      ∙ ap (λ b. b || set.contains (labels_in old.entries) q) (owned_tie q owner l)
-      ∙ ap (λ b. (eq_by_cmp nat_cmp q.owner owner && eq_by_cmp data_cmp (data_of q) l) || b) (has_label old o q)))
+    ∙ ap (λ b. b || set.contains (labels_in old.entries) q) (owned_tie q owner l)
+    ∙ ap (λ b. (eq_by_cmp nat_cmp q.owner owner && eq_by_cmp data_cmp (data_of q) l) || b) (has_label old o q)))
 
 pub take_labels : (old new : BTreeMap ℕ (List LabelData)) (owner : ℕ) (l : LabelData) → IsOrdered nat_cmp old → IsOrdered nat_cmp new → IsTaken old new owner l → labels_in new.entries ≡ set.remove (labels_in old.entries) (owned owner l)
 take_labels old new owner l o n is = set.same_set labels_total labels_exact _ _ (λ q.
     has_label new n q ∙ is q.owner (data_of q)
     ∙ sym (set.contains-remove labels_total (labels_in old.entries) (owned owner l) q
-      ∙ ap (λ b. not b && set.contains (labels_in old.entries) q) (owned_tie q owner l)
-      ∙ ap (λ b. not (eq_by_cmp nat_cmp q.owner owner && eq_by_cmp data_cmp (data_of q) l) && b) (has_label old o q)))
+    ∙ ap (λ b. not b && set.contains (labels_in old.entries) q) (owned_tie q owner l)
+    ∙ ap (λ b. not (eq_by_cmp nat_cmp q.owner owner && eq_by_cmp data_cmp (data_of q) l) && b) (has_label old o q)))
 
 pub row_owns : (rows : BTreeMap ℕ (List LabelData)) → IsOrdered nat_cmp rows → (owner : ℕ) (o : Option (List LabelData)) → o ≡ get nat_cmp rows owner → MatchOption o (OwnsNone (labels_in rows.entries) owner) (Owns (labels_in rows.entries) owner)
 row_owns rows ordered owner None e = λ l. has_label rows ordered (owned owner l) ∙ ap (λ r. has_own (unwrap_or r []) l) (sym e)
@@ -243,7 +243,7 @@ module _ (old new : BTreeMap ℕ (List LabelData)) (count owner : ℕ) (l : Labe
     ordered = ordered;
     counted = ap (λ n. cond taken (n - 1) n) rows.counted
         ∙ sym (ap set.len (take_labels old new owner l rows.ordered ordered is) ∙ set.len-remove labels_total (labels_in old.entries) (owned owner l)
-          ∙ ap (λ b. cond b (set.len (labels_in old.entries) - 1) (set.len (labels_in old.entries))) (was_there ∙ sym e));
+        ∙ ap (λ b. cond b (set.len (labels_in old.entries) - 1) (set.len (labels_in old.entries))) (was_there ∙ sym e));
   }
 
 -- a label that is there is counted

@@ -108,9 +108,9 @@ any_mapped : (p : Label → Bool) (f : Label → Label) (q : Label) (ls : List L
 any_mapped p f q [] e = absurd (cc)
 any_mapped p f q (x ∷ ls) e = elim (decide (p x)) [
   | inl picks ↦ elim (or_cases _ _ (sym (ap (λ ys. list_any (eq_by_cmp label_cmp q) (map f ys)) (kept_yes p x ls picks)) ∙ e)) [
-      | inl same ↦ (x, picks, or_left _ _ (itself x), labels_exact q (f x) ((Equal-is (label_cmp q (f x))).0 same))
-      | inr later ↦ let found = any_mapped p f q ls later in (found.0, found.1, or_right (eq_by_cmp label_cmp found.0 x) _ found.2, found.3)
-    ]
+    | inl same ↦ (x, picks, or_left _ _ (itself x), labels_exact q (f x) ((Equal-is (label_cmp q (f x))).0 same))
+    | inr later ↦ let found = any_mapped p f q ls later in (found.0, found.1, or_right (eq_by_cmp label_cmp found.0 x) _ found.2, found.3)
+  ]
   | inr miss ↦ let found = any_mapped p f q ls (sym (ap (λ ys. list_any (eq_by_cmp label_cmp q) (map f ys)) (kept_no p x ls miss)) ∙ e) in (found.0, found.1, or_right (eq_by_cmp label_cmp found.0 x) _ found.2, found.3)
 ]
   where
@@ -124,9 +124,9 @@ mapped_any p f q l (x ∷ ls) picks is e = elim (or_cases _ _ e) [
       let here = labels_exact l x ((Equal-is (label_cmp l x)).0 same) in
       ap (λ ys. list_any (eq_by_cmp label_cmp q) (map f ys)) (kept_yes p x ls (ap p (sym here) ∙ picks)) ∙ or_left _ _ (ap (λ y. eq_by_cmp label_cmp q (f y)) (sym here) ∙ ap (λ y. eq_by_cmp label_cmp q y) (sym is) ∙ ap is_eq (tied_itself labels_total q))
   | inr later ↦ elim (decide (p x)) [
-      | inl hit ↦ ap (λ ys. list_any (eq_by_cmp label_cmp q) (map f ys)) (kept_yes p x ls hit) ∙ or_right (eq_by_cmp label_cmp q (f x)) _ (mapped_any p f q l ls picks is later)
-      | inr miss ↦ ap (λ ys. list_any (eq_by_cmp label_cmp q) (map f ys)) (kept_no p x ls miss) ∙ mapped_any p f q l ls picks is later
-    ]
+    | inl hit ↦ ap (λ ys. list_any (eq_by_cmp label_cmp q) (map f ys)) (kept_yes p x ls hit) ∙ or_right (eq_by_cmp label_cmp q (f x)) _ (mapped_any p f q l ls picks is later)
+    | inr miss ↦ ap (λ ys. list_any (eq_by_cmp label_cmp q) (map f ys)) (kept_no p x ls miss) ∙ mapped_any p f q l ls picks is later
+  ]
 ]
 
 any_found : (test : LabelData → Bool) (own : List LabelData) → list_any test own ≡ true → (d : LabelData) × (test d ≡ true) × (has_own own d ≡ true)
@@ -243,9 +243,9 @@ module _ (labels : Labels) (source target : ℕ) (s13 : S13 labels) where
   built_from [] q e = absurd (cc)
   built_from (x ∷ own) q e = elim (decide (takes labels target x)) [
     | inl picks ↦ elim (or_cases _ _ (sym (ap (λ ys. list_any (eq_by_cmp label_cmp q) (map as_taken ys)) (kept_yes (takes labels target) x own picks)) ∙ e)) [
-        | inl same ↦ (x, picks, or_left _ _ (ties x x refl), labels_exact q (as_taken x) ((Equal-is (label_cmp q (as_taken x))).0 same))
-        | inr later ↦ let found = built_from own q later in (found.0, found.1, or_right (eq_by_cmp data_cmp found.0 x) _ found.2, found.3)
-      ]
+      | inl same ↦ (x, picks, or_left _ _ (ties x x refl), labels_exact q (as_taken x) ((Equal-is (label_cmp q (as_taken x))).0 same))
+      | inr later ↦ let found = built_from own q later in (found.0, found.1, or_right (eq_by_cmp data_cmp found.0 x) _ found.2, found.3)
+    ]
     | inr miss ↦ let found = built_from own q (sym (ap (λ ys. list_any (eq_by_cmp label_cmp q) (map as_taken ys)) (kept_no (takes labels target) x own miss)) ∙ e) in (found.0, found.1, or_right (eq_by_cmp data_cmp found.0 x) _ found.2, found.3)
   ]
 

@@ -27,12 +27,20 @@ impl Vocab {
         ensures err { OnErr result (self.new ≡ self.old) }
     {
         match new {
-            NewResource::Scheme(tag, text) => self.add_named(new_resource(ResourceKind::Scheme, None), tag, text),
+            NewResource::Scheme(tag, text) => self.add_named(
+                new_resource(ResourceKind::Scheme, None),
+                tag,
+                text,
+            ),
             NewResource::Concept(scheme, tag, text) => {
                 self.add_named(new_resource(ResourceKind::Concept, Some(scheme)), tag, text)
             }
             NewResource::Collection(scheme, tag, text) => {
-                self.add_named(new_resource(ResourceKind::Collection, Some(scheme)), tag, text)
+                self.add_named(
+                    new_resource(ResourceKind::Collection, Some(scheme)),
+                    tag,
+                    text,
+                )
             }
             NewResource::Outside(iri) => self.add_outside(iri),
         }
@@ -66,7 +74,13 @@ impl Vocab {
 
     /// Gives an owner another preferred label in the language where nothing refuses it, and keeps the old one as an
     /// alternative label if asked to. An `Err` changes nothing.
-    pub fn relabel(&mut self, owner: ResNo, tag: &Tag, text: &Text, keep: bool) -> Result<(), AllocError>
+    pub fn relabel(
+        &mut self,
+        owner: ResNo,
+        tag: &Tag,
+        text: &Text,
+        keep: bool,
+    ) -> Result<(), AllocError>
         requires owner { IsLiveOwner self.old.resources owner }
         requires allowed { unless_relabelled self.old.labels self.old.resources (labels_relabelled owner tag.now text.now keep self.old.labels) owner tag.now accepted None }
         ensures ok { OnOk result (self.new ≡ with_labels self.old (labels_relabelled owner tag.now text.now keep self.old.labels)) }

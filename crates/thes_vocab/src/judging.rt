@@ -75,7 +75,10 @@ impl Vocab {
         requires { IsLiveOwner self.now.resources owner }
         ensures { let l = owned owner label.now in unless_label self.now.labels self.now.resources (set.insert self.now.labels l) l accepted result }
     {
-        if self.labels.contains(owner, label.kind(), &label.tag, label.text()) {
+        if self
+            .labels
+            .contains(owner, label.kind(), &label.tag, label.text())
+        {
             return Some(Refusal::LabelThere);
         }
         if self.breaks_s13(owner, label) {

@@ -120,7 +120,14 @@ impl LabelTable {
     }
 
     // Whether a text would stand under two kinds in place of the old preferred label.
-    pub(crate) fn clashes(&self, owner: ResNo, tag: &Tag, old: &Text, text: &Text, keep: bool) -> bool
+    pub(crate) fn clashes(
+        &self,
+        owner: ResNo,
+        tag: &Tag,
+        old: &Text,
+        text: &Text,
+        keep: bool,
+    ) -> bool
         ensures { IsTrue result ↔ Clashes self.now owner tag.now text.now old.now keep }
     {
         self.contains(owner, LabelKind::Alt, tag, text.as_str())
@@ -161,7 +168,14 @@ impl LabelTable {
 
     // Gives the owner another preferred label in the language, and keeps the old one as an alternative label if asked
     // to. An `Err` changes nothing.
-    pub(crate) fn rename(&mut self, owner: ResNo, tag: &Tag, old: &Text, text: &Text, keep: bool) -> Result<(), AllocError>
+    pub(crate) fn rename(
+        &mut self,
+        owner: ResNo,
+        tag: &Tag,
+        old: &Text,
+        text: &Text,
+        keep: bool,
+    ) -> Result<(), AllocError>
         requires apart { old.now ≢ text.now }
         requires new { set.contains self.old (label owner Pref tag.now text.now) ≡ false }
         ensures ok { OnOk result (self.new ≡ renamed owner tag.now text.now keep old.now self.old) }
@@ -196,7 +210,12 @@ impl LabelTable {
     }
 
     // Gives the target the names of the source that it lacks: so many. An `Err` changes nothing.
-    pub(crate) fn take_names(&mut self, source: ResNo, target: ResNo, gained: u64) -> Result<(), AllocError>
+    pub(crate) fn take_names(
+        &mut self,
+        source: ResNo,
+        target: ResNo,
+        gained: u64,
+    ) -> Result<(), AllocError>
         requires { set.len self.old + gained ≡ set.len (set.union self.old (taken_labels source target self.old)) }
         ensures ok { OnOk result (self.new ≡ set.union self.old (taken_labels source target self.old)) }
         ensures err { OnErr result (self.new ≡ self.old) }
@@ -210,7 +229,12 @@ impl LabelTable {
 }
 
 // Adds a label to its owner's row, and answers whether it is new. An `Err` changes no row.
-fn put(rows: &mut BTreeMap<ResNo, Row>, alloc: Global, owner: ResNo, label: Label) -> Result<bool, AllocError>
+fn put(
+    rows: &mut BTreeMap<ResNo, Row>,
+    alloc: Global,
+    owner: ResNo,
+    label: Label,
+) -> Result<bool, AllocError>
     ensures added { IfOk result (λ added. added ≡ not (has_own (row_of rows.old owner) label)) }
     ensures ok { OnOk result (IsPut rows.old rows.new owner label) }
     ensures err { OnErr result (AreSame rows.old rows.new) }
@@ -226,7 +250,13 @@ fn put(rows: &mut BTreeMap<ResNo, Row>, alloc: Global, owner: ResNo, label: Labe
 }
 
 // Takes a label out of its owner's row, and answers whether it was there.
-fn take(rows: &mut BTreeMap<ResNo, Row>, owner: ResNo, kind: LabelKind, tag: &Tag, text: &str) -> bool
+fn take(
+    rows: &mut BTreeMap<ResNo, Row>,
+    owner: ResNo,
+    kind: LabelKind,
+    tag: &Tag,
+    text: &str,
+) -> bool
     ensures taken { result ≡ has_own (row_of rows.old owner) (own_label kind tag.now text.now) }
     ensures after { IsTaken rows.old rows.new owner (own_label kind tag.now text.now) }
     ensures ordered { IsOrdered nat_cmp rows.new }
@@ -238,7 +268,12 @@ fn take(rows: &mut BTreeMap<ResNo, Row>, owner: ResNo, kind: LabelKind, tag: &Ta
 }
 
 // The target's row with the names that it takes from the source.
-fn merged_row(rows: &BTreeMap<ResNo, Row>, alloc: Global, source: ResNo, target: ResNo) -> Result<Row, AllocError>
+fn merged_row(
+    rows: &BTreeMap<ResNo, Row>,
+    alloc: Global,
+    source: ResNo,
+    target: ResNo,
+) -> Result<Row, AllocError>
     ensures { IfOk result (IsMerged rows.now source target) }
 {
     let none = Row::new(alloc);

@@ -39,7 +39,12 @@ impl Names {
     }
 
     // Notes that the concept is given the label, if it is a preferred one and there is a scheme. An `Err` changes nothing.
-    pub(crate) fn put_label(&mut self, scheme: Option<ResNo>, label: &Label, concept: ResNo) -> Result<(), AllocError>
+    pub(crate) fn put_label(
+        &mut self,
+        scheme: Option<ResNo>,
+        label: &Label,
+        concept: ResNo,
+    ) -> Result<(), AllocError>
         ensures ok { OnOk result (IsLabelNoted self.old self.new scheme label.now (Some concept)) }
         ensures err { OnErr result (AreSame self.old self.new) }
     {
@@ -50,7 +55,13 @@ impl Names {
     }
 
     // Notes that the concept is given the preferred label, if there is a scheme. An `Err` changes nothing.
-    pub(crate) fn put(&mut self, scheme: Option<ResNo>, tag: &Tag, text: &Text, concept: ResNo) -> Result<(), AllocError>
+    pub(crate) fn put(
+        &mut self,
+        scheme: Option<ResNo>,
+        tag: &Tag,
+        text: &Text,
+        concept: ResNo,
+    ) -> Result<(), AllocError>
         ensures ok { OnOk result (IsNoted self.old self.new scheme tag.now text.now (Some concept)) }
         ensures err { OnErr result (AreSame self.old self.new) }
     {
@@ -80,7 +91,13 @@ impl Names {
         }
     }
 
-    fn put_in(&mut self, scheme: ResNo, tag: &Tag, text: &Text, concept: ResNo) -> Result<(), AllocError>
+    fn put_in(
+        &mut self,
+        scheme: ResNo,
+        tag: &Tag,
+        text: &Text,
+        concept: ResNo,
+    ) -> Result<(), AllocError>
         ensures ok { OnOk result (IsPut self.old self.new scheme tag.now text.now (Some concept)) }
         ensures err { OnErr result (AreSame self.old self.new) }
     {
@@ -104,7 +121,13 @@ impl Names {
     }
 }
 
-fn put_tag(tags: &mut ByTag, alloc: Global, tag: Tag, text: Text, concept: ResNo) -> Result<(), AllocError>
+fn put_tag(
+    tags: &mut ByTag,
+    alloc: Global,
+    tag: Tag,
+    text: Text,
+    concept: ResNo,
+) -> Result<(), AllocError>
     ensures ok { OnOk result (IsTagPut tags.old tags.new tag text (Some concept)) }
     ensures err { OnErr result (AreSameTags tags.old tags.new) }
 {

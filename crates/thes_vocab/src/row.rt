@@ -25,8 +25,8 @@ impl Model for Row {
     ghost use Rattle.std.specs.List.Sorted.{IsStrictlySortedBy};
     ghost use Rattle.thes_base.specs.Data.{LabelData};
     ghost use Rattle.thes_vocab.specs.Places.{IsPlace, IsPreferredAt};
-ghost use Rattle.thes_vocab.specs.Taken.{takes_own, taken, gives};
-ghost use Rattle.thes_vocab.specs.LabelData.{data_cmp};
+    ghost use Rattle.thes_vocab.specs.Taken.{takes_own, taken, gives};
+    ghost use Rattle.thes_vocab.specs.LabelData.{data_cmp};
 
     ghost Value = { List LabelData };
 

@@ -71,7 +71,13 @@ fn drop_from(vocab: &mut Vocab, owner: ResNo, label: &Label) -> Outcome {
     Outcome::Done
 }
 
-fn rename(vocab: &mut Vocab, owner: ResNo, tag: &Tag, text: &Text, keep: bool) -> Result<Outcome, AllocError> {
+fn rename(
+    vocab: &mut Vocab,
+    owner: ResNo,
+    tag: &Tag,
+    text: &Text,
+    keep: bool,
+) -> Result<Outcome, AllocError> {
     if !is_live_owner(vocab, owner) {
         return Ok(Outcome::No(Refusal::NotLive));
     }
@@ -147,16 +153,29 @@ fn resources_are_numbered(rt: HostRuntime) -> Result<(), Fail> {
     let animals = ResNo::new(1);
     assert_eq!(rt; vocab.resource_count(), 4);
     assert_eq!(rt; vocab.label_count(), 4);
-    assert_eq!(rt; make(&mut vocab, concept(alloc, ResNo::new(9), "Dogs")?)?, Outcome::No(Refusal::UnknownResource));
-    assert_eq!(rt; make(&mut vocab, concept(alloc, ResNo::new(2), "Dogs")?)?, Outcome::No(Refusal::WrongKind));
-    assert_eq!(rt; make(&mut vocab, concept(alloc, animals, "Cats")?)?, Outcome::No(Refusal::PreferredTaken));
+    assert_eq!(rt;
+        make(&mut vocab, concept(alloc, ResNo::new(9), "Dogs")?)?,
+        Outcome::No(Refusal::UnknownResource)
+    );
+    assert_eq!(rt;
+        make(&mut vocab, concept(alloc, ResNo::new(2), "Dogs")?)?,
+        Outcome::No(Refusal::WrongKind)
+    );
+    assert_eq!(rt;
+        make(&mut vocab, concept(alloc, animals, "Cats")?)?,
+        Outcome::No(Refusal::PreferredTaken)
+    );
     let house = NewResource::Collection(animals, tag(alloc, "en")?, text(alloc, "House animals")?);
     assert_eq!(rt; make(&mut vocab, house)?, Outcome::Number(5));
     let cats = NewResource::Collection(animals, tag(alloc, "en")?, text(alloc, "Cats")?);
     assert_eq!(rt; make(&mut vocab, cats)?, Outcome::Number(6));
     assert!(rt; vocab.is_live(ResNo::new(5)));
     assert!(rt; !vocab.is_live(ResNo::new(7)));
-    assert!(rt; vocab.resource(ResNo::new(2)).is_some_and(|r| r.scheme == Some(ResNo::new(1))));
+    assert!(rt;
+        vocab
+            .resource(ResNo::new(2))
+            .is_some_and(|r| r.scheme == Some(ResNo::new(1)))
+    );
     Ok(())
 }
 
@@ -167,11 +186,24 @@ fn outside_concepts_are_known_by_their_iris(rt: HostRuntime) -> Result<(), Fail>
     let x = Iri::read(alloc, "http://example.org/x")?;
     let own = Iri::read(alloc, "https://thesaurus.example/id/9")?;
     assert_eq!(rt; vocab.outside(&x), None);
-    assert_eq!(rt; make(&mut vocab, NewResource::Outside(x.try_clone(alloc)?))?, Outcome::Number(5));
-    assert_eq!(rt; make(&mut vocab, NewResource::Outside(x.try_clone(alloc)?))?, Outcome::No(Refusal::OutsideKnown(5)));
-    assert_eq!(rt; make(&mut vocab, NewResource::Outside(own))?, Outcome::No(Refusal::WrongKind));
+    assert_eq!(rt;
+        make(&mut vocab, NewResource::Outside(x.try_clone(alloc)?))?,
+        Outcome::Number(5)
+    );
+    assert_eq!(rt;
+        make(&mut vocab, NewResource::Outside(x.try_clone(alloc)?))?,
+        Outcome::No(Refusal::OutsideKnown(5))
+    );
+    assert_eq!(rt;
+        make(&mut vocab, NewResource::Outside(own))?,
+        Outcome::No(Refusal::WrongKind)
+    );
     assert_eq!(rt; vocab.outside(&x), Some(ResNo::new(5)));
-    assert!(rt; vocab.outside_iri(ResNo::new(5)).is_some_and(|iri| *iri == x));
+    assert!(rt;
+        vocab
+            .outside_iri(ResNo::new(5))
+            .is_some_and(|iri| *iri == x)
+    );
     assert!(rt; vocab.outside_iri(ResNo::new(2)).is_none());
     assert!(rt; vocab.labels_of(ResNo::new(5)).is_empty());
     Ok(())
@@ -182,22 +214,63 @@ fn names_clash_and_change(rt: HostRuntime) -> Result<(), Fail> {
     let alloc = rt.alloc();
     let mut vocab = start(alloc)?;
     let (two, en, de) = (ResNo::new(2), tag(alloc, "en")?, tag(alloc, "de")?);
-    let (cats, felines, pets) = (text(alloc, "Cats")?, text(alloc, "Felines")?, text(alloc, "Pets")?);
-    assert_eq!(rt; add(&mut vocab, two, &alternative(alloc, "en", "Cats")?)?, Outcome::No(Refusal::S13));
-    assert_eq!(rt; add(&mut vocab, two, &preferred(alloc, "en", "Felines")?)?, Outcome::No(Refusal::S14));
-    assert_eq!(rt; add(&mut vocab, two, &preferred(alloc, "en", "Cats")?)?, Outcome::No(Refusal::LabelThere));
-    assert_eq!(rt; rename(&mut vocab, two, &en, &cats, true)?, Outcome::No(Refusal::S13));
+    let (cats, felines, pets) = (
+        text(alloc, "Cats")?,
+        text(alloc, "Felines")?,
+        text(alloc, "Pets")?,
+    );
+    assert_eq!(rt;
+        add(&mut vocab, two, &alternative(alloc, "en", "Cats")?)?,
+        Outcome::No(Refusal::S13)
+    );
+    assert_eq!(rt;
+        add(&mut vocab, two, &preferred(alloc, "en", "Felines")?)?,
+        Outcome::No(Refusal::S14)
+    );
+    assert_eq!(rt;
+        add(&mut vocab, two, &preferred(alloc, "en", "Cats")?)?,
+        Outcome::No(Refusal::LabelThere)
+    );
+    assert_eq!(rt;
+        rename(&mut vocab, two, &en, &cats, true)?,
+        Outcome::No(Refusal::S13)
+    );
     assert_eq!(rt; rename(&mut vocab, two, &en, &cats, false)?, Outcome::Done);
-    assert_eq!(rt; rename(&mut vocab, two, &en, &pets, false)?, Outcome::No(Refusal::PreferredTaken));
-    assert_eq!(rt; drop_from(&mut vocab, two, &preferred(alloc, "en", "Cats")?), Outcome::No(Refusal::LastPreferred));
-    assert_eq!(rt; drop_from(&mut vocab, two, &alternative(alloc, "en", "Cats")?), Outcome::No(Refusal::NoSuchLabel));
-    assert_eq!(rt; rename(&mut vocab, two, &de, &cats, false)?, Outcome::No(Refusal::NoSuchLabel));
-    assert_eq!(rt; rename(&mut vocab, two, &en, &felines, true)?, Outcome::Done);
+    assert_eq!(rt;
+        rename(&mut vocab, two, &en, &pets, false)?,
+        Outcome::No(Refusal::PreferredTaken)
+    );
+    assert_eq!(rt;
+        drop_from(&mut vocab, two, &preferred(alloc, "en", "Cats")?),
+        Outcome::No(Refusal::LastPreferred)
+    );
+    assert_eq!(rt;
+        drop_from(&mut vocab, two, &alternative(alloc, "en", "Cats")?),
+        Outcome::No(Refusal::NoSuchLabel)
+    );
+    assert_eq!(rt;
+        rename(&mut vocab, two, &de, &cats, false)?,
+        Outcome::No(Refusal::NoSuchLabel)
+    );
+    assert_eq!(rt;
+        rename(&mut vocab, two, &en, &felines, true)?,
+        Outcome::Done
+    );
     let own = vocab.labels_of(two);
     assert_eq!(rt; own.len(), 2);
-    assert!(rt; own.first().is_some_and(|l| l.kind() == LabelKind::Pref && l.text() == "Felines"));
-    assert!(rt; own.last().is_some_and(|l| l.kind() == LabelKind::Alt && l.text() == "Cats"));
-    assert!(rt; vocab.preferred(two, &en).is_some_and(|text| text.as_str() == "Felines"));
+    assert!(rt;
+        own.first()
+            .is_some_and(|l| l.kind() == LabelKind::Pref && l.text() == "Felines")
+    );
+    assert!(rt;
+        own.last()
+            .is_some_and(|l| l.kind() == LabelKind::Alt && l.text() == "Cats")
+    );
+    assert!(rt;
+        vocab
+            .preferred(two, &en)
+            .is_some_and(|text| text.as_str() == "Felines")
+    );
     Ok(())
 }
 
@@ -206,12 +279,34 @@ fn languages_are_kept_apart(rt: HostRuntime) -> Result<(), Fail> {
     let alloc = rt.alloc();
     let mut vocab = start(alloc)?;
     let two = ResNo::new(2);
-    assert_eq!(rt; add(&mut vocab, two, &preferred(alloc, "EN-GB", "Moggies")?)?, Outcome::Done);
-    assert_eq!(rt; add(&mut vocab, two, &preferred(alloc, "en-gb", "Mousers")?)?, Outcome::No(Refusal::S14));
-    assert_eq!(rt; add(&mut vocab, two, &preferred(alloc, "abcdefgh", "Cats")?)?, Outcome::Done);
-    assert_eq!(rt; add(&mut vocab, ResNo::new(3), &preferred(alloc, "en-gb", "Moggies")?)?, Outcome::No(Refusal::PreferredTaken));
-    assert_eq!(rt; drop_from(&mut vocab, two, &preferred(alloc, "en", "Cats")?), Outcome::Done);
-    assert_eq!(rt; make(&mut vocab, concept(alloc, ResNo::new(1), "Cats")?)?, Outcome::Number(5));
+    assert_eq!(rt;
+        add(&mut vocab, two, &preferred(alloc, "EN-GB", "Moggies")?)?,
+        Outcome::Done
+    );
+    assert_eq!(rt;
+        add(&mut vocab, two, &preferred(alloc, "en-gb", "Mousers")?)?,
+        Outcome::No(Refusal::S14)
+    );
+    assert_eq!(rt;
+        add(&mut vocab, two, &preferred(alloc, "abcdefgh", "Cats")?)?,
+        Outcome::Done
+    );
+    assert_eq!(rt;
+        add(
+            &mut vocab,
+            ResNo::new(3),
+            &preferred(alloc, "en-gb", "Moggies")?
+        )?,
+        Outcome::No(Refusal::PreferredTaken)
+    );
+    assert_eq!(rt;
+        drop_from(&mut vocab, two, &preferred(alloc, "en", "Cats")?),
+        Outcome::Done
+    );
+    assert_eq!(rt;
+        make(&mut vocab, concept(alloc, ResNo::new(1), "Cats")?)?,
+        Outcome::Number(5)
+    );
     Ok(())
 }
 
@@ -221,7 +316,10 @@ fn a_note_clashes_with_no_name(rt: HostRuntime) -> Result<(), Fail> {
     let mut vocab = start(alloc)?;
     let note = label(alloc, "en", LabelValue::Scope(Note::read(alloc, "Cats")?))?;
     assert_eq!(rt; add(&mut vocab, ResNo::new(2), &note)?, Outcome::Done);
-    assert_eq!(rt; add(&mut vocab, ResNo::new(2), &note)?, Outcome::No(Refusal::LabelThere));
+    assert_eq!(rt;
+        add(&mut vocab, ResNo::new(2), &note)?,
+        Outcome::No(Refusal::LabelThere)
+    );
     assert_eq!(rt; vocab.label_count(), 5);
     Ok(())
 }
@@ -230,13 +328,24 @@ fn a_note_clashes_with_no_name(rt: HostRuntime) -> Result<(), Fail> {
 fn a_dead_concept_frees_its_name(rt: HostRuntime) -> Result<(), Fail> {
     let alloc = rt.alloc();
     let mut vocab = start(alloc)?;
-    let (animals, two, three, en) = (ResNo::new(1), ResNo::new(2), ResNo::new(3), tag(alloc, "en")?);
+    let (animals, two, three, en) = (
+        ResNo::new(1),
+        ResNo::new(2),
+        ResNo::new(3),
+        tag(alloc, "en")?,
+    );
     let (cats, felines) = (text(alloc, "Cats")?, text(alloc, "Felines")?);
     assert_eq!(rt; vocab.holder(animals, &en, &cats), Some(two));
     assert_eq!(rt; merge(&mut vocab, two, three)?, Outcome::Moved(1));
-    assert_eq!(rt; rename(&mut vocab, two, &en, &felines, false)?, Outcome::No(Refusal::NotLive));
+    assert_eq!(rt;
+        rename(&mut vocab, two, &en, &felines, false)?,
+        Outcome::No(Refusal::NotLive)
+    );
     assert_eq!(rt; vocab.holder(animals, &en, &cats), None);
-    assert_eq!(rt; make(&mut vocab, concept(alloc, animals, "Cats")?)?, Outcome::Number(5));
+    assert_eq!(rt;
+        make(&mut vocab, concept(alloc, animals, "Cats")?)?,
+        Outcome::Number(5)
+    );
     assert_eq!(rt; vocab.holder(animals, &en, &cats), Some(ResNo::new(5)));
     Ok(())
 }
@@ -246,8 +355,14 @@ fn a_merge_takes_what_the_target_lacks(rt: HostRuntime) -> Result<(), Fail> {
     let alloc = rt.alloc();
     let mut vocab = start(alloc)?;
     let (two, three) = (ResNo::new(2), ResNo::new(3));
-    assert_eq!(rt; add(&mut vocab, two, &hidden(alloc, "en", "Kitty")?)?, Outcome::Done);
-    assert_eq!(rt; add(&mut vocab, three, &alternative(alloc, "en", "Kitty")?)?, Outcome::Done);
+    assert_eq!(rt;
+        add(&mut vocab, two, &hidden(alloc, "en", "Kitty")?)?,
+        Outcome::Done
+    );
+    assert_eq!(rt;
+        add(&mut vocab, three, &alternative(alloc, "en", "Kitty")?)?,
+        Outcome::Done
+    );
     assert_eq!(rt; merge(&mut vocab, two, three)?, Outcome::Moved(1));
     let own = vocab.labels_of(three);
     assert_eq!(rt; own.len(), 3);

@@ -36,7 +36,7 @@ impl Model for Vocab {
     ghost use Rattle.std.specs.FinMap as dict;
     ghost use Rattle.std.specs.FinSet as set;
     ghost use Rattle.thes_vocab.specs.LabelData.{AreLabelsOf};
-ghost use Rattle.thes_vocab.specs.Vocabulary.{Vocabulary};
+    ghost use Rattle.thes_vocab.specs.Vocabulary.{Vocabulary};
 
     ghost Value = { Vocabulary };
 

@@ -1,19 +1,12 @@
-use Rattle.std.proofs.Common.{◌≡◌, sym, ◌∙◌, arith}
-use Rattle.thes_base.specs.declared.data.Link.{Link}
 use Rattle.thes_base.specs.Links.{HeldIn}
-use Rattle.thes_graph.specs.Local.{NoCycleAt}
-use Rattle.thes_graph.proofs.WholeLemmas.{holds_more, holds_all, no_cycle_all}
+use Rattle.thes_graph.proofs.WholeLemmas.{no_cycle_levels}
 use Rattle.thes_graph.proofs.whole.has_cycle.Goals as goal
 
-pub loop-link-preserved : goal.loop-link-preserved
-loop-link-preserved g c = record {
-  held = c.in_ok-is_on_cycle.ensures.held ∙ c.loop-link.invariant.held;
-  none =
-      holds_more (λ l. NoCycleAt (HeldIn (g.L.Links.held c.args.links.now)) l.a) c.args.all.now c.loop-link.link-index c.link-item.result c.loop-link-test.true c.link-item.is c.loop-link.invariant.none
-      (rw (c.if-branch.false, c.loop-link.invariant.held) at c.in_ok-is_on_cycle.ensures.cycle);
-}
+pub returns-in-None-clause-cycle : goal.returns-in-None-clause-cycle
+returns-in-None-clause-cycle g c =
+    no_cycle_levels c.in_ok-levels.levels (HeldIn (g.L.Links.held c.args.links.now)) (λ l held. c.in-None.ensures l (c.requires.complete l held))
 
 pub returns-clause-cycle : goal.returns-clause-cycle
 returns-clause-cycle g c =
-    no_cycle_all (HeldIn (g.L.Links.held c.args.links.now))
-    (λ l held. holds_all (λ l. NoCycleAt (HeldIn (g.L.Links.held c.args.links.now)) l.a) c.args.all.now c.loop-link.link-index (omega arith) c.loop-link.invariant.none l (c.requires.complete l held))
+    let found = c.in_ok-found.ensures.cycle in
+    rw (c.in_ok-is_on_cycle-in-Some.ensures.held, c.climb-suspect.ensures, c.in_ok-levels.ensures) at found

@@ -33,5 +33,5 @@ returns-clause-ok c =
     let is = inserted rows c.insert-3.new.self c.args.owner now c.in_ok-insert-2.ensures.updates in
     let none = ap (λ (m : BTreeMap ℕ (List LabelData)). row_of m c.args.owner) c.get_mut.follows.holds-at-none ∙ ap (λ (o : Option (List LabelData)). unwrap_or o []) (sym c.in_default.ensures.value) in
     let put = row_put rows c.insert-3.new.self c.args.owner now c.args.label is
-        (λ q. c.in_ok-insert.ensures.ok q ∙ ap (λ row. eq_by_cmp data_cmp q c.args.label || has_own row q) (c.new-row.ensures ∙ sym none)) in
+    (λ q. c.in_ok-insert.ensures.ok q ∙ ap (λ row. eq_by_cmp data_cmp q c.args.label || has_own row q) (c.new-row.ensures ∙ sym none)) in
     subst (λ (m : BTreeMap ℕ (List LabelData)). IsPut m c.insert-3.new.self c.args.owner c.args.label) c.get_mut.follows.holds-at-none put

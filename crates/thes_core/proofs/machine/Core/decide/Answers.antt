@@ -15,7 +15,7 @@ pub returns-in-Some-2-clause-ok : goal.returns-in-Some-2-clause-ok
 returns-in-Some-2-clause-ok g c =
     let t = c.self.inside.thesaurus in
     let step = step_of_refused (setting_of t) (state_of t) c.args.command.now c.in-Some-2.refusal c.in_default.ensures.none
-        (subst (λ (x : Option Refusal). row_of (setting_of t) (state_of t) (next_state c.args.command.now (state_of t)) c.args.command.now x) c.in-Some-2.is c.in_ok-refusal.ensures) in
+    (subst (λ (x : Option Refusal). row_of (setting_of t) (state_of t) (next_state c.args.command.now (state_of t)) c.args.command.now x) c.in-Some-2.is c.in_ok-refusal.ensures) in
     let setting = ap (λ (k : Kept). k.setting) c.self.view_is in
     let state = ap (λ (k : Kept). k.state) c.self.view_is ∙ c.requires.1 in
     subst (λ (s : State). Step c.args.self.now.setting s c.args.command.now (reply.No c.in-Some-2.refusal) s) state

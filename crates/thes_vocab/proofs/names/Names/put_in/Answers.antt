@@ -14,7 +14,7 @@ returns-in-Some-clause-ok c =
     let new = record c.args.self.now { schemes = after } in
     on_ok_weaker c.put_tag.result
     (λ put. subst (λ (p : List ℕ × List ℕ). IsPut c.args.self.now new c.args.scheme p.0 p.1 (Some c.args.concept)) (λ i. (c.in_ok-tag.ensures i, c.in_ok-text.ensures i))
-      (scheme_put c.args.self.now.alloc c.args.self.now.schemes after c.args.scheme c.in-Some.tags.now now set before c.in_ok-tag.tag c.in_ok-text.text (Some c.args.concept) put))
+    (scheme_put c.args.self.now.alloc c.args.self.now.schemes after c.args.scheme c.in-Some.tags.now now set before c.in_ok-tag.tag c.in_ok-text.text (Some c.args.concept) put))
     c.put_tag.ensures.ok
 
 pub returns-in-Some-clause-err : goal.returns-in-Some-clause-err

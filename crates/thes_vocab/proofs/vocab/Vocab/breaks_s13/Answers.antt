@@ -17,7 +17,7 @@ returns-then-ne c =
     let tag = ap (λ (x : LabelData). x.tag) c.label.view_is in
     let s13 = subst (λ (v : Vocabulary). S13 v.labels) c.self.view_is c.self.invariant.named.disjoint in
     let answer : c.has_name.result ≡ has_name v.labels l.owner l.tag l.text =
-        c.has_name.ensures ∙ (λ i. has_name (c.self.view_is i).labels c.args.owner (tag i) (c.text.ensures i)) in
+    c.has_name.ensures ∙ (λ i. has_name (c.self.view_is i).labels c.args.owner (tag i) (c.text.ensures i)) in
     matched c.has_name.result _ _ (λ yes. breaks_s13 v.labels l c.requires (name_unless_scope l.kind apart) (sym answer ∙ yes)) (λ never. keeps_s13 v.labels l s13 (inr (sym answer ∙ never)))
 
 pub returns-else-ne : goal.returns-else-ne

@@ -17,7 +17,7 @@ returns c =
     let l = owned c.args.owner c.args.label.now in
     let tag = ap (λ (x : LabelData). x.tag) c.label.view_is in
     let there : set.contains v.labels l ≡ true =
-        (λ i. set.contains (sym c.self.view_is i).labels (label c.args.owner (sym c.kind.ensures i) (sym tag i) (sym c.text.ensures i))) ∙ sym c.contains.ensures ∙ c.if-not-contains.false in
+    (λ i. set.contains (sym c.self.view_is i).labels (label c.args.owner (sym c.kind.ensures i) (sym tag i) (sym c.text.ensures i))) ∙ sym c.contains.ensures ∙ c.if-not-contains.false in
     let leaves : LeavesPreferred v.labels l = elim c.else-eq.branch [
       | else-eq-via-then-eq+else-not-has_two_preferred w ↦
           let two : HasTwoPreferred c.self.inside.labels c.args.owner = search rules in

@@ -1,4 +1,0 @@
-pub mod Vocabulary
-pub mod Requests
-pub mod LabelData
-pub mod Rivals

@@ -1,6 +1,0 @@
-//! stub
-/// stub
-pub trait Oracle {
-    fn absurd(&self)
-        ensures { ⊥ };
-}

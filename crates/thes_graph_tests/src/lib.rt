@@ -1,0 +1,5 @@
+//! Tests of the graph of links.
+#![tactic(auto)]
+
+#[cfg(test)]
+mod tests;

@@ -1,0 +1,451 @@
+//! The worked examples on links, and the answers for graphs from a fixed list of numbers beside those of a plain program, which is the
+//! definitions read off a list.
+use thes_graph::graph::Graph;
+use thes_graph::judge::{check_at, judge_add, judge_contract};
+use thes_graph::links::Links;
+use std::alloc::{AllocError, Global};
+use std::collections::BTreeSet;
+use std::process::Abort;
+use std::test::Fail;
+use thes_base::data::{Link, LinkKind};
+use thes_base::fault::Refusal;
+use thes_base::number::ResNo;
+
+fn no(n: u32) -> ResNo {
+    ResNo::new(n.max(1))
+}
+
+fn link(kind: LinkKind, a: u32, b: u32) -> Link {
+    Link {
+        kind,
+        a: no(a),
+        b: no(b),
+    }
+}
+
+// Marks an outside concept, which has no links yet.
+fn mark(graph: &mut Graph, n: u32) -> Result<(), AllocError> {
+    let n = no(n);
+    graph.drop_all(n);
+    graph.mark_outside(n)
+}
+
+// What speaks against the link, where the graph keeps the rules.
+fn judge(alloc: Global, graph: &Graph, link: &Link) -> Result<Option<Refusal>, AllocError> {
+    if link.a == link.b {
+        return Ok(Some(Refusal::SameResource));
+    }
+    match graph.check_whole(alloc)? {
+        None => {
+            let mut walk = graph.walk();
+            judge_add(alloc, &mut walk, link)
+        }
+        Some(refusal) => Ok(Some(refusal)),
+    }
+}
+
+// Adds the link, unless something speaks against it.
+fn try_add(alloc: Global, graph: &mut Graph, link: &Link) -> Result<Option<Refusal>, AllocError> {
+    let answer = judge(alloc, graph, link)?;
+    if answer.is_none() && link.a != link.b {
+        graph.add(link)?;
+    }
+    Ok(answer)
+}
+
+// What speaks against the merge, where the graph keeps the rules.
+fn judge_merge(
+    alloc: Global,
+    graph: &Graph,
+    source: u32,
+    target: u32,
+) -> Result<Option<Refusal>, AllocError> {
+    let (source, target) = (no(source), no(target));
+    if source == target {
+        return Ok(Some(Refusal::SameResource));
+    }
+    match graph.check_whole(alloc)? {
+        None => {
+            let mut walk = graph.walk();
+            judge_contract(alloc, &mut walk, source, target)
+        }
+        Some(refusal) => Ok(Some(refusal)),
+    }
+}
+
+type Step = (LinkKind, u32, u32, Option<Refusal>);
+
+// Tries the links in turn, each with the answer that is wanted.
+fn run(rt: &impl Abort, alloc: Global, graph: &mut Graph, steps: &[Step]) -> Result<(), Fail> {
+    for (i, (kind, a, b, wanted)) in steps.iter().enumerate() {
+        let answer = try_add(alloc, graph, &link(*kind, *a, *b))?;
+        assert_eq!(rt; answer, *wanted, "at step {i}");
+    }
+    Ok(())
+}
+
+use LinkKind::{Broad, Broader, Close, Exact, Member, Narrow, RelMatch, Related};
+
+#[test]
+fn worked_links(rt: HostRuntime) -> Result<(), Fail> {
+    let alloc = rt.alloc();
+    let tables: [&[Step]; 6] = [
+        &[
+            (Broader, 2, 3, None),
+            (Broader, 3, 4, None),
+            (Broader, 4, 2, Some(Refusal::Cycle)),
+            (Broader, 2, 3, Some(Refusal::LinkThere)),
+        ],
+        &[
+            (Broader, 2, 3, None),
+            (Broader, 3, 4, None),
+            (Related, 4, 2, Some(Refusal::S27)),
+        ],
+        &[
+            (Related, 4, 2, None),
+            (Broader, 2, 3, None),
+            (Broader, 3, 4, Some(Refusal::S27)),
+        ],
+        &[
+            (Broad, 2, 9, None),
+            (Narrow, 4, 9, None),
+            (Related, 2, 4, Some(Refusal::S27)),
+            (Narrow, 2, 9, Some(Refusal::Cycle)),
+        ],
+        &[
+            (Exact, 2, 9, None),
+            (Exact, 7, 9, None),
+            (Broad, 2, 7, Some(Refusal::S46)),
+        ],
+        &[
+            (Related, 2, 4, None),
+            (Broad, 2, 9, None),
+            (Narrow, 4, 9, Some(Refusal::S27)),
+            (Exact, 6, 2, None),
+            (Exact, 2, 6, Some(Refusal::LinkThere)),
+            (Broad, 2, 7, None),
+            (Broad, 7, 2, Some(Refusal::Cycle)),
+            (RelMatch, 7, 2, Some(Refusal::S27)),
+        ],
+    ];
+    for steps in tables {
+        let mut graph = Graph::new(alloc);
+        mark(&mut graph, 9)?;
+        run(&rt, alloc, &mut graph, steps)?;
+    }
+    Ok(())
+}
+
+// The merge of the first node into the second after these links, and the answer that is wanted.
+type Merge<'a> = (&'a [Step], u32, u32, Option<Refusal>);
+
+#[test]
+fn worked_merges(rt: HostRuntime) -> Result<(), Fail> {
+    let alloc = rt.alloc();
+    let tables: [Merge; 3] = [
+        (&[(Broader, 2, 3, None)], 2, 3, None),
+        (
+            &[
+                (Broader, 2, 3, None),
+                (Broader, 2, 4, None),
+                (Broader, 4, 3, None),
+            ],
+            2,
+            3,
+            Some(Refusal::Cycle),
+        ),
+        (
+            &[(Broader, 3, 4, None), (Related, 2, 4, None)],
+            2,
+            3,
+            Some(Refusal::S27),
+        ),
+    ];
+    for (steps, source, target, wanted) in tables {
+        let mut graph = Graph::new(alloc);
+        run(&rt, alloc, &mut graph, steps)?;
+        assert_eq!(rt; judge_merge(alloc, &graph, source, target)?, wanted);
+    }
+    Ok(())
+}
+
+// A merge takes the links along, without those from the target to itself, and equal ones once.
+#[test]
+fn merged_links(rt: HostRuntime) -> Result<(), Fail> {
+    let alloc = rt.alloc();
+    let mut graph = Graph::new(alloc);
+    mark(&mut graph, 5)?;
+    let steps = [
+        (Broader, 2, 3, None),
+        (Related, 2, 4, None),
+        (Related, 3, 4, None),
+        (Exact, 2, 5, None),
+        (Member, 8, 2, None),
+    ];
+    run(&rt, alloc, &mut graph, &steps)?;
+    let (source, target) = (no(2), no(3));
+    if source != target {
+        graph.contract(source, target)?;
+    }
+    assert_eq!(rt; graph.size(), 3);
+    assert!(rt; graph.has(&link(Exact, 3, 5)));
+    assert!(rt; !graph.has(&link(Exact, 2, 5)));
+    assert!(rt; graph.broader_of(alloc, no(3))?.is_empty());
+    assert!(rt; graph.narrower_of(alloc, no(3))?.is_empty());
+    assert!(rt; graph.related_of(alloc, no(3))?.as_slice() == [no(4)].as_slice());
+    assert!(rt; graph.collections_of(alloc, no(3))?.as_slice() == [no(8)].as_slice());
+    graph.remove(&link(Related, 4, 3));
+    graph.drop_all(no(5));
+    assert_eq!(rt; graph.size(), 1);
+    Ok(())
+}
+
+#[test]
+fn readers_in_order(rt: HostRuntime) -> Result<(), Fail> {
+    let alloc = rt.alloc();
+    let mut graph = Graph::new(alloc);
+    mark(&mut graph, 9)?;
+    let steps = [
+        (Broader, 4, 2, None),
+        (Broader, 3, 2, None),
+        (Related, 8, 4, None),
+        (Related, 1, 4, None),
+        (RelMatch, 4, 9, None),
+        (Narrow, 7, 4, None),
+        (Broad, 4, 6, None),
+        (Close, 4, 5, None),
+        (Close, 10, 4, None),
+        (Narrow, 4, 12, None),
+        (Exact, 4, 11, None),
+    ];
+    run(&rt, alloc, &mut graph, &steps)?;
+    assert!(rt; graph.broader_of(alloc, no(4))?.as_slice() == [no(2)].as_slice());
+    assert!(rt; graph.narrower_of(alloc, no(2))?.as_slice() == [no(3), no(4)].as_slice());
+    assert!(rt; graph.related_of(alloc, no(4))?.as_slice() == [no(1), no(8)].as_slice());
+    let wanted = [
+        (Broad, no(6)),
+        (Broad, no(7)),
+        (Close, no(5)),
+        (Close, no(10)),
+        (Exact, no(11)),
+        (Narrow, no(12)),
+        (RelMatch, no(9)),
+    ];
+    assert!(rt; graph.mapped(alloc, no(4))?.as_slice() == wanted.as_slice());
+    Ok(())
+}
+
+// How many visits it takes to judge the link, where nothing speaks against it.
+fn visits(alloc: Global, graph: &Graph, link: &Link) -> Result<Option<u64>, AllocError> {
+    if link.a == link.b {
+        return Ok(None);
+    }
+    match graph.check_whole(alloc)? {
+        None => {
+            let mut walk = graph.walk();
+            let answer = judge_add(alloc, &mut walk, link)?;
+            Ok(answer.is_none().then_some(walk.visits()))
+        }
+        Some(_) => Ok(None),
+    }
+}
+
+// Links that are far from an edit aren't visited.
+#[test]
+fn visits_near_the_edit(rt: HostRuntime) -> Result<(), Fail> {
+    let alloc = rt.alloc();
+    let mut graph = Graph::new(alloc);
+    run(&rt, alloc, &mut graph, &[(Broader, 2, 3, None)])?;
+    for n in 5..505u32 {
+        run(&rt, alloc, &mut graph, &[(Broader, n, n + 1, None)])?;
+    }
+    assert_eq!(rt; visits(alloc, &graph, &link(Related, 2, 4))?, Some(5));
+    Ok(())
+}
+
+// The plain program. A link says that its second node is broader than its first, or with `exact` that they are exact matches.
+fn next(link: &Link, exact: bool, x: ResNo) -> Option<ResNo> {
+    match link.kind {
+        Exact if exact && link.a == x => Some(link.b),
+        Exact if exact && link.b == x => Some(link.a),
+        Broader | Broad if !exact && link.a == x => Some(link.b),
+        Narrow if !exact && link.b == x => Some(link.a),
+        _ => None,
+    }
+}
+
+// All that one or more steps lead to.
+fn chains(
+    alloc: Global,
+    links: &[Link],
+    exact: bool,
+    start: ResNo,
+) -> Result<BTreeSet<ResNo>, AllocError> {
+    let mut met = BTreeSet::new(alloc);
+    let mut list = vec![in alloc; start]?;
+    for i in 0..usize::MAX {
+        if i >= list.len() {
+            break;
+        }
+        let x = list[i];
+        for link in links {
+            if let Some(y) = next(link, exact, x)
+                && met.insert(y)?
+            {
+                list.push(y)?;
+            }
+        }
+    }
+    Ok(met)
+}
+
+fn plain(alloc: Global, links: &[Link]) -> Result<Option<Refusal>, AllocError> {
+    for link in links {
+        if chains(alloc, links, false, link.a)?.contains(&link.a)
+            || chains(alloc, links, false, link.b)?.contains(&link.b)
+        {
+            return Ok(Some(Refusal::Cycle));
+        }
+    }
+    for link in links {
+        if matches!(link.kind, Related | RelMatch)
+            && (chains(alloc, links, false, link.a)?.contains(&link.b)
+                || chains(alloc, links, false, link.b)?.contains(&link.a))
+        {
+            return Ok(Some(Refusal::S27));
+        }
+    }
+    for link in links {
+        if matches!(link.kind, Broad | Narrow | RelMatch)
+            && chains(alloc, links, true, link.a)?.contains(&link.b)
+        {
+            return Ok(Some(Refusal::S46));
+        }
+    }
+    Ok(None)
+}
+
+// The links after a merge, as a list that may hold one twice.
+fn plain_merge(
+    alloc: Global,
+    links: &[Link],
+    source: ResNo,
+    target: ResNo,
+) -> Result<Vec<Link>, AllocError> {
+    let mut merged = Vec::new(alloc);
+    for link in links {
+        let a = if link.a == source { target } else { link.a };
+        let b = if link.b == source { target } else { link.b };
+        if a != b {
+            merged.push(Link {
+                kind: link.kind,
+                a,
+                b,
+            })?;
+        }
+    }
+    Ok(merged)
+}
+
+// Numbers that are the same in each run.
+#[derive(Drop)]
+struct Numbers(u64);
+
+impl Numbers {
+    fn below(&mut self, n: u32) -> u32 {
+        self.0 = self
+            .0
+            .wrapping_mul(6364136223846793005)
+            .wrapping_add(1442695040888963407);
+        ((self.0 >> 33) % u64::from(n.max(1))) as u32
+    }
+
+    fn link(&mut self, nodes: u32) -> Link {
+        let kind = match self.below(10) {
+            0 | 1 | 2 => Broader,
+            3 => Related,
+            4 => Exact,
+            5 => Close,
+            6 => Broad,
+            7 => Narrow,
+            8 => RelMatch,
+            _ => Member,
+        };
+        let a = self.below(nodes);
+        let b = self.below(nodes);
+        link(kind, a.saturating_add(1), b.saturating_add(1))
+    }
+}
+
+// What the check at the pivot finds once the link, which has an end there, is added to a graph that keeps the rules.
+fn check_added(
+    alloc: Global,
+    graph: &mut Graph,
+    link: &Link,
+) -> Result<Option<Refusal>, AllocError> {
+    if link.a == link.b {
+        return Ok(Some(Refusal::SameResource));
+    }
+    match graph.check_whole(alloc)? {
+        None => {
+            graph.add(link)?;
+            let mut walk = graph.walk();
+            check_at(alloc, &mut walk, link.a)
+        }
+        Some(refusal) => Ok(Some(refusal)),
+    }
+}
+
+// Tries one link on a graph that keeps the rules, and compares each answer.
+fn compare(
+    rt: &impl Abort,
+    alloc: Global,
+    graph: &mut Graph,
+    list: &mut Vec<Link>,
+    new: &Link,
+) -> Result<(), Fail> {
+    let there = graph.has(new);
+    let answer = try_add(alloc, graph, new)?;
+    if there {
+        assert_eq!(rt; answer, Some(Refusal::LinkThere));
+        return Ok(());
+    }
+    list.push(*new)?;
+    assert_eq!(rt; answer, plain(alloc, list.as_slice())?);
+    if answer.is_some() {
+        assert_eq!(rt; check_added(alloc, graph, new)?, answer);
+        assert_eq!(rt; graph.check_whole(alloc)?, answer);
+        graph.remove(new);
+        list.pop();
+    }
+    Ok(())
+}
+
+#[test]
+fn as_the_plain_program(rt: HostRuntime) -> Result<(), Fail> {
+    let alloc = rt.alloc();
+    let mut numbers = Numbers(1);
+    for round in 0..200u32 {
+        let nodes = 3 + round % 28;
+        let mut graph = Graph::new(alloc);
+        let mut list = Vec::new(alloc);
+        mark(&mut graph, 1)?;
+        mark(&mut graph, 2)?;
+        for _ in 0..nodes {
+            let new = numbers.link(nodes);
+            if new.a != new.b {
+                compare(&rt, alloc, &mut graph, &mut list, &new)?;
+            }
+        }
+        let source = no(3);
+        let target = no(numbers.below(nodes).saturating_add(1));
+        if source != target {
+            let merged = plain_merge(alloc, list.as_slice(), source, target)?;
+            assert_eq!(rt;
+                judge_merge(alloc, &graph, 3, target.get())?,
+                plain(alloc, merged.as_slice())?
+            );
+        }
+    }
+    Ok(())
+}
