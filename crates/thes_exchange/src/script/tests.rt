@@ -27,7 +27,7 @@ impl Desk for Counter {
     ghost is_open = { λ desk. not desk.is_closed };
 
     fn perform(&mut self, command: &Command) -> Result<Answer, Fault> {
-        if self.count == self.most {
+        if self.count >= self.most {
             self.is_closed = true;
             return Err(Fault::OutOfMemory);
         }
@@ -207,7 +207,7 @@ const TEXT: &[u8] = b"{\"ok\":1}\n{\"bad\":\"NotJson\"}\n{}\n{\"ok\":2}\n";
 #[test]
 fn a_reader_that_breaks_leaves_whole_answers(rt: HostRuntime) -> Result<(), Fail> {
     let alloc = rt.alloc();
-    let mut ended = 0;
+    let mut ended = 0_u32;
     for calls in 0..80 {
         let mut reader = Pipe::new(Halting {
             bytes: INPUT,
@@ -226,7 +226,7 @@ fn a_reader_that_breaks_leaves_whole_answers(rt: HostRuntime) -> Result<(), Fail
         let failed = reader.failed();
         let text = writer.into_device().bytes;
         if result.is_ok() {
-            ended += 1;
+            ended = ended.saturating_add(1);
             assert!(rt; !failed && text.as_slice() == TEXT);
         } else {
             assert_eq!(rt; result, Err(PipeFault::Read));

@@ -1,5 +1,5 @@
 use super::{ConceptView, PostingRows, View, view_line};
-use std::alloc::Global;
+use std::alloc::{AllocError, Global};
 use std::test::Fail;
 use thes_base::data::{History, Label, LabelValue, LinkKind, Move, Moves, Totals};
 use thes_base::fault::Refusal;
@@ -100,13 +100,14 @@ fn postings(rt: HostRuntime) -> Result<(), Fail> {
     Ok(())
 }
 
-#[test]
-fn a_concept(rt: HostRuntime) -> Result<(), Fail> {
-    let alloc = rt.alloc();
-    let name = english(alloc, LabelValue::Pref(text_label(alloc, "Mammals")?))?;
-    let other = english(alloc, LabelValue::Alt(text_label(alloc, "Cats")?))?;
+// A list of one label.
+fn one<'a>(alloc: Global, label: &'a Label) -> Result<Vec<&'a Label>, AllocError> {
+    Ok(vec![in alloc; label]?)
+}
+
+fn plain_line<'a>(alloc: Global, name: &'a Label, other: &'a Label) -> Result<Vec<u8>, Fail> {
     let view = View::Concept(ConceptView {
-        alt: vec![in alloc; &other]?,
+        alt: one(alloc, other)?,
         broader: Vec::new(alloc),
         collections: Vec::new(alloc),
         hidden: Vec::new(alloc),
@@ -115,31 +116,39 @@ fn a_concept(rt: HostRuntime) -> Result<(), Fail> {
         narrower: Vec::new(alloc),
         number: res_no(3)?,
         postings: 1,
-        pref: vec![in alloc; &name]?,
+        pref: one(alloc, name)?,
         related: Vec::new(alloc),
         replaced: None,
         scheme: Some(res_no(1)?),
         scope: Vec::new(alloc),
         top: true,
     });
+    Ok(view_line(alloc, &view)?)
+}
+
+#[test]
+fn a_concept(rt: HostRuntime) -> Result<(), Fail> {
+    let alloc = rt.alloc();
+    let name = english(alloc, LabelValue::Pref(text_label(alloc, "Mammals")?))?;
+    let other = english(alloc, LabelValue::Alt(text_label(alloc, "Cats")?))?;
     assert_eq!(rt;
-        view_line(alloc, &view)?.as_slice(),
+        plain_line(alloc, &name, &other)?.as_slice(),
         b"{\"alt\":[[\"en\",\"Cats\"]],\"broader\":[],\"collections\":[],\"hidden\":[],\"live\":true,\"mappings\":[],\"narrower\":[],\"number\":3,\"postings\":1,\"pref\":[[\"en\",\"Mammals\"]],\"related\":[],\"replaced\":null,\"scheme\":1,\"scope\":[],\"top\":true}\n".as_slice()
     );
     Ok(())
 }
 
-#[test]
-fn a_linked_concept(rt: HostRuntime) -> Result<(), Fail> {
-    let alloc = rt.alloc();
-    let name = english(alloc, LabelValue::Pref(text_label(alloc, "a \"b\\c")?))?;
-    let secret = english(alloc, LabelValue::Hidden(text_label(alloc, "Katz")?))?;
-    let note = english(alloc, LabelValue::Scope(Note::read(alloc, "Of any age.")?))?;
+fn linked_line<'a>(
+    alloc: Global,
+    name: &'a Label,
+    secret: &'a Label,
+    note: &'a Label,
+) -> Result<Vec<u8>, Fail> {
     let view = View::Concept(ConceptView {
         alt: Vec::new(alloc),
         broader: vec![in alloc; res_no(3)?, res_no(4)?]?,
         collections: vec![in alloc; res_no(5)?]?,
-        hidden: vec![in alloc; &secret]?,
+        hidden: one(alloc, secret)?,
         live: false,
         mappings: vec![in alloc;
             (LinkKind::Broad, res_no(6)?),
@@ -148,15 +157,24 @@ fn a_linked_concept(rt: HostRuntime) -> Result<(), Fail> {
         narrower: vec![in alloc; res_no(8)?]?,
         number: res_no(2)?,
         postings: 0,
-        pref: vec![in alloc; &name]?,
+        pref: one(alloc, name)?,
         related: vec![in alloc; res_no(9)?]?,
         replaced: Some(res_no(3)?),
         scheme: Some(res_no(1)?),
-        scope: vec![in alloc; &note]?,
+        scope: one(alloc, note)?,
         top: false,
     });
+    Ok(view_line(alloc, &view)?)
+}
+
+#[test]
+fn a_linked_concept(rt: HostRuntime) -> Result<(), Fail> {
+    let alloc = rt.alloc();
+    let name = english(alloc, LabelValue::Pref(text_label(alloc, "a \"b\\c")?))?;
+    let secret = english(alloc, LabelValue::Hidden(text_label(alloc, "Katz")?))?;
+    let note = english(alloc, LabelValue::Scope(Note::read(alloc, "Of any age.")?))?;
     assert_eq!(rt;
-        view_line(alloc, &view)?.as_slice(),
+        linked_line(alloc, &name, &secret, &note)?.as_slice(),
         b"{\"alt\":[],\"broader\":[3,4],\"collections\":[5],\"hidden\":[[\"en\",\"Katz\"]],\"live\":false,\"mappings\":[[\"broad\",6],[\"relMatch\",7]],\"narrower\":[8],\"number\":2,\"postings\":0,\"pref\":[[\"en\",\"a \\\"b\\\\c\"]],\"related\":[9],\"replaced\":3,\"scheme\":1,\"scope\":[[\"en\",\"Of any age.\"]],\"top\":false}\n".as_slice()
     );
     Ok(())
