@@ -2,7 +2,6 @@
 use Rattle.std.proofs.Common.{◌≡◌, ◌≢◌, ◌∙◌, sym, ap, refl, ℕ, List, [], ◌∷◌, ◌++◌, ◌==◌, append_assoc, append-nil, Bool, true, false, cond, Option, Some, None, rules}
 use Rattle.std.specs.List.{slice_split, onto_first}
 use Rattle.std.specs.Str.Lines.{lines, lines_of_parts, strip_carriage_return}
-use Rattle.std.specs.Io.KnownBytes.{Consumes, IsAtEnd}
 use Rattle.thes_exchange.specs.Feed.{has_newline, line_text, TakesLine}
 use Rattle.thes_exchange.specs.Script.{whole_lines, whole_lines_of}
 

@@ -1,5 +1,5 @@
 -- A JSON text, and the members of an object.
-use Rattle.std.proofs.Common.{◌≡◌, ap, suc, refl, ℕ, Bool, true, false, cond, List, [], ◌∷◌, length, String, Global, Some, None, Option, option_and_then, option_map, ◌∙◌, sym, map, take, drop, ◌++◌, ◌<◌, ◌+◌, slice_index_or, subst, add-one, drop-cons, Err, IsUtf8}
+use Rattle.std.proofs.Common.{◌≡◌, ap, suc, refl, ℕ, true, false, cond, List, [], ◌∷◌, length, Some, None, Option, option_and_then, option_map, ◌∙◌, sym, map, take, drop, ◌++◌, ◌<◌, ◌+◌, slice_index_or, subst, add-one, drop-cons, Err, IsUtf8}
 use Rattle.std.proofs.Math.Seq.{take-suc}
 use Rattle.std.proofs.lemmas.List.{take-append-drop, map-append, length-map, get_or-map}
 use Rattle.thes_base.specs.Forms.{IsNumber}
@@ -12,7 +12,7 @@ use Rattle.std.proofs.lemmas.Str.{is_utf8-from_IsUtf8, IsUtf8-from_is_utf8}
 use Rattle.serde_json.specs.Data.{Data, Num}
 use Rattle.serde_json.specs.Read.{read}
 use Rattle.serde_json.specs.Find.{as_number}
-use Rattle.serde_json.specs.View.{view, number_view, members_view, items_of, items_view}
+use Rattle.serde_json.specs.View.{view, items_of, items_view}
 use Rattle.serde_json.specs.declared.value.Value.{Value}
 use Rattle.thes_exchange.specs.Members.{all_numbers}
 use Rattle.thes_exchange.specs.Requests.{json_in, whole, AreNumbers}

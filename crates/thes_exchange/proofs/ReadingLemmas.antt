@@ -1,5 +1,5 @@
 -- How one reading follows another.
-use Rattle.std.proofs.Common.{◌≡◌, ◌∙◌, refl, sym, subst, ap, inl, inr, Result, Ok, Err, rules}
+use Rattle.std.proofs.Common.{◌≡◌, ◌∙◌, refl, sym, subst, ap, inl, inr, Result, Ok, Err}
 use Rattle.thes_base.specs.declared.fault.FormFault.{FormFault}
 use Rattle.thes_base.specs.declared.fault.ReadStop.{ReadStop}
 use Rattle.thes_base.specs.declared.fault.ReadStop.TheVariants.{Form}

@@ -1,8 +1,7 @@
 -- No view has a number that is not whole, and a posting stands where its last move leads.
-use Rattle.std.proofs.Common.{◌≡◌, ◌-◌, refl, ℕ, List, [], ◌∷◌, map, length, false, Some, None, Option, slice_get, ap, subst, suc, arith}
+use Rattle.std.proofs.Common.{◌≡◌, ◌-◌, refl, ℕ, List, [], ◌∷◌, length, false, Some, None, Option, slice_get, ap, subst, suc, arith}
 use Rattle.serde_json.specs.Data.{Data, object, Members, no_members}
-use Rattle.serde_json.specs.View.{items_of}
-use Rattle.serde_json.specs.Written.{has_float, items_have_float}
+use Rattle.serde_json.specs.Written.{has_float}
 use Rattle.thes_base.specs.declared.data.History.{History}
 use Rattle.thes_base.specs.declared.data.Move.{Move}
 use Rattle.thes_base.specs.Postings.{led}

@@ -1,9 +1,8 @@
 -- The members of a request: those that its line of the table names, each of its kind.
-use Rattle.std.specs.Prelude.{ℕ, ◌==◌, Bool, true, false, List, [], ◌∷◌, Option, None, Some, option_and_then, option_map, if◌then◌else◌, ⊤}
+use Rattle.std.specs.Prelude.{ℕ, ◌==◌, Bool, false, List, [], ◌∷◌, Option, None, Some, option_and_then, option_map, if◌then◌else◌, ⊤}
 use Rattle.serde_json.specs.Data.{Num, Data, Items, no_items, item, Members}
 use Rattle.serde_json.specs.Events.{members_len}
 use Rattle.serde_json.specs.Find.{get, as_number, as_str, as_bool, as_array, as_object}
-use Rattle.thes_exchange.specs.Readings.{Reading, shaped}
 
 -- just so many members
 abbrev pub has_count : ℕ → Option Members → Bool

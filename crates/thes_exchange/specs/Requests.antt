@@ -14,7 +14,7 @@ use Rattle.thes_base.specs.declared.data.Link.{Link}
 use Rattle.thes_base.specs.declared.fault.FormFault.TheVariants as bad
 use Rattle.thes_base.specs.declared.request.Command.{Command}
 use Rattle.thes_base.specs.declared.request.Command.TheVariants as request
-use Rattle.thes_exchange.specs.Readings.{Reading, reads, fails, unless, ◌>>=◌, shaped, formed}
+use Rattle.thes_exchange.specs.Readings.{Reading, reads, fails, ◌>>=◌, shaped, formed}
 use Rattle.thes_exchange.specs.Members.{members_of, number_in, text_in, truth_in, numbers_in}
 use Rattle.thes_exchange.specs.Words.{label_kind_named, link_kind_named, verb_named, noun_named}
 use Rattle.thes_exchange.specs.declared.words.Verb.{Verb}

@@ -1,4 +1,4 @@
-use Rattle.std.proofs.Common.{rules, ◌≡◌, ◌++◌, ◌∷◌, [], ◌∙◌, Err, Some, None, inr, map, ap, sym, refl}
+use Rattle.std.proofs.Common.{rules, ◌≡◌, ◌++◌, ◌∷◌, [], Err, Some, None, inr, refl}
 use Rattle.std.proofs.lemmas.List.{map-append}
 use Rattle.serde_json.specs.Find.{as_number}
 use Rattle.serde_json.specs.View.{view, number_view}

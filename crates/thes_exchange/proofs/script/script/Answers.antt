@@ -1,6 +1,5 @@
 use Rattle.std.proofs.Common.{rules, arith}
-use Rattle.thes_exchange.proofs.ScriptLemmas.{known_map, known_all, served_begin, served_start, served_end, served_stopped}
-use Rattle.thes_exchange.specs.Script.{nothing_noted}
+use Rattle.thes_exchange.proofs.ScriptLemmas.{served_begin}
 use Rattle.thes_exchange.proofs.script.script.Goals as goal
 
 pub loop-lines-init : goal.loop-lines-init

@@ -1,5 +1,4 @@
-use Rattle.std.proofs.Common.{◌≡◌, List, ℕ, Some, ap, ◌∙◌, rules}
-use Rattle.thes_exchange.specs.declared.feed.Found.TheVariants.{Line}
+use Rattle.std.proofs.Common.{Some, ap, ◌∙◌}
 use Rattle.thes_exchange.specs.Script.{is_blank}
 use Rattle.thes_exchange.proofs.script.serve_line.Goals as goal
 

@@ -1,10 +1,5 @@
-use Rattle.std.proofs.Common.{rules, ◌≡◌, ◌≢◌, ◌≤◌, ◌<◌, ◌+◌, ℕ, Bool, List, [], ◌∷◌, ◌++◌, true, false, arith, inr, ◌==◌, ap, ◌∙◌, refl}
-use Rattle.std.specs.Str.Lines.{strip_carriage_return}
-use Rattle.std.specs.Io.KnownBytes.{Consumes}
-use Rattle.thes_base.proofs.PipeLemmas.{consumes_then}
-use Rattle.thes_base.specs.Pipe.{unread}
-use Rattle.thes_exchange.specs.Feed.{left}
-use Rattle.thes_exchange.proofs.FeedLemmas.{front_none, front_more}
+use Rattle.std.proofs.Common.{rules, arith}
+use Rattle.thes_exchange.proofs.FeedLemmas.{front_more}
 use Rattle.thes_exchange.proofs.feed.Feed.take_line.Goals as goal
 
 pub loop-taken-preserved : goal.loop-taken-preserved
