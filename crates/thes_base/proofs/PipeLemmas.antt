@@ -2,7 +2,9 @@
 use Rattle.std.proofs.Common.{◌≡◌, ◌∙◌, sym, ap, ℕ, ◌+◌, ◌≤◌, List, ◌++◌, length, take, drop, append-nil, take_all, le_refl, append_assoc, Option, Some, None, arith, ◌-◌, length-drop, length-append, []}
 use Rattle.std.proofs.Math.Seq.{take-add, take-append-add}
 use Rattle.std.specs.Io.KnownBytes.{Appends, Keeps, Consumes}
-use Rattle.thes_base.specs.Pipe.{AppendsFront}
+use Rattle.thes_base.specs.declared.fault.PipeFault.{PipeFault}
+use Rattle.thes_base.specs.declared.fault.PipeFault.TheVariants.{Read, Write, TooLong, Fault}
+use Rattle.thes_base.specs.Pipe.{AppendsFront, AppendsUntil}
 use Rattle.std.proofs.lemmas.List.{take-append-le}
 use Rattle.std.proofs.lemmas.Grind.{common_steps}
 
@@ -72,3 +74,17 @@ appends_none (Some v) = sym (append-nil v)
 -- all of a text is a front of it
 pub appends_front : (a b : Option (List ℕ)) (xs : List ℕ) → Appends a b xs → AppendsFront a b xs
 appends_front a b xs f = record { count = length xs; within = omega arith; front = rw (take_all (length xs) xs (le_refl (length xs))) f }
+
+-- all that was to be written was written
+pub appends_until : (fault : PipeFault) (a b : Option (List ℕ)) (xs : List ℕ) → Appends a b xs → AppendsUntil fault a b xs
+appends_until Read a b xs f = f
+appends_until Write a b xs f = appends_front a b xs f
+appends_until TooLong a b xs f = appends_front a b xs f
+appends_until (Fault e) a b xs f = f
+
+-- all of the first text, and then the second until it stopped
+pub until_then : (fault : PipeFault) (a b c : Option (List ℕ)) (xs ys : List ℕ) → Appends a b xs → AppendsUntil fault b c ys → AppendsUntil fault a c (xs ++ ys)
+until_then Read a b c xs ys f s = appends_then a b c xs ys f s
+until_then Write a b c xs ys f s = appends_front_then a b c xs ys f s
+until_then TooLong a b c xs ys f s = appends_front_then a b c xs ys f s
+until_then (Fault e) a b c xs ys f s = appends_then a b c xs ys f s

@@ -1,6 +1,6 @@
 -- A part of a row, judged alone, carries into the row: where it refuses, the row refuses with that name whatever
 -- its rest is; and where it refuses nothing, the row says what its rest says.
-use Rattle.std.proofs.Common.{◌≡◌, ◌≢◌, ◌⊎◌, ℕ, inl, inr, true}
+use Rattle.std.proofs.Common.{◌≡◌, ◌≢◌, ◌⊎◌, ℕ, inl, inr, refl}
 use Rattle.std.specs.Prelude.{Option, None, Some, List}
 use Rattle.std.specs.FinMap as dict
 use Rattle.std.specs.FinSet as set
@@ -18,13 +18,14 @@ use Rattle.thes_base.specs.Refusals.{unless_unique, unless_known, unless_scheme,
 pub record IsPart (part : Row → Row) : Type 1 where
   pub stops : (rest : Row) (name : Refusal) → part accepted (Some name) → part rest (Some name)
   pub passes : (rest : Row) (answer : Option Refusal) → part accepted None → rest answer → part rest answer
+  pub opens : (rest : Row) → part rest None → part accepted None × rest None
 
 -- no sentence
 nothing : IsPart (λ rest. rest)
-nothing = record { stops = λ rest name e. absurd (cc); passes = λ rest answer e says. says }
+nothing = record { stops = λ rest name e. absurd (cc); passes = λ rest answer e says. says; opens = λ rest says. (refl, says) }
 
 then_if : (sentence : Type 0) (name : Refusal) (part : Row → Row) → IsPart part → IsPart (λ rest. refused_if sentence name (part rest))
-then_if sentence name part is = record { stops = stops; passes = passes }
+then_if sentence name part is = record { stops = stops; passes = passes; opens = opens }
   where
     stops : (rest : Row) (other : Refusal) → refused_if sentence name (part accepted) (Some other) → refused_if sentence name (part rest) (Some other)
     stops rest other (inl found) = inl found
@@ -34,8 +35,12 @@ then_if sentence name part is = record { stops = stops; passes = passes }
     passes rest answer (inl (holds, e)) says = absurd (cc)
     passes rest answer (inr (holds_not, part_passes)) says = inr (holds_not, is.passes rest answer part_passes says)
 
+    opens : (rest : Row) → refused_if sentence name (part rest) None → refused_if sentence name (part accepted) None × rest None
+    opens rest (inl (holds, e)) = absurd (cc)
+    opens rest (inr (holds_not, says)) = let o = is.opens rest says in (inr (holds_not, o.0), o.1)
+
 then_unless : (condition : Type 0) (name : Refusal) (part : Row → Row) → IsPart part → IsPart (λ rest. refused_unless condition name (part rest))
-then_unless condition name part is = record { stops = stops; passes = passes }
+then_unless condition name part is = record { stops = stops; passes = passes; opens = opens }
   where
     stops : (rest : Row) (other : Refusal) → refused_unless condition name (part accepted) (Some other) → refused_unless condition name (part rest) (Some other)
     stops rest other (inl found) = inl found
@@ -44,6 +49,10 @@ then_unless condition name part is = record { stops = stops; passes = passes }
     passes : (rest : Row) (answer : Option Refusal) → refused_unless condition name (part accepted) None → rest answer → refused_unless condition name (part rest) answer
     passes rest answer (inl (holds_not, e)) says = absurd (cc)
     passes rest answer (inr (holds, part_passes)) says = inr (holds, is.passes rest answer part_passes says)
+
+    opens : (rest : Row) → refused_unless condition name (part rest) None → refused_unless condition name (part accepted) None × rest None
+    opens rest (inl (holds_not, e)) = absurd (cc)
+    opens rest (inr (holds, says)) = let o = is.opens rest says in (inr (holds, o.0), o.1)
 
 -- The parts of the rows.
 
@@ -56,8 +65,12 @@ known_part is_right resources n = then_unless _ _ (λ rest. refused_unless (is_r
 pub scheme_part : (resources : List Resource) (n : ℕ) → IsPart (unless_scheme resources n)
 scheme_part resources n = known_part (IsScheme resources) resources n
 
+-- a new concept of the scheme
+pub concept_part : (resources : List Resource) (n : ℕ) (after : List Resource) (labels : Labels) → IsPart (λ rest. unless_scheme resources n (unless_unique after labels rest))
+concept_part resources n after labels = then_unless _ _ _ (then_unless _ _ _ (unique_part after labels))
+
 pub foreign_part : (base : List ℕ) (iris : Iris) (iri : List ℕ) → IsPart (unless_foreign base iris iri)
-foreign_part base iris iri = then_if _ _ (λ rest answer. ((n : ℕ) × (dict.get iris n ≡ Some iri) × (answer ≡ Some (no.OutsideKnown n))) ⊎ (((n : ℕ) → dict.get iris n ≢ Some iri) × rest answer)) (record { stops = stops; passes = passes })
+foreign_part base iris iri = then_if _ _ (λ rest answer. ((n : ℕ) × (dict.get iris n ≡ Some iri) × (answer ≡ Some (no.OutsideKnown n))) ⊎ (((n : ℕ) → dict.get iris n ≢ Some iri) × rest answer)) (record { stops = stops; passes = passes; opens = opens })
   where
     stops : (rest : Row) (name : Refusal) → ((n : ℕ) × (dict.get iris n ≡ Some iri) × (Some name ≡ Some (no.OutsideKnown n))) ⊎ (((n : ℕ) → dict.get iris n ≢ Some iri) × accepted (Some name)) → ((n : ℕ) × (dict.get iris n ≡ Some iri) × (Some name ≡ Some (no.OutsideKnown n))) ⊎ (((n : ℕ) → dict.get iris n ≢ Some iri) × rest (Some name))
     stops rest name (inl known) = inl known
@@ -66,6 +79,10 @@ foreign_part base iris iri = then_if _ _ (λ rest answer. ((n : ℕ) × (dict.ge
     passes : (rest : Row) (answer : Option Refusal) → ((n : ℕ) × (dict.get iris n ≡ Some iri) × (None ≡ Some (no.OutsideKnown n))) ⊎ (((n : ℕ) → dict.get iris n ≢ Some iri) × accepted None) → rest answer → ((n : ℕ) × (dict.get iris n ≡ Some iri) × (answer ≡ Some (no.OutsideKnown n))) ⊎ (((n : ℕ) → dict.get iris n ≢ Some iri) × rest answer)
     passes rest answer (inl (n, has, e)) says = absurd (cc)
     passes rest answer (inr (fresh, _)) says = inr (fresh, says)
+
+    opens : (rest : Row) → ((n : ℕ) × (dict.get iris n ≡ Some iri) × (None ≡ Some (no.OutsideKnown n))) ⊎ (((n : ℕ) → dict.get iris n ≢ Some iri) × rest None) → (((n : ℕ) × (dict.get iris n ≡ Some iri) × (None ≡ Some (no.OutsideKnown n))) ⊎ (((n : ℕ) → dict.get iris n ≢ Some iri) × accepted None)) × rest None
+    opens rest (inl (n, has, e)) = absurd (cc)
+    opens rest (inr (fresh, says)) = (inr (fresh, refl), says)
 
 pub owner_part : (resources : List Resource) (n : ℕ) → IsPart (unless_owner resources n)
 owner_part resources n = then_unless _ _ _ (then_unless _ _ _ (then_unless _ _ (λ rest. rest) nothing))

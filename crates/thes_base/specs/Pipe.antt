@@ -1,6 +1,8 @@
 -- What is noted of a reader or a writer.
 use Rattle.std.specs.Prelude.{◌≡◌, ℕ, ◌≤◌, Bool, false, List, length, take, Option}
 use Rattle.std.specs.Io.KnownBytes.{Appends}
+use Rattle.thes_base.specs.declared.fault.PipeFault.{PipeFault}
+use Rattle.thes_base.specs.declared.fault.PipeFault.TheVariants.{Read, Write, TooLong, Fault}
 use Rattle.thes_base.specs.declared.pipe.Pipe.{Pipe}
 
 -- the reader or writer itself
@@ -32,3 +34,10 @@ pub record AppendsFront (old new : Option (List ℕ)) (bytes : List ℕ) : Type 
   pub count : ℕ
   pub within : count ≤ length bytes
   pub front : Appends old new (take count bytes)
+
+-- what was written of a text where an engine is stopped: all of it, or a front where a write failed or was one too many
+abbrev pub AppendsUntil : PipeFault → Option (List ℕ) → Option (List ℕ) → List ℕ → Type 0
+AppendsUntil Read old new text = Appends old new text
+AppendsUntil Write old new text = AppendsFront old new text
+AppendsUntil TooLong old new text = AppendsFront old new text
+AppendsUntil (Fault f) old new text = Appends old new text

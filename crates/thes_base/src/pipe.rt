@@ -1,10 +1,11 @@
 //! A reader or a writer that notes what its device did.
-ghost use Rattle.std.specs.Prelude.{◌≡◌, ◌≢◌, ◌+◌, ◌<◌, ◌≤◌, length, true, false, IsTrue, IfOk, IfErr, OnOk, OnErr, IsErrOf, ◌↔◌, ◌⊎◌};
+ghost use Rattle.std.specs.Prelude.{◌≡◌, ◌≢◌, ◌+◌, ◌<◌, ◌≤◌, ℕ, List, Option, length, true, false, IsTrue, IfOk, IfErr, OnOk, OnErr, IsErrOf, ◌↔◌, ◌⊎◌};
 ghost use Rattle.std.specs.Io.{ReadsAtMost, WritesAtMost};
 ghost use Rattle.std.specs.Io.KnownBytes.{ReadConsumes, WriteAppends, Appends};
 ghost use Rattle.std.specs.IoError.{error_kind};
-ghost use Rattle.thes_base.specs.Pipe.{device_of, failed_of, ended_of, IsFresh, unread, written, AppendsFront};
+ghost use Rattle.thes_base.specs.Pipe.{device_of, failed_of, ended_of, IsFresh, unread, written, AppendsFront, AppendsUntil};
 
+use crate::fault::PipeFault;
 use std::io;
 use std::io::{ErrorKind, Read, Write};
 use std::marker::Model;
@@ -50,6 +51,31 @@ pub enum Stop {
     Failed,
     /// The budget is used up.
     TooLong,
+}
+
+impl Stop {
+    /// What it is to an engine that read.
+    pub fn reading(self) -> PipeFault
+        ensures read { (result ≡ PipeFault.Read) ↔ (self ≡ Stop.Failed) }
+        ensures too_long { (result ≡ PipeFault.TooLong) ↔ (self ≡ Stop.TooLong) }
+    {
+        match self {
+            Stop::Failed => PipeFault::Read,
+            Stop::TooLong => PipeFault::TooLong,
+        }
+    }
+
+    /// What it is to an engine that wrote.
+    pub fn writing(self) -> PipeFault
+        ensures write { (result ≡ PipeFault.Write) ↔ (self ≡ Stop.Failed) }
+        ensures too_long { (result ≡ PipeFault.TooLong) ↔ (self ≡ Stop.TooLong) }
+        ensures front { (old new : Option (List ℕ)) (text : List ℕ) → AppendsFront old new text → AppendsUntil result old new text }
+    {
+        match self {
+            Stop::Failed => PipeFault::Write,
+            Stop::TooLong => PipeFault::TooLong,
+        }
+    }
 }
 
 // Whether the device gave up, rather than to be asked again.

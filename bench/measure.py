@@ -1,0 +1,69 @@
+"""What the benchmarks share: the built program, scripts of requests, and the clock."""
+
+import json
+import pathlib
+import subprocess
+import sys
+import time
+
+PROGRAM = str(pathlib.Path(__file__).resolve().parent.parent / "thesaurus")
+RUNS = 5
+
+
+def line(**members):
+    """A request as a line."""
+    return json.dumps(members, separators=(",", ":")) + "\n"
+
+
+def scheme_with(concepts):
+    """Requests that make scheme 1 and so many concepts, from number 2 on."""
+    yield line(do="scheme", tag="en", text="Bench")
+    for number in range(2, 2 + concepts):
+        yield line(do="concept", scheme=1, tag="en", text=f"Concept {number}")
+
+
+def posts(count, concepts):
+    """Requests that post so many records to the concepts in turn, from posting 1 on."""
+    for number in range(1, 1 + count):
+        yield line(do="post", key=f"k{number}", record=f"r{number}", concept=2 + (number - 1) % concepts)
+
+
+def run(script):
+    """The seconds of one run, and what the program wrote."""
+    begun = time.perf_counter()
+    ran = subprocess.run([PROGRAM, "script"], input=script, stdout=subprocess.PIPE, check=False)
+    seconds = time.perf_counter() - begun
+    if ran.returncode != 0:
+        refused = next((it for it in ran.stdout.splitlines() if it[2:4] in (b"no", b"ba", b"fa")), b"")
+        sys.exit(f"{PROGRAM} script ended with {ran.returncode}: {refused.decode()}")
+    return seconds, ran.stdout
+
+
+def seconds_of(requests):
+    """The seconds of the fastest of some runs. Each request must be accepted."""
+    requests = list(requests)
+    script = "".join(requests).encode()
+    best = None
+    for _ in range(RUNS):
+        seconds, answers = run(script)
+        if answers.count(b"\n") != len(requests):
+            sys.exit(f"{len(requests)} requests, and {answers.count(10)} answers")
+        best = seconds if best is None else min(best, seconds)
+    return best
+
+
+def build():
+    """Builds the program, so that no run is timed with its build."""
+    subprocess.run([PROGRAM, "--help"], stdout=subprocess.DEVNULL, check=True)
+
+
+def report(rows, bounds):
+    """Prints what was measured, and ends with 1 where it is past a bound. A bound is a name, a value and its most."""
+    for name, seconds in rows:
+        print(f"{name}: {seconds:.3f} s")
+    status = 0
+    for name, value, most in bounds:
+        held = value <= most
+        print(f"{name}: {value:.2f} (at most {most}): {'held' if held else 'NOT HELD'}")
+        status = status if held else 1
+    sys.exit(status)

@@ -1,0 +1,229 @@
+-- How much each request adds, and so when the limits leave room for it.
+use Rattle.std.proofs.Common.{◌≡◌, ◌≢◌, ◌⊎◌, ◌<◌, ◌≤◌, ℕ, zero, suc, ◌+◌, ◌-◌, length, List, [], ◌∷◌, ◌++◌, refl, sym, ap, ◌∙◌, subst, arith, inl, inr, Bool, true, false, cond, length-append, eq-eqb, ◌&&◌}
+use Rattle.std.specs.Prelude.{◌↔◌, Option, None, Some, find, max, count_by, option_map, if◌then◌else◌}
+use Rattle.std.specs.Ordering.{nat_cmp, is_eq}
+use Rattle.std.specs.Cmp.{tied_itself}
+use Rattle.std.proofs.lemmas.Cmp.{nat_list_cmp_total}
+use Rattle.std.specs.FinSet as set
+use Rattle.thes_base.specs.declared.data.Resource.{Resource}
+use Rattle.thes_base.specs.declared.data.LabelKind.{LabelKind}
+use Rattle.thes_base.specs.declared.data.LabelKind.TheVariants.{Pref, Alt, Hidden, Scope}
+use Rattle.thes_base.specs.declared.data.Link.{Link}
+use Rattle.thes_base.specs.declared.data.History.{History}
+use Rattle.thes_base.specs.declared.data.Limits.{Limits}
+use Rattle.thes_base.specs.Resources.{CanOwn, numbered, is_outside, set_numbered}
+use Rattle.thes_base.specs.Links.{HeldIn, norm, contracted}
+use Rattle.thes_base.proofs.LinkSets.{links_total}
+use Rattle.thes_base.specs.Labels.{Label, Labels, HasLabel, label_cmp, S13, S14, preferred_in, is_preferred_in}
+use Rattle.thes_base.specs.Postings.{move_count, stands_at, standing_count}
+use Rattle.thes_base.specs.State.{State, Within, Fits}
+use Rattle.thes_base.specs.Changes.{label, made, outside_made, label_added, labels_relabelled, relabelled, renamed, next_number, link_added, merged, taken_labels, split_off, is_listed, posted, killed, dead}
+use Rattle.thes_base.specs.Legal.{Legal, LegalLabels}
+use Rattle.thes_base.proofs.LabelSets.{len_inserted, labels_total, labels_exact, inserted_cases}
+use Rattle.thes_base.proofs.LabelsKept.{removed_cases}
+use Rattle.thes_base.proofs.PreferredLemmas.{preferred_found, preferred_of_label}
+use Rattle.thes_base.proofs.ResourceLemmas.{killed_at, length_set}
+use Rattle.std.proofs.lemmas.List.Sums.{sum_by-append, sum_by-cons}
+use Rattle.thes_base.specs.declared.data.Move.{Move}
+use Rattle.thes_base.proofs.MoveLemmas.{count_moved, length_moved}
+use Rattle.thes_base.proofs.NumberedLemmas.{numbered_bound}
+use Rattle.thes_core.specs.declared.room.Growth.{Growth}
+use Rattle.thes_core.specs.Room.{HasRoom}
+
+-- a count that rises by so many, or doesn't rise where it is to rise by none
+abbrev pub Rises : ℕ → ℕ → ℕ → Type 0
+Rises before after more = (after ≡ before + more) ⊎ ((more ≡ 0) × (after ≤ before))
+
+pub record Grows (s t : State) (growth : Growth) : Type 0 where
+  pub resources : Rises (length s.resources) (length t.resources) growth.resources
+  pub labels : Rises (set.len s.labels) (set.len t.labels) growth.labels
+  pub links : Rises (set.len s.links) (set.len t.links) growth.links
+  pub postings : Rises (length s.histories) (length t.histories) growth.postings
+  pub moves : Rises (move_count s.histories) (move_count t.histories) growth.moves
+
+fits_to : (limit before after more : ℕ) → Rises before after more → Fits limit before (before + more) → Fits limit before after
+fits_to limit before after more (inl e) fits = omega arith
+fits_to limit before after more (inr (none, less)) fits = omega arith
+
+fits_from : (limit before after more : ℕ) → Rises before after more → Fits limit before after → Fits limit before (before + more)
+fits_from limit before after more (inl e) fits = omega arith
+fits_from limit before after more (inr (none, less)) fits = omega arith
+
+module _ (limits : Limits) (s t : State) (growth : Growth) (grows : Grows s t growth) where
+  pub within_of_room : HasRoom limits s growth → Within limits s t
+  within_of_room room = record {
+    resources = fits_to _ _ _ _ grows.resources room.for_resources;
+    labels = fits_to _ _ _ _ grows.labels room.for_labels;
+    links = fits_to _ _ _ _ grows.links room.for_links;
+    postings = fits_to _ _ _ _ grows.postings room.for_postings;
+    moves = fits_to _ _ _ _ grows.moves room.for_moves;
+  }
+
+  pub room_of_within : Within limits s t → HasRoom limits s growth
+  room_of_within within = record {
+    for_resources = fits_from _ _ _ _ grows.resources within.resources;
+    for_labels = fits_from _ _ _ _ grows.labels within.labels;
+    for_links = fits_from _ _ _ _ grows.links within.links;
+    for_postings = fits_from _ _ _ _ grows.postings within.postings;
+    for_moves = fits_from _ _ _ _ grows.moves within.moves;
+  }
+
+-- A count that stays.
+same : (n : ℕ) → Rises n n 0
+same n = inl (omega arith)
+
+one_more : (A : Type 0) (xs : List A) (x : A) → Rises (length xs) (length (xs ++ x ∷ [])) 1
+one_more A xs x = inl (let e = length-append xs (x ∷ []) in omega (arith, e))
+
+decided : (b : Bool) → (b ≡ true) ⊎ (b ≡ false)
+decided true = inl refl
+decided false = inr refl
+
+-- an owner is a resource
+owner_bound : (s : State) → LegalLabels s.resources s.labels → (l : Label) → set.contains s.labels l ≡ true → l.owner ≤ length s.resources
+owner_bound s legal l held = go (legal.owners l held)
+  where
+    go : CanOwn s.resources l.owner → l.owner ≤ length s.resources
+    go (inl (r, at, _)) = (numbered_bound s.resources l.owner r at).1
+    go (inr (inl (r, at, _))) = (numbered_bound s.resources l.owner r at).1
+    go (inr (inr (r, at, _))) = (numbered_bound s.resources l.owner r at).1
+
+-- a new resource has no label yet
+new_label : (s : State) → LegalLabels s.resources s.labels → (tag text : List ℕ) → set.contains s.labels (label (next_number s) Pref tag text) ≡ false
+new_label s legal tag text = go (decided (set.contains s.labels (label (next_number s) Pref tag text)))
+  where
+    go : (set.contains s.labels (label (next_number s) Pref tag text) ≡ true) ⊎ (set.contains s.labels (label (next_number s) Pref tag text) ≡ false) → set.contains s.labels (label (next_number s) Pref tag text) ≡ false
+    go (inl held) = absurd (let b = owner_bound s legal (label (next_number s) Pref tag text) held in omega (arith, b))
+    go (inr not_held) = not_held
+
+abbrev pub growth_of : ℕ → ℕ → ℕ → ℕ → ℕ → Growth
+growth_of resources labels links postings moves = record { resources = resources; labels = labels; links = links; postings = postings; moves = moves }
+
+module _ (s : State) (base : List ℕ) (legal : Legal base s) where
+  pub made_grows : (r : Resource) (tag text : List ℕ) → Grows s (made r tag text s) (growth_of 1 1 0 0 0)
+  made_grows r tag text = record {
+    resources = one_more Resource s.resources r;
+    labels = inl (len_inserted s.labels (label (next_number s) Pref tag text) (new_label s legal.labels tag text));
+    links = same _;
+    postings = same _;
+    moves = same _;
+  }
+
+  pub outside_grows : (iri : List ℕ) → Grows s (outside_made iri s) (growth_of 1 0 0 0 0)
+  outside_grows iri = record { resources = one_more Resource s.resources _; labels = same _; links = same _; postings = same _; moves = same _ }
+
+  pub label_grows : (l : Label) → ¬ (set.contains s.labels l ≡ true) → Grows s (label_added l s) (growth_of 0 1 0 0 0)
+  label_grows l new = record { resources = same _; labels = inl (len_inserted s.labels l (go (decided (set.contains s.labels l)))); links = same _; postings = same _; moves = same _ }
+    where
+      go : (set.contains s.labels l ≡ true) ⊎ (set.contains s.labels l ≡ false) → set.contains s.labels l ≡ false
+      go (inl held) = absurd (new held)
+      go (inr not_held) = not_held
+
+-- A relabelling replaces a label by another, and adds one more where it keeps the old one.
+
+len_positive : (labels : Labels) (l : Label) → set.contains labels l ≡ true → 1 ≤ set.len labels
+len_positive labels l held = go (set.len labels) refl
+  where
+    go : (n : ℕ) → set.len labels ≡ n → 1 ≤ set.len labels
+    go zero e = absurd (let none = sym held ∙ ap (λ (s : Labels). set.contains s l) (set.empty_of_len labels e) ∙ set.contains-empty label_cmp l in cc)
+    go (suc n) e = omega arith
+
+len_removed : (labels : Labels) (l : Label) → set.contains labels l ≡ true → set.len (set.remove labels l) + 1 ≡ set.len labels
+len_removed labels l held =
+    let e = set.len-remove labels_total labels l ∙ ap (λ b. cond b (set.len labels - 1) (set.len labels)) held in
+    let p = len_positive labels l held in
+    omega (arith, e, p)
+
+not_true : (b : Bool) → ¬ (b ≡ true) → b ≡ false
+not_true b never = elim (decided b) [ inl hit ↦ absurd (never hit) | inr is ↦ is ]
+
+-- how many labels a relabelling adds
+abbrev pub keep_growth : Bool → ℕ
+keep_growth keep = if keep then 1 else 0
+
+module _ (labels : Labels) (owner : ℕ) (tag text old : List ℕ) (s13 : S13 labels) (s14 : S14 labels) (held : HasLabel labels owner Pref tag old) where
+  abbrev without : Labels
+  without = set.remove labels (label owner Pref tag old)
+
+  abbrev with_new : Labels
+  with_new = set.insert without (label owner Pref tag text)
+
+  not_new : ¬ (set.contains without (label owner Pref tag text) ≡ true)
+  not_new has =
+      let was = removed_cases labels (label owner Pref tag old) (label owner Pref tag text) has in
+      let same = s14 owner tag text old was.1 held in
+      was.0 (ap (label owner Pref tag) same)
+
+  len_with_new : set.len with_new ≡ set.len labels
+  len_with_new = len_inserted without (label owner Pref tag text) (not_true _ not_new) ∙ len_removed labels (label owner Pref tag old) held
+
+  not_alternative : ¬ (set.contains with_new (label owner Alt tag old) ≡ true)
+  not_alternative has = go (inserted_cases without (label owner Pref tag text) (label owner Alt tag old) has)
+    where
+      go : (label owner Alt tag old ≡ label owner Pref tag text) ⊎ (set.contains without (label owner Alt tag old) ≡ true) → ⊥
+      go (inl is) = let bad : Alt ≡ Pref = ap (λ (l : Label). l.kind) is in cc
+      go (inr was) = let bad : Alt ≡ Pref = s13 owner Alt Pref tag old refl refl (removed_cases labels _ _ was).1 held in cc
+
+  pub len_renamed : (keep : Bool) → set.len (renamed owner tag text keep old labels) ≡ set.len labels + keep_growth keep
+  len_renamed false = len_with_new ∙ (let z : set.len labels ≡ set.len labels + 0 = omega arith in z)
+  len_renamed true = len_inserted with_new (label owner Alt tag old) (not_true _ not_alternative) ∙ ap (λ n. n + 1) len_with_new
+
+module _ (s : State) (legal : LegalLabels s.resources s.labels) where
+  pub relabelled_grows : (owner : ℕ) (tag text : List ℕ) (keep : Bool) → (old : List ℕ) × HasLabel s.labels owner Pref tag old → Grows s (relabelled owner tag text keep s) (growth_of 0 (keep_growth keep) 0 0 0)
+  relabelled_grows owner tag text keep (old, held) =
+      let found = preferred_of_label s.labels owner tag old held in
+      let is = preferred_found s.labels owner tag found.0 found.1 in
+      let made : labels_relabelled owner tag text keep s.labels ≡ renamed owner tag text keep found.0 s.labels = ap (λ (o : Option (List ℕ)). elim o [ None ↦ s.labels | Some x ↦ renamed owner tag text keep x s.labels ]) found.1 in
+      record { resources = same _; labels = inl (ap set.len made ∙ len_renamed s.labels owner tag text found.0 legal.disjoint legal.one_preferred is keep); links = same _; postings = same _; moves = same _ }
+
+-- A link, a merge, a split and a posting.
+
+pub link_grows : (s : State) (l : Link) → ¬ HeldIn s.links (norm (is_outside s.resources) l) → Grows s (link_added l s) (growth_of 0 0 1 0 0)
+link_grows s l new = record {
+  resources = same _;
+  labels = same _;
+  links = inl (set.len-insert links_total s.links (norm (is_outside s.resources) l) ∙ ap (λ b. cond b (set.len s.links) (set.len s.links + 1)) (not_true _ new));
+  postings = same _;
+  moves = same _;
+}
+
+length_killed : (rs : List Resource) (n : ℕ) (rep : Option ℕ) → length (killed n rep rs) ≡ length rs
+length_killed rs n rep = go (numbered rs n) refl
+  where
+    go : (o : Option Resource) → numbered rs n ≡ o → length (killed n rep rs) ≡ length rs
+    go None e = ap (λ (o : Option Resource). length {A = Resource} (elim o [ None ↦ rs | Some x ↦ set_numbered rs n (dead rep x) ])) e
+    go (Some r) e = ap length (killed_at rs n rep r e) ∙ length_set rs (n - 1) (dead rep r)
+
+pub merged_grows : (s : State) (source target taken : ℕ) → set.len (set.union s.labels (taken_labels source target s.labels)) ≡ set.len s.labels + taken → set.len (contracted (is_outside s.resources) source target s.links) ≤ set.len s.links → Grows s (merged source target s) (growth_of 0 taken 0 0 (standing_count source s.histories))
+merged_grows s source target taken labels links = record {
+  resources = inl (length_killed s.resources source (Some target) ∙ (let z : length s.resources ≡ length s.resources + 0 = omega arith in z));
+  labels = inl labels;
+  links = inr (refl, links);
+  postings = inl (length_moved (stands_at source) target (move_count s.histories + 1) s.histories ∙ (let z : length s.histories ≡ length s.histories + 0 = omega arith in z));
+  moves = inl (count_moved (stands_at source) target (move_count s.histories + 1) s.histories);
+}
+
+pub split_grows : (s : State) (source : ℕ) (tag text : List ℕ) (postings : List ℕ) → LegalLabels s.resources s.labels → count_by (is_listed postings) s.histories ≡ length postings → Grows s (split_off source tag text postings s) (growth_of 1 1 0 0 (length postings))
+split_grows s source tag text postings legal listed = record {
+  resources = one_more Resource s.resources _;
+  labels = inl (len_inserted s.labels (label (next_number s) Pref tag text) (new_label s legal tag text));
+  links = same _;
+  postings = inl (length_moved (is_listed postings) (next_number s) (move_count s.histories + 1) s.histories ∙ (let z : length s.histories ≡ length s.histories + 0 = omega arith in z));
+  moves = inl (count_moved (is_listed postings) (next_number s) (move_count s.histories + 1) s.histories ∙ ap (λ n. move_count s.histories + n) listed);
+}
+
+move_count_push : (hs : List History) (h : History) → h.moves ≡ [] → move_count (hs ++ h ∷ []) ≡ move_count hs
+move_count_push hs h none =
+    let a = sum_by-append (λ (x : History). length x.moves) hs (h ∷ []) in
+    let b = sum_by-cons (λ (x : History). length x.moves) h [] in
+    let c = ap (length {A = Move}) none in
+    omega (arith, a, b, c)
+
+pub posted_grows : (s : State) (key rec : List ℕ) (concept : ℕ) → Grows s (posted key rec concept s) (growth_of 0 0 0 1 0)
+posted_grows s key rec concept = record {
+  resources = same _;
+  labels = same _;
+  links = same _;
+  postings = one_more History s.histories _;
+  moves = inl (move_count_push s.histories _ refl ∙ (let z : move_count s.histories ≡ move_count s.histories + 0 = omega arith in z));
+}

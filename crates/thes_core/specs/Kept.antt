@@ -1,0 +1,14 @@
+-- What a core shows.
+use Rattle.std.specs.Prelude.{◌≡◌, Bool}
+use Rattle.thes_base.specs.State.{State}
+use Rattle.thes_base.specs.Refusals.{Setting}
+
+pub record Kept : Type 0 where
+  pub state : State
+  pub setting : Setting
+  -- want of memory has left the state half changed
+  pub spent : Bool
+
+-- The core holds this state.
+abbrev pub Holds : Kept → State → Type 0
+Holds core s = core.state ≡ s

@@ -1,0 +1,139 @@
+//! What a request's arguments are refused for: numbers that name nothing, the wrong kind of thing, a dead concept,
+//! one resource twice, or the wrong schemes.
+ghost use Rattle.std.specs.Prelude.{◌≡◌, ◌↔◌, ℕ, List, Some, IsTrue};
+ghost use Rattle.thes_base.specs.declared.data.Resource.{Resource};
+ghost use Rattle.thes_base.specs.Rows.{accepted};
+ghost use Rattle.thes_base.specs.Resources.{numbered};
+ghost use Rattle.thes_base.specs.Links.{form_of};
+ghost use Rattle.thes_base.specs.Refusals.{AreEnds, HaveSchemes, unless_owner, unless_live_concept, unless_ends, unless_pair};
+
+use thes_base::data::{Link, LinkForm, LinkKind, Resource, ResourceKind};
+use thes_base::fault::Refusal;
+use thes_base::number::ResNo;
+use thes_vocab::Vocab;
+
+/// Whether labels may be given to this resource, or taken from it.
+pub fn judge_owner(vocab: &Vocab, owner: ResNo) -> Option<Refusal>
+    ensures { unless_owner vocab.now.resources owner accepted result }
+{
+    let Some(resource) = vocab.resource(owner).copied() else {
+        return Some(Refusal::UnknownResource);
+    };
+    if resource.kind == ResourceKind::Outside {
+        return Some(Refusal::WrongKind);
+    }
+    if !resource.live {
+        return Some(Refusal::NotLive);
+    }
+    None
+}
+
+/// Whether this is a live concept.
+pub fn judge_live_concept(vocab: &Vocab, concept: ResNo) -> Option<Refusal>
+    ensures { unless_live_concept vocab.now.resources concept accepted result }
+{
+    let Some(resource) = vocab.resource(concept).copied() else {
+        return Some(Refusal::UnknownResource);
+    };
+    if resource.kind != ResourceKind::Concept {
+        return Some(Refusal::WrongKind);
+    }
+    if !resource.live {
+        return Some(Refusal::NotLive);
+    }
+    None
+}
+
+/// Whether these are two live concepts of one scheme.
+pub fn judge_pair(vocab: &Vocab, source: ResNo, target: ResNo) -> Option<Refusal>
+    ensures { unless_pair vocab.now.resources source target accepted result }
+{
+    let Some(from) = vocab.resource(source).copied() else {
+        return Some(Refusal::UnknownResource);
+    };
+    let Some(to) = vocab.resource(target).copied() else {
+        return Some(Refusal::UnknownResource);
+    };
+    if from.kind != ResourceKind::Concept || to.kind != ResourceKind::Concept {
+        return Some(Refusal::WrongKind);
+    }
+    if !from.live || !to.live {
+        return Some(Refusal::NotLive);
+    }
+    if source == target {
+        return Some(Refusal::SameResource);
+    }
+    if from.scheme != to.scheme {
+        return Some(Refusal::OtherScheme);
+    }
+    None
+}
+
+// What a kind of link joins.
+fn form(kind: LinkKind) -> LinkForm
+    ensures { result ≡ form_of kind }
+{
+    match kind {
+        LinkKind::Broader | LinkKind::Related => LinkForm::Within,
+        LinkKind::Member => LinkForm::Membership,
+        LinkKind::Exact
+        | LinkKind::Close
+        | LinkKind::Broad
+        | LinkKind::Narrow
+        | LinkKind::RelMatch => LinkForm::Mapping,
+    }
+}
+
+// Whether the two ends are of the kinds that the form of the link asks for.
+fn are_ends(form: LinkForm, a: &Resource, b: &Resource) -> bool
+    ensures { (resources : List Resource) (m n : ℕ) → numbered resources m ≡ Some a.now → numbered resources n ≡ Some b.now →
+        IsTrue result ↔ AreEnds resources form m n }
+{
+    match form {
+        LinkForm::Within => a.kind == ResourceKind::Concept && b.kind == ResourceKind::Concept,
+        LinkForm::Mapping => {
+            a.kind == ResourceKind::Concept
+                && (b.kind == ResourceKind::Concept || b.kind == ResourceKind::Outside)
+        }
+        LinkForm::Membership => {
+            a.kind == ResourceKind::Collection && b.kind == ResourceKind::Concept
+        }
+    }
+}
+
+// Whether the schemes of the two ends are those that the form of the link asks for.
+fn have_schemes(form: LinkForm, a: &Resource, b: &Resource) -> bool
+    ensures { (resources : List Resource) (m n : ℕ) → numbered resources m ≡ Some a.now → numbered resources n ≡ Some b.now →
+        IsTrue result ↔ HaveSchemes resources form m n }
+{
+    match form {
+        LinkForm::Within | LinkForm::Membership => a.scheme == b.scheme,
+        LinkForm::Mapping => b.kind != ResourceKind::Concept || a.scheme != b.scheme,
+    }
+}
+
+/// Whether a link may join these two, by its kind.
+pub fn judge_ends(vocab: &Vocab, link: &Link) -> Option<Refusal>
+    ensures { unless_ends vocab.now.resources link.now accepted result }
+{
+    let Some(a) = vocab.resource(link.a).copied() else {
+        return Some(Refusal::UnknownResource);
+    };
+    let Some(b) = vocab.resource(link.b).copied() else {
+        return Some(Refusal::UnknownResource);
+    };
+    let form = form(link.kind);
+    if !are_ends(form, &a, &b) {
+        return Some(Refusal::WrongKind);
+    }
+    if !a.live || !b.live {
+        return Some(Refusal::NotLive);
+    }
+    if link.a == link.b {
+        return Some(Refusal::SameResource);
+    }
+    if !have_schemes(form, &a, &b) {
+        return Some(Refusal::OtherScheme);
+    }
+    None
+}

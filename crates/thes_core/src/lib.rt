@@ -1,0 +1,16 @@
+//! The machine in memory: what each request is answered with, and the state that it leaves.
+#![tactic(auto)]
+
+mod arguments;
+mod changing;
+mod judging;
+pub mod machine;
+pub mod reading;
+mod room;
+pub mod shown;
+mod thesaurus;
+pub mod verdict;
+
+pub use machine::Core;
+pub use thes_base::request::{Answer, Command};
+pub use verdict::Verdict;

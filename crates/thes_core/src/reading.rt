@@ -1,0 +1,206 @@
+//! What can be looked up in a core. No call but `is_spent` may be made of a spent one.
+ghost use Rattle.std.specs.Prelude.{◌≡◌, ◌↔◌, ◌⊎◌, ℕ, Some, false, true, filter, length, map, IfOk, IsTrue, MatchOption, option_map};
+ghost use Rattle.std.specs.FinMap as dict;
+ghost use Rattle.std.specs.FinSet as set;
+ghost use Rattle.std.specs.Option.{option_copied};
+ghost use Rattle.std.specs.Ordering.{nat_cmp};
+ghost use Rattle.thes_base.specs.declared.data.LinkKind.TheVariants as kinds;
+ghost use Rattle.thes_base.specs.Labels.{IsTaken, preferred_in};
+ghost use Rattle.thes_base.specs.Links.{HeldIn, norm};
+ghost use Rattle.thes_base.specs.Listing.{IsListing};
+ghost use Rattle.thes_base.specs.Postings.{accepted_count, move_count, place, standing_count, stands_at, withdrawn_count};
+ghost use Rattle.thes_base.specs.Resources.{is_outside, numbered, IsLive};
+ghost use Rattle.thes_base.specs.Views.{totals_of, HasLink, IsMapping, mapping_cmp};
+ghost use Rattle.thes_vocab.specs.LabelData.{AreLabelsOf};
+ghost use Rattle.thes_vocab.specs.Vocabulary.{IsHolder};
+
+use crate::machine::Core;
+use std::alloc::{AllocError, Global};
+use thes_base::data::{History, Label, Link, LinkKind, Resource, Totals};
+use thes_base::number::{PostNo, ResNo};
+use thes_base::text::{Iri, Tag, Text};
+
+/// How much a store holds.
+#[derive(Clone, Copy, Debug, PartialEq, Eq)]
+pub struct Sizes {
+    pub resources: u64,
+    pub labels: u64,
+    pub links: u64,
+    pub accepted: u64,
+    pub withdrawn: u64,
+    pub moves: u64,
+}
+
+impl Core {
+    /// Whether want of memory has left the state half changed. A spent core answers nothing more.
+    pub fn is_spent(&self) -> bool
+        ensures { result ≡ self.now.spent }
+    {
+        self.spent
+    }
+
+    /// How much is held. Withdrawn postings count among those accepted.
+    pub fn sizes(&self) -> Sizes
+        requires { self.now.spent ≡ false }
+        ensures resources { result.resources ≡ length self.now.state.resources }
+        ensures labels { result.labels ≡ set.len self.now.state.labels }
+        ensures links { result.links ≡ set.len self.now.state.links }
+        ensures accepted { result.accepted ≡ accepted_count self.now.state.histories }
+        ensures withdrawn { result.withdrawn ≡ withdrawn_count self.now.state.histories }
+        ensures moves { result.moves ≡ move_count self.now.state.histories }
+    {
+        let totals = self.thesaurus.book.totals();
+        Sizes {
+            resources: self.thesaurus.vocab.resource_count(),
+            labels: self.thesaurus.vocab.label_count(),
+            links: self.thesaurus.graph.size(),
+            accepted: totals.accepted,
+            withdrawn: totals.withdrawn,
+            moves: u64::from(self.thesaurus.book.moves()),
+        }
+    }
+
+    /// How many postings were accepted, how many of them are withdrawn, and how many stand.
+    pub fn totals(&self) -> Totals
+        requires { self.now.spent ≡ false }
+        ensures { result ≡ totals_of self.now.state.histories }
+    {
+        self.thesaurus.book.totals()
+    }
+
+    /// Where a posting stands, or stood when it was withdrawn.
+    pub fn place(&self, posting: PostNo) -> Option<ResNo>
+        requires { self.now.spent ≡ false }
+        ensures { result ≡ option_map place (numbered self.now.state.histories posting) }
+    {
+        self.thesaurus.book.place(posting)
+    }
+
+    /// How many postings stand at a concept.
+    pub fn count(&self, concept: ResNo) -> u64
+        requires { self.now.spent ≡ false }
+        ensures { result ≡ standing_count concept self.now.state.histories }
+    {
+        self.thesaurus.book.count(concept)
+    }
+
+    /// The history of a posting.
+    pub fn history(&self, posting: PostNo) -> Option<&History>
+        requires { self.now.spent ≡ false }
+        ensures { option_copied result ≡ numbered self.now.state.histories posting }
+    {
+        self.thesaurus.book.history(posting)
+    }
+
+    /// The numbers of the postings that stand at a concept, rising.
+    pub fn standing_at(&self, concept: ResNo) -> &[PostNo]
+        requires { self.now.spent ≡ false }
+        ensures { result.now ≡ map (λ h. h.number) (filter (stands_at concept) self.now.state.histories) }
+    {
+        self.thesaurus.book.standing_at(concept)
+    }
+
+    /// The resource of a number.
+    pub fn resource(&self, n: ResNo) -> Option<&Resource>
+        requires { self.now.spent ≡ false }
+        ensures { option_copied result ≡ numbered self.now.state.resources n }
+    {
+        self.thesaurus.vocab.resource(n)
+    }
+
+    /// Whether the number is a live resource's.
+    pub fn is_live(&self, n: ResNo) -> bool
+        requires { self.now.spent ≡ false }
+        ensures { IsTrue result ↔ IsLive self.now.state.resources n }
+    {
+        self.thesaurus.vocab.is_live(n)
+    }
+
+    /// The owner's preferred label in the language.
+    pub fn preferred(&self, owner: ResNo, tag: &Tag) -> Option<&Text>
+        requires { self.now.spent ≡ false }
+        ensures { option_copied result ≡ preferred_in self.now.state.labels owner tag.now }
+    {
+        self.thesaurus.vocab.preferred(owner, tag)
+    }
+
+    /// The labels of an owner, by kind, language and text.
+    pub fn labels_of(&self, owner: ResNo) -> &[Label]
+        requires { self.now.spent ≡ false }
+        ensures { AreLabelsOf self.now.state.labels owner result.now }
+    {
+        self.thesaurus.vocab.labels_of(owner)
+    }
+
+    /// The live concept of the scheme that has this preferred label.
+    pub fn holder(&self, scheme: ResNo, tag: &Tag, text: &Text) -> Option<ResNo>
+        requires { self.now.spent ≡ false }
+        ensures { MatchOption result (¬ IsTaken self.now.state.resources self.now.state.labels scheme tag.now text.now) (IsHolder self.now.state.resources self.now.state.labels scheme tag.now text.now) }
+    {
+        self.thesaurus.vocab.holder(scheme, tag, text)
+    }
+
+    /// The number of the outside concept with this IRI.
+    pub fn outside(&self, iri: &Iri) -> Option<ResNo>
+        requires { self.now.spent ≡ false }
+        ensures { MatchOption result ((n : ℕ) → ¬ (dict.get self.now.state.iris n ≡ Some iri.now)) (λ n. dict.get self.now.state.iris n ≡ Some iri.now) }
+    {
+        self.thesaurus.vocab.outside(iri)
+    }
+
+    /// The IRI of an outside concept.
+    pub fn outside_iri(&self, n: ResNo) -> Option<&Iri>
+        requires { self.now.spent ≡ false }
+        ensures { option_copied result ≡ dict.get self.now.state.iris n }
+    {
+        self.thesaurus.vocab.outside_iri(n)
+    }
+
+    /// Whether the link is held, in the order of its ends in which it is kept.
+    pub fn has(&self, link: &Link) -> bool
+        requires { self.now.spent ≡ false }
+        ensures { IsTrue result ↔ HeldIn self.now.state.links (norm (is_outside self.now.state.resources) link.now) }
+    {
+        self.thesaurus.graph.has(link)
+    }
+
+    /// The concepts that are broader than this one in its own scheme, rising.
+    pub fn broader_of(&self, alloc: Global, n: ResNo) -> Result<Vec<ResNo>, AllocError>
+        requires { self.now.spent ≡ false }
+        ensures { IfOk result (λ found. IsListing nat_cmp (λ b. HasLink self.now.state.links kinds.Broader n b) found.items) }
+    {
+        self.thesaurus.graph.broader_of(alloc, n)
+    }
+
+    /// The concepts that are narrower than this one in its own scheme, rising.
+    pub fn narrower_of(&self, alloc: Global, n: ResNo) -> Result<Vec<ResNo>, AllocError>
+        requires { self.now.spent ≡ false }
+        ensures { IfOk result (λ found. IsListing nat_cmp (λ a. HasLink self.now.state.links kinds.Broader a n) found.items) }
+    {
+        self.thesaurus.graph.narrower_of(alloc, n)
+    }
+
+    /// The concepts related to this one in its own scheme, rising.
+    pub fn related_of(&self, alloc: Global, n: ResNo) -> Result<Vec<ResNo>, AllocError>
+        requires { self.now.spent ≡ false }
+        ensures { IfOk result (λ found. IsListing nat_cmp (λ m. HasLink self.now.state.links kinds.Related n m ⊎ HasLink self.now.state.links kinds.Related m n) found.items) }
+    {
+        self.thesaurus.graph.related_of(alloc, n)
+    }
+
+    /// The collections that the concept is a member of, rising.
+    pub fn collections_of(&self, alloc: Global, n: ResNo) -> Result<Vec<ResNo>, AllocError>
+        requires { self.now.spent ≡ false }
+        ensures { IfOk result (λ found. IsListing nat_cmp (λ c. HasLink self.now.state.links kinds.Member c n) found.items) }
+    {
+        self.thesaurus.graph.collections_of(alloc, n)
+    }
+
+    /// The mappings of the concept as seen from it, by the words of their kinds and then by number.
+    pub fn mapped(&self, alloc: Global, n: ResNo) -> Result<Vec<(LinkKind, ResNo)>, AllocError>
+        requires { self.now.spent ≡ false }
+        ensures { IfOk result (λ found. IsListing mapping_cmp (IsMapping self.now.state.links n) found.items) }
+    {
+        self.thesaurus.graph.mapped(alloc, n)
+    }
+}

@@ -1,0 +1,68 @@
+//! What of a core is shown in lists. None may be asked of a spent one.
+ghost use Rattle.std.specs.Prelude.{◌≡◌, ℕ, Some, false, filter, map, IfOk};
+ghost use Rattle.thes_base.specs.declared.data.History.{History};
+ghost use Rattle.thes_base.specs.Resources.{numbered};
+ghost use Rattle.thes_base.specs.Views.{AreLabels, standing_histories};
+ghost use Rattle.thes_core.specs.Shown.{is_of_kind, tagged};
+
+use crate::machine::Core;
+use std::alloc::{AllocError, Global};
+use thes_base::data::{History, Label, LabelKind};
+use thes_base::number::ResNo;
+use thes_post::book::Book;
+
+// Those of the kind.
+fn of_kind<'a>(
+    alloc: Global,
+    labels: &'a [Label],
+    kind: LabelKind,
+) -> Result<Vec<&'a Label>, AllocError>
+    ensures { IfOk result (λ found. map (λ l. l.now) found.items ≡ filter (is_of_kind kind) labels.now) }
+{
+    let mut found = Vec::new(alloc);
+    for label in labels {
+        if label.kind() == kind {
+            found.push(label)?;
+        }
+    }
+    Ok(found)
+}
+
+// The histories of the postings that stand at a concept.
+fn standing_in<'a>(
+    alloc: Global,
+    book: &'a Book,
+    concept: ResNo,
+) -> Result<Vec<&'a History>, AllocError>
+    requires { (n : ℕ) (h : History) → numbered book.now n ≡ Some h → h.number ≡ n }
+    ensures { IfOk result (λ found. map (λ h. h.now) found.items ≡ standing_histories concept book.now) }
+{
+    let mut found = Vec::new(alloc);
+    for posting in book.standing_at(concept) {
+        found.push(book.history(*posting).unwrap())?;
+    }
+    Ok(found)
+}
+
+impl Core {
+    /// The labels of one kind of an owner, by language and text.
+    pub fn labels_of_kind(
+        &self,
+        alloc: Global,
+        owner: ResNo,
+        kind: LabelKind,
+    ) -> Result<Vec<&Label>, AllocError>
+        requires { self.now.spent ≡ false }
+        ensures { IfOk result (λ found. AreLabels self.now.state owner kind (map (λ l. tagged l.now) found.items)) }
+    {
+        of_kind(alloc, self.labels_of(owner), kind)
+    }
+
+    /// The histories of the postings that stand at a concept, by their numbers.
+    pub fn histories_at(&self, alloc: Global, concept: ResNo) -> Result<Vec<&History>, AllocError>
+        requires { self.now.spent ≡ false }
+        ensures { IfOk result (λ found. map (λ h. h.now) found.items ≡ standing_histories concept self.now.state.histories) }
+    {
+        standing_in(alloc, &self.thesaurus.book, concept)
+    }
+}

@@ -1,0 +1,16 @@
+//! The parts of a thesaurus.
+use std::alloc::Global;
+use thes_base::data::Limits;
+use thes_graph::graph::Graph;
+use thes_post::book::Book;
+use thes_vocab::Vocab;
+
+/// A vocabulary, its links and its postings, and the limits that bind requests.
+#[derive(Drop)]
+pub struct Thesaurus {
+    pub alloc: Global,
+    pub vocab: Vocab,
+    pub graph: Graph,
+    pub book: Book,
+    pub limits: Limits,
+}

@@ -1,0 +1,32 @@
+-- Lines within bytes.
+use Rattle.std.proofs.Common.{◌≡◌, ◌+◌, ◌∙◌, ap, ℕ, List, [], ◌∷◌, ◌++◌, ◌==◌, Bool, true, false, cond, refl, length, length-append, Option, None, Some}
+use Rattle.std.specs.Io.KnownBytes.{Consumes}
+use Rattle.thes_base.proofs.PipeLemmas.{consumes_then}
+use Rattle.thes_exchange.specs.Feed.{has_newline}
+
+has_newline-more : (raw : List ℕ) (b : ℕ) → has_newline raw ≡ false → (b == 10) ≡ false → has_newline (raw ++ b ∷ []) ≡ false
+has_newline-more [] b h e = rw e refl
+has_newline-more (x ∷ raw) b h e = elim (x == 10) as (λ t. cond t true (has_newline raw) ≡ false → cond t true (has_newline (raw ++ b ∷ [])) ≡ false) [ true ↦ λ k. k | false ↦ λ k. has_newline-more raw b k e ] h
+
+-- so many bytes without a newline were taken, and they are held
+pub record TakesFront (old new : Option (List ℕ)) (line : List ℕ) (held : Bool) (taken : ℕ) : Type 0 where
+  pub raw : List ℕ
+  pub bytes : Consumes old new raw
+  pub one : has_newline raw ≡ false
+  pub count : length raw ≡ taken
+  pub kept : held ≡ true → line ≡ raw
+
+pub front_none : (old : Option (List ℕ)) (line : List ℕ) (held : Bool) → line ≡ [] → TakesFront old old line held 0
+front_none None line held e = record { raw = []; bytes = tt; one = refl; count = refl; kept = λ _. e }
+front_none (Some xs) line held e = record { raw = []; bytes = refl; one = refl; count = refl; kept = λ _. e }
+
+pub front_more : (old mid new : Option (List ℕ)) (line line' : List ℕ) (held held' : Bool) (taken b : ℕ)
+    → TakesFront old mid line held taken → Consumes mid new (b ∷ []) → (b == 10) ≡ false → (held' ≡ true → (held ≡ true) × (line' ≡ line ++ b ∷ []))
+    → TakesFront old new line' held' (taken + 1)
+front_more old mid new line line' held held' taken b f s e k = record {
+  raw = f.raw ++ b ∷ [];
+  bytes = consumes_then old mid new f.raw (b ∷ []) f.bytes s;
+  one = has_newline-more f.raw b f.one e;
+  count = rw (length-append f.raw (b ∷ [])) (ap (λ n. n + 1) f.count);
+  kept = λ h. let p = k h in p.1 ∙ ap (λ t. t ++ b ∷ []) (f.kept p.0);
+}

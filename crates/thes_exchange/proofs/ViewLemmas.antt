@@ -1,0 +1,53 @@
+-- No view has a number that is not whole, and a posting stands where its last move leads.
+use Rattle.std.proofs.Common.{◌≡◌, ◌-◌, refl, ℕ, List, [], ◌∷◌, length, false, Some, None, Option, slice_get, ap, subst, suc, arith}
+use Rattle.serde_json.specs.Data.{Data, object, Members, no_members}
+use Rattle.serde_json.specs.Written.{has_float}
+use Rattle.thes_base.specs.declared.data.History.{History}
+use Rattle.thes_base.specs.declared.data.Move.{Move}
+use Rattle.thes_base.specs.Postings.{led}
+use Rattle.thes_base.specs.Views.{ConceptShown}
+use Rattle.thes_exchange.specs.ConceptMembers.{with_labels, with_links, with_facts}
+use Rattle.thes_exchange.specs.ViewTexts.{num, number_or_null, listed, tagged_data, mapping_data, move_data, row_data, concept_data, postings_data, posting_data}
+
+list_has_none : {A : Type 0} (show : A → Data) → ((x : A) → has_float (show x) ≡ false) → (xs : List A) → has_float (listed show xs) ≡ false
+list_has_none show none [] = refl
+list_has_none show none (x ∷ xs) = rw (none x) (list_has_none show none xs)
+
+or_null_has_none : (n : Option ℕ) → has_float (number_or_null n) ≡ false
+or_null_has_none None = refl
+or_null_has_none (Some n) = refl
+
+pub concept_has_no_float : (c : ConceptShown) → has_float (concept_data c) ≡ false
+unfolding concept_data
+concept_has_no_float c =
+    rw (
+      list_has_none tagged_data (λ x. refl) c.alt,
+      list_has_none num (λ x. refl) c.broader,
+      list_has_none num (λ x. refl) c.collections,
+      list_has_none tagged_data (λ x. refl) c.hidden,
+      list_has_none mapping_data (λ x. refl) c.mappings,
+      list_has_none num (λ x. refl) c.narrower,
+      list_has_none tagged_data (λ x. refl) c.pref,
+      list_has_none num (λ x. refl) c.related,
+      or_null_has_none c.replaced,
+      or_null_has_none c.scheme,
+      list_has_none tagged_data (λ x. refl) c.scope,
+    ) refl
+
+pub postings_have_no_float : (hs : List History) → has_float (postings_data hs) ≡ false
+postings_have_no_float hs = rw (list_has_none row_data (λ h. refl) hs) refl
+
+pub posting_has_no_float : (h : History) → has_float (posting_data h) ≡ false
+posting_has_no_float h = rw (list_has_none move_data (λ m. refl) h.moves) refl
+
+-- the members of a concept's view, put in group by group
+pub concept_members : (c : ConceptShown) (empty labels links facts : Members) → empty ≡ no_members → labels ≡ with_labels c empty → links ≡ with_links c labels → facts ≡ with_facts c links
+    → object facts ≡ concept_data c
+unfolding concept_data with_labels with_links with_facts
+concept_members c empty labels links facts e f g h = rw (h, g, f, e) refl
+
+pub led_last : (from : ℕ) (moves : List Move) (m : Move) → slice_get moves (length moves - 1) ≡ Some m → led from moves ≡ m.target
+led_last from [] m e = absurd (cc)
+led_last from (x ∷ []) m e = ap (λ (y : Move). y.target) (let same : x ≡ m = cc in same)
+led_last from (x ∷ y ∷ moves) m e =
+    led_last x.target (y ∷ moves) m (subst (λ n. slice_get (x ∷ y ∷ moves) n ≡ Some m) (let q : length (x ∷ y ∷ moves) - 1 ≡ suc (length (y ∷ moves) - 1) = omega arith in q) e)

@@ -1,0 +1,15 @@
+use Rattle.std.proofs.Common.{◌≤◌, ◌-◌, ◌+◌}
+use Rattle.thes_base.specs.Pipe.{IsFresh, unread}
+use Rattle.thes_exchange.specs.Feed.{left, line_limit}
+use Rattle.thes_exchange.proofs.FeedLemmas.{TakesFront}
+use Rattle.thes_exchange.proofs.feed.Feed.take_line.Given as goal
+
+abbrev pub invariant-loop-taken : goal.invariant-loop-taken
+invariant-loop-taken g l = record {
+  front : TakesFront (left l.fn.self (unread g.R.Read.remaining l.fn.reader)) (left l.self (unread g.R.Read.remaining l.reader)) l.line.items l.held l.taken;
+  fresh : IsFresh l.reader;
+  most : l.taken ≤ line_limit + 1;
+}
+
+abbrev pub decreases-loop-taken : goal.decreases-loop-taken
+decreases-loop-taken g l = line_limit + 1 - l.taken

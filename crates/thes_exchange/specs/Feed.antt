@@ -1,0 +1,44 @@
+-- The bytes that are still to come, and what a line of them is.
+use Rattle.std.specs.Prelude.{◌≡◌, ◌≢◌, ℕ, ◌<◌, ◌≤◌, ◌==◌, Bool, true, false, if◌then◌else◌, List, [], ◌∷◌, ◌++◌, length, Option, None, Some}
+use Rattle.std.specs.Str.Lines.{strip_carriage_return}
+use Rattle.std.specs.Io.KnownBytes.{Consumes, Keeps, IsAtEnd, prepend_known}
+
+-- what is held, and then what the reader gives
+abbrev pub left : List ℕ → Option (List ℕ) → Option (List ℕ)
+left held remaining = prepend_known held remaining
+
+abbrev pub has_newline : List ℕ → Bool
+has_newline [] = false
+has_newline (b ∷ bs) = if b == 10 then true else has_newline bs
+
+-- a line ends with a newline, or with the input
+abbrev pub line_bytes : List ℕ → Bool → List ℕ
+line_bytes raw ended = if ended then raw else raw ++ 10 ∷ []
+
+-- what stands on a line: the carriage return before a newline is no part of it
+abbrev pub line_text : List ℕ → Bool → List ℕ
+line_text raw ended = if ended then raw else strip_carriage_return raw
+
+-- the most bytes of a line, its carriage return among them
+abbrev pub line_limit : ℕ
+line_limit = 1048576
+
+-- the first line was taken, and the input ended with it or goes on
+pub record TakesLine (old new : Option (List ℕ)) (raw : List ℕ) (ended : Bool) : Type 0 where
+  pub bytes : Consumes old new (line_bytes raw ended)
+  pub one : has_newline raw ≡ false
+  pub last : ended ≡ true → (raw ≢ []) × IsAtEnd new
+  pub short : length raw ≤ line_limit
+
+-- what comes first is longer than a line may be
+pub record IsTooLong (old : Option (List ℕ)) : Type 0 where
+  pub raw : List ℕ
+  pub rest : Option (List ℕ)
+  pub bytes : Consumes old rest raw
+  pub one : has_newline raw ≡ false
+  pub long : line_limit < length raw
+
+-- a byte was taken, or none at the end of the input
+abbrev pub TakesByte : Option ℕ → Option (List ℕ) → Option (List ℕ) → Bool → Type 0
+TakesByte None old new ended = Keeps old new × IsAtEnd new × (ended ≡ true)
+TakesByte (Some b) old new ended = Consumes old new (b ∷ []) × (ended ≡ false)

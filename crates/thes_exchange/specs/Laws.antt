@@ -1,0 +1,10 @@
+-- What holds of reading requests.
+use Rattle.std.specs.Prelude.{◌≡◌, ℕ, List, Result}
+use Rattle.thes_base.specs.declared.fault.FormFault.{FormFault}
+use Rattle.thes_exchange.specs.Readings.{Reaches}
+use Rattle.thes_exchange.specs.Requests.{request_of}
+use Rattle.thes_exchange.specs.declared.request.Request.{Request}
+
+-- the bytes of a request ask for one thing, or have one first fault
+abbrev pub OneReading : Type 0
+OneReading = (bytes : List ℕ) (x y : Result Request FormFault) → Reaches (request_of bytes) x → Reaches (request_of bytes) y → x ≡ y

@@ -1,0 +1,14 @@
+pub mod Readings
+pub mod Members
+pub mod Words
+pub mod Requests
+pub mod AnswerTexts
+pub mod Feed
+pub mod Serving
+pub mod Script
+pub mod Served
+pub mod ViewTexts
+pub mod ConceptMembers
+pub mod ViewOf
+pub mod Laws
+pub mod CoreDesk

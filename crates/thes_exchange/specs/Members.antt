@@ -1,0 +1,31 @@
+-- The members of a request: those that its line of the table names, each of its kind.
+use Rattle.std.specs.Prelude.{ℕ, ◌==◌, Bool, false, List, [], ◌∷◌, Option, None, Some, option_and_then, option_map, if◌then◌else◌, ⊤}
+use Rattle.serde_json.specs.Data.{Num, Data, Items, no_items, item, Members}
+use Rattle.serde_json.specs.Events.{members_len}
+use Rattle.serde_json.specs.Find.{get, as_number, as_str, as_bool, as_array, as_object}
+
+-- just so many members
+abbrev pub has_count : ℕ → Option Members → Bool
+has_count n None = false
+has_count n (Some ms) = members_len ms == n
+
+-- an object with just so many members
+abbrev pub members_of : ℕ → Data → Option ⊤
+members_of n d = if has_count n (as_object d) then Some tt else None
+
+abbrev pub number_in : List ℕ → Data → Option Num
+number_in name d = option_and_then as_number (get name d)
+
+abbrev pub text_in : List ℕ → Data → Option (List ℕ)
+text_in name d = option_and_then as_str (get name d)
+
+abbrev pub truth_in : List ℕ → Data → Option Bool
+truth_in name d = option_and_then as_bool (get name d)
+
+-- an array of numbers
+abbrev pub all_numbers : Items → Option (List Num)
+all_numbers no_items = Some []
+all_numbers (item d ds) = option_and_then (λ n. option_map (λ ns. n ∷ ns) (all_numbers ds)) (as_number d)
+
+abbrev pub numbers_in : List ℕ → Data → Option (List Num)
+numbers_in name d = option_and_then all_numbers (option_and_then as_array (get name d))

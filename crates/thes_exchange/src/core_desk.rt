@@ -1,0 +1,77 @@
+//! A core as a desk: its own state, in memory.
+ghost use Rattle.std.specs.Prelude.{◌≡◌, ◌⊎◌, ◌↔◌, true, false, IfOk, IfErr, OnOk, IfSome, IsErrOf};
+ghost use Rattle.thes_base.specs.Pipe.{failed_of, ended_of, IsFresh, unread, written};
+ghost use Rattle.thes_exchange.specs.CoreDesk.{CoreServes, IsLed, IsViewed};
+ghost use Rattle.thes_exchange.specs.Script.{IsScript, IsStopped};
+
+use crate::desk::{Desk, ViewLine, Viewed};
+use crate::request::Query;
+use crate::script::{Ended, script};
+use crate::view::{View, view_line};
+use crate::viewing::view_of;
+use std::alloc::{AllocError, Global};
+use std::io::{Read, Write};
+use thes_base::fault::{Fault, PipeFault};
+use thes_base::pipe::Pipe;
+use thes_core::{Answer, Command, Core};
+
+// The line of the view, or the refusal.
+fn viewed(core: &Core, alloc: Global, query: &Query) -> Result<Viewed, AllocError>
+    requires { core.now.spent ≡ false }
+    ensures { IfOk result (λ viewed. IsViewed core.now.state query.now (Ok viewed)) }
+{
+    match view_of(core, alloc, query)? {
+        View::No(refusal) => Ok(Viewed::No(refusal)),
+        view => Ok(Viewed::Line(ViewLine::new(view_line(alloc, &view)?))),
+    }
+}
+
+/// Each request is a step of the machine, after which the state is in order, and each view is one of the core's state,
+/// which stays as it is. Want of memory within a request changes nothing, or closes the desk for good.
+impl Desk for Core {
+    ghost use Rattle.std.specs.Prelude.{not};
+    ghost use Rattle.thes_exchange.specs.CoreDesk.{CorePerforms, CoreShows};
+
+    ghost performs = { CorePerforms };
+
+    ghost shows = { CoreShows };
+
+    ghost is_open = { λ core. not core.spent };
+
+    fn perform(&mut self, command: &Command) -> Result<Answer, Fault> {
+        self.step(command)
+    }
+
+    fn show(&mut self, alloc: Global, query: &Query) -> Result<Viewed, Fault> {
+        Ok(viewed(self, alloc, query)?)
+    }
+
+    fn is_open(&self) -> bool {
+        !self.is_spent()
+    }
+}
+
+/// Answers each line of the input by a step of the machine, or by a view of its state. The requests among the lines lead the
+/// machine from the state before to the state after. Lines and their limits are those of `script`.
+pub fn core_script<R: Read, W: Write>(
+    alloc: Global,
+    reader: &mut Pipe<R>,
+    writer: &mut Pipe<W>,
+    core: &mut Core,
+) -> Result<Ended, PipeFault>
+    requires reader { IsFresh reader.old }
+    requires writer { IsFresh writer.old }
+    requires unspent { core.old.spent ≡ false }
+    ensures ok { IfOk result (λ ended. IfSome (unread R.remaining reader.old) (λ input.
+        IsScript CoreServes input core.old core.new (written W.contents writer.old) (written W.contents writer.new) ended)) }
+    ensures stopped { IfErr result (λ fault. IfSome (unread R.remaining reader.old) (λ input.
+        IsStopped CoreServes fault input core.old core.new (written W.contents writer.old) (written W.contents writer.new))) }
+    ensures led { IfSome (unread R.remaining reader.old) (λ input. IsLed core.old core.new) }
+    ensures unspent { OnOk result (core.new.spent ≡ false) }
+    ensures end { OnOk result (ended_of reader.new ≡ true) }
+    ensures read { IsErrOf result PipeFault.Read ↔ (failed_of reader.new ≡ true) }
+    ensures write { IsErrOf result PipeFault.Write ↔ (failed_of writer.new ≡ true) }
+    ensures fault { (fault : Fault) → IsErrOf result (PipeFault.Fault fault) → (fault ≡ Fault.OutOfMemory) × ((core.new ≡ core.old) ⊎ (core.new.spent ≡ true)) }
+{
+    script(alloc, reader, writer, core)
+}

@@ -1,0 +1,162 @@
+//! The lines of a reader.
+ghost use Rattle.std.specs.Prelude.{◌≡◌, ◌≢◌, ◌≤◌, ◌<◌, ◌⊎◌, ℕ, Bool, List, [], ◌∷◌, ◌++◌, length, true, false, IfOk, IfErr, OnOk, OnErr, IsErrOf, Option, IsTrue, MatchOption, ◌↔◌};
+ghost use Rattle.std.specs.Io.KnownBytes.{Consumes, Keeps, IsAtEnd};
+ghost use Rattle.std.specs.Str.Lines.{strip_carriage_return};
+ghost use Rattle.thes_base.specs.Pipe.{failed_of, ended_of, IsFresh, unread};
+ghost use Rattle.thes_exchange.specs.Feed.{left, TakesByte, TakesLine, IsTooLong, line_text};
+
+use std::alloc::{AllocError, Global};
+use std::io::Read;
+use std::marker::Model;
+use thes_base::pipe::{Budget, Pipe, Stop};
+
+/// A buffer between a reader and its lines.
+#[derive(Drop)]
+pub struct Feed {
+    buffer: Vec<u8>,
+    at: usize,
+    filled: usize,
+}
+
+impl Model for Feed {
+    ghost use Rattle.std.specs.Prelude.{◌≤◌, ◌<◌, ◌-◌, ℕ, List, take, drop, vec_len};
+
+    ghost Value = { List ℕ };
+
+    ghost view = { λ f. take (f.filled - f.at) (drop f.at f.buffer.items) };
+
+    ghost invariant = { λ f. (f.at ≤ f.filled) × (f.filled ≤ vec_len f.buffer) × (0 < vec_len f.buffer) };
+}
+
+/// What was found where a line was looked for.
+#[derive(Clone, Copy, Debug, PartialEq, Eq)]
+pub enum Found {
+    Line,
+    /// A line for which there was no memory.
+    NoRoom,
+    End,
+}
+
+const LINE_LIMIT: u32 = 1_048_576;
+
+const BUFFER_SIZE: usize = 4096;
+
+impl Feed {
+    pub fn new(alloc: Global) -> Result<Feed, AllocError>
+        ensures { IfOk result (λ feed. feed ≡ []) }
+    {
+        let buffer = vec![in alloc; 0; BUFFER_SIZE]?;
+        Ok(Feed {
+            buffer,
+            at: 0,
+            filled: 0,
+        })
+    }
+
+    /// The next byte, or none at the end of the input.
+    pub fn next_byte<R: Read>(
+        &mut self,
+        reader: &mut Pipe<R>,
+        budget: &mut Budget,
+    ) -> Result<Option<u8>, Stop>
+        requires { IsFresh reader.old }
+        ensures byte { IfOk result (λ found. TakesByte found (left self.old (unread R.remaining reader.old)) (left self.new (unread R.remaining reader.new)) (ended_of reader.new)) }
+        ensures err { OnErr result (Keeps (left self.old (unread R.remaining reader.old)) (left self.new (unread R.remaining reader.new)) × (ended_of reader.new ≡ false)) }
+        ensures failed { IsErrOf result Stop.Failed ↔ (failed_of reader.new ≡ true) }
+        ensures too_long { IsErrOf result Stop.TooLong → budget.new ≡ 0 }
+    {
+        if self.at == self.filled && !self.refill(reader, budget)? {
+            return Ok(None);
+        }
+        Ok(Some(self.take_byte()))
+    }
+
+    /// Takes the next line out, without its end.
+    pub fn take_line<R: Read>(
+        &mut self,
+        reader: &mut Pipe<R>,
+        budget: &mut Budget,
+        line: &mut Vec<u8>,
+    ) -> Result<Found, Stop>
+        requires { IsFresh reader.old }
+        ensures line { IfOk result (λ found. (found ≢ Found.End) → (raw : List ℕ)
+            × TakesLine (left self.old (unread R.remaining reader.old)) (left self.new (unread R.remaining reader.new)) raw (ended_of reader.new)
+            × ((found ≡ Found.Line) → line_text raw (ended_of reader.new) ≡ line.new.items)) }
+        ensures end { IfOk result (λ found. (found ≡ Found.End) → Keeps (left self.old (unread R.remaining reader.old)) (left self.new (unread R.remaining reader.new))
+            × IsAtEnd (left self.new (unread R.remaining reader.new)) × (ended_of reader.new ≡ true)) }
+        ensures failed { IsErrOf result Stop.Failed ↔ (failed_of reader.new ≡ true) }
+        ensures too_long { IsErrOf result Stop.TooLong → (budget.new ≡ 0) ⊎ IsTooLong (left self.old (unread R.remaining reader.old)) }
+    {
+        line.clear();
+        let mut held = true;
+        let mut taken = 0;
+        while taken <= LINE_LIMIT {
+            match self.next_byte(reader, budget)? {
+                None => {
+                    if taken == 0 {
+                        return Ok(Found::End);
+                    }
+                    return Ok(found_of(held));
+                }
+                Some(b'\n') => {
+                    drop_carriage_return(line);
+                    return Ok(found_of(held));
+                }
+                Some(byte) => {
+                    taken += 1;
+                    held = keep(line, held, byte);
+                }
+            }
+        }
+        Err(Stop::TooLong)
+    }
+
+    // Reads into the empty buffer, and says whether there was anything.
+    fn refill<R: Read>(&mut self, reader: &mut Pipe<R>, budget: &mut Budget) -> Result<bool, Stop>
+        requires fresh { IsFresh reader.old }
+        requires used { self.old ≡ [] }
+        ensures more { IfOk result (λ more. more ≡ true → (self.new ≢ []) × (ended_of reader.new ≡ false)) }
+        ensures kept { Keeps (left self.old (unread R.remaining reader.old)) (left self.new (unread R.remaining reader.new)) }
+        ensures end { IfOk result (λ more. more ≡ false → (self.new ≡ []) × IsAtEnd (left self.new (unread R.remaining reader.new)) × (ended_of reader.new ≡ true)) }
+        ensures err { OnErr result (ended_of reader.new ≡ false) }
+        ensures failed { IsErrOf result Stop.Failed ↔ (failed_of reader.new ≡ true) }
+        ensures too_long { IsErrOf result Stop.TooLong → budget.new ≡ 0 }
+    {
+        self.at = 0;
+        self.filled = 0;
+        let count = reader.read(budget, &mut self.buffer)?;
+        self.filled = count;
+        Ok(count > 0)
+    }
+
+    fn take_byte(&mut self) -> u8
+        requires { self.old ≢ [] }
+        ensures { self.old ≡ result ∷ self.new }
+    {
+        let byte = self.buffer[self.at];
+        self.at += 1;
+        byte
+    }
+}
+
+fn drop_carriage_return(line: &mut Vec<u8>)
+    ensures { line.new.items ≡ strip_carriage_return line.old.items }
+{
+    if let Some(b'\r') = line.last() {
+        line.pop();
+    }
+}
+
+fn found_of(held: bool) -> Found
+    ensures line { (result ≡ Found.Line) → held ≡ true }
+    ensures some { result ≢ Found.End }
+{
+    if held { Found::Line } else { Found::NoRoom }
+}
+
+// Keeps a byte, if those before it were kept and there is room.
+fn keep(line: &mut Vec<u8>, held: bool, byte: u8) -> bool
+    ensures { result ≡ true → (held ≡ true) × (line.new.items ≡ line.old.items ++ byte ∷ []) }
+{
+    held && line.push(byte).is_ok()
+}

@@ -1,0 +1,16 @@
+//! The texts of requests, answers and views.
+#![tactic(auto)]
+
+pub mod answer;
+pub mod core_desk;
+pub mod desk;
+mod feed;
+pub mod laws;
+mod lines;
+mod members;
+pub mod request;
+pub mod script;
+pub mod serve;
+pub mod view;
+pub mod viewing;
+mod words;

@@ -1,0 +1,65 @@
+//! The lines of a script, within its limits.
+ghost use Rattle.std.specs.Prelude.{◌≡◌, ◌≢◌, ◌≤◌, ◌⊎◌, ◌+◌, List, ℕ, [], IfOk, OnOk, IsErrOf, ◌↔◌, true, false};
+ghost use Rattle.std.specs.Io.KnownBytes.{Keeps, IsAtEnd};
+ghost use Rattle.thes_base.specs.Pipe.{failed_of, ended_of, IsFresh, unread};
+ghost use Rattle.thes_exchange.specs.Feed.{left, TakesLine, IsTooLong, line_text};
+ghost use Rattle.thes_exchange.specs.Script.{lines_limit};
+
+use crate::feed::{Feed, Found};
+use std::alloc::{AllocError, Global};
+use std::io::Read;
+use thes_base::pipe::{Budget, Pipe, Stop};
+
+const LINES_LIMIT: u32 = 1_000_000;
+
+/// The lines of a reader, one at a time.
+#[derive(Drop)]
+pub struct Lines {
+    pub feed: Feed,
+    pub line: Vec<u8>,
+    pub count: u32,
+}
+
+impl Lines {
+    pub fn new(alloc: Global) -> Result<Lines, AllocError>
+        ensures { IfOk result (λ lines. (lines.feed ≡ []) × (lines.count ≡ 0)) }
+    {
+        let feed = Feed::new(alloc)?;
+        let line = Vec::new(alloc);
+        Ok(Lines {
+            feed,
+            line,
+            count: 0,
+        })
+    }
+
+    /// Finds the next line. It is too long where the line is, or is one too many.
+    pub fn next_line<R: Read>(
+        &mut self,
+        reader: &mut Pipe<R>,
+        budget: &mut Budget,
+    ) -> Result<Found, Stop>
+        requires fresh { IsFresh reader.old }
+        requires within { self.old.count ≤ lines_limit }
+        ensures line { IfOk result (λ found. (found ≢ Found.End) → (raw : List ℕ)
+            × TakesLine (left self.old.feed (unread R.remaining reader.old)) (left self.new.feed (unread R.remaining reader.new)) raw (ended_of reader.new)
+            × ((found ≡ Found.Line) → line_text raw (ended_of reader.new) ≡ self.new.line.items)
+            × (self.new.count ≡ self.old.count + 1)) }
+        ensures within { OnOk result (self.new.count ≤ lines_limit) }
+        ensures end { IfOk result (λ found. (found ≡ Found.End) → Keeps (left self.old.feed (unread R.remaining reader.old)) (left self.new.feed (unread R.remaining reader.new))
+            × IsAtEnd (left self.new.feed (unread R.remaining reader.new)) × (ended_of reader.new ≡ true) × (self.new.count ≡ self.old.count)) }
+        ensures failed { IsErrOf result Stop.Failed ↔ (failed_of reader.new ≡ true) }
+        ensures too_long { IsErrOf result Stop.TooLong → (budget.new ≡ 0) ⊎ (IsTooLong (left self.old.feed (unread R.remaining reader.old))
+            ⊎ ((self.old.count ≡ lines_limit) × (raw : List ℕ) × TakesLine (left self.old.feed (unread R.remaining reader.old)) (left self.new.feed (unread R.remaining reader.new)) raw (ended_of reader.new))) }
+    {
+        let found = self.feed.take_line(reader, budget, &mut self.line)?;
+        if found == Found::End {
+            return Ok(found);
+        }
+        if self.count == LINES_LIMIT {
+            return Err(Stop::TooLong);
+        }
+        self.count += 1;
+        Ok(found)
+    }
+}

@@ -1,0 +1,378 @@
+//! Views as lines of JSON.
+ghost use Rattle.std.specs.Prelude.{◌≡◌, IfOk, OnOk, map, false};
+ghost use Rattle.serde_json.specs.View.{view, members_view};
+ghost use Rattle.serde_json.specs.Written.{has_float};
+ghost use Rattle.thes_base.specs.Postings.{place};
+ghost use Rattle.thes_core.specs.Shown.{tagged};
+ghost use Rattle.thes_exchange.specs.ConceptMembers.{with_labels, with_links, with_facts};
+ghost use Rattle.thes_exchange.specs.ViewTexts.{num, listed, number_or_null, tagged_data, mapping_data, move_data, row_data, totals_data, concept_data, postings_data, posting_data, line_text, view_text};
+
+use crate::answer::refusal_line;
+use crate::words::link_word;
+use serde_json::{Map, Value, json, put};
+use std::alloc::{AllocError, Global};
+use std::marker::Model;
+use thes_base::data::{History, Label, LinkKind, Move, Totals};
+use thes_base::fault::Refusal;
+use thes_base::number::ResNo;
+
+#[cfg(test)]
+mod tests;
+
+/// A concept with its labels, its links and the count of the postings that stand at it.
+#[derive(Drop)]
+pub struct ConceptView<'a> {
+    pub alt: Vec<&'a Label>,
+    pub broader: Vec<ResNo>,
+    pub collections: Vec<ResNo>,
+    pub hidden: Vec<&'a Label>,
+    pub live: bool,
+    pub mappings: Vec<(LinkKind, ResNo)>,
+    pub narrower: Vec<ResNo>,
+    pub number: ResNo,
+    pub postings: u64,
+    pub pref: Vec<&'a Label>,
+    pub related: Vec<ResNo>,
+    pub replaced: Option<ResNo>,
+    pub scheme: Option<ResNo>,
+    pub scope: Vec<&'a Label>,
+    pub top: bool,
+}
+
+impl<'a> Model for ConceptView<'a> {
+    ghost use Rattle.std.specs.Prelude.{map};
+    ghost use Rattle.thes_base.specs.Views.{ConceptShown};
+    ghost use Rattle.thes_core.specs.Shown.{tagged};
+
+    ghost Value = { ConceptShown };
+
+    ghost view = { λ c. record {
+      alt = map (λ l. tagged l.now) c.alt.items;
+      broader = c.broader.items;
+      collections = c.collections.items;
+      hidden = map (λ l. tagged l.now) c.hidden.items;
+      live = c.live;
+      mappings = c.mappings.items;
+      narrower = c.narrower.items;
+      number = c.number;
+      postings = c.postings;
+      pref = map (λ l. tagged l.now) c.pref.items;
+      related = c.related.items;
+      replaced = c.replaced;
+      scheme = c.scheme;
+      scope = map (λ l. tagged l.now) c.scope.items;
+      top = c.top;
+    } };
+}
+
+/// The histories of postings, in the order in which they are shown.
+#[derive(Drop)]
+pub struct PostingRows<'a> {
+    pub rows: Vec<&'a History>,
+}
+
+impl<'a> Model for PostingRows<'a> {
+    ghost use Rattle.std.specs.Prelude.{List, map};
+    ghost use Rattle.thes_base.specs.declared.data.History.{History};
+
+    ghost Value = { List History };
+
+    ghost view = { λ p. map (λ h. h.now) p.rows.items };
+}
+
+/// What is shown.
+#[derive(Drop)]
+pub enum View<'a> {
+    Totals(Totals),
+    Concept(ConceptView<'a>),
+    Postings(PostingRows<'a>),
+    Posting(&'a History),
+    No(Refusal),
+}
+
+// The totals as JSON.
+fn totals_value(alloc: Global, totals: &Totals) -> Result<Value, AllocError>
+    ensures { IfOk result (λ v. view v ≡ totals_data totals.now) }
+{
+    json!(in alloc; {
+        "accepted": totals.accepted,
+        "standing": totals.standing,
+        "withdrawn": totals.withdrawn
+    })
+}
+
+// A number as JSON, or null.
+fn number_or_null(number: Option<ResNo>) -> Value
+    ensures { view result ≡ number_or_null number }
+{
+    match number {
+        Some(number) => Value::from(number.get()),
+        None => Value::Null,
+    }
+}
+
+// Numbers as JSON.
+fn numbers_value(alloc: Global, numbers: &[ResNo]) -> Result<Value, AllocError>
+    ensures { IfOk result (λ v. view v ≡ listed num numbers.now) }
+{
+    let mut list = Vec::new(alloc);
+    for number in numbers {
+        list.push(Value::from(number.get()))?;
+    }
+    Ok(Value::Array(list))
+}
+
+// A tag and a text as JSON.
+fn label_value(alloc: Global, label: &Label) -> Result<Value, AllocError>
+    ensures { IfOk result (λ v. view v ≡ tagged_data (tagged label.now)) }
+{
+    json!(in alloc; [label.tag.as_str(), label.text()])
+}
+
+// Labels as JSON.
+fn labels_value(alloc: Global, labels: &[&Label]) -> Result<Value, AllocError>
+    ensures { IfOk result (λ v. view v ≡ listed tagged_data (map (λ l. tagged l.now) labels.now)) }
+{
+    let mut list = Vec::new(alloc);
+    for label in labels {
+        list.push(label_value(alloc, label)?)?;
+    }
+    Ok(Value::Array(list))
+}
+
+// A mapping as JSON: its word and its other end.
+fn mapping_value(alloc: Global, mapping: (LinkKind, ResNo)) -> Result<Value, AllocError>
+    ensures { IfOk result (λ v. view v ≡ mapping_data mapping) }
+{
+    let (kind, other) = mapping;
+    json!(in alloc; [link_word(kind), other.get()])
+}
+
+// Mappings as JSON.
+fn mappings_value(alloc: Global, mappings: &[(LinkKind, ResNo)]) -> Result<Value, AllocError>
+    ensures { IfOk result (λ v. view v ≡ listed mapping_data mappings.now) }
+{
+    let mut list = Vec::new(alloc);
+    for mapping in mappings {
+        list.push(mapping_value(alloc, *mapping)?)?;
+    }
+    Ok(Value::Array(list))
+}
+
+// Adds the labels of a concept to the members of its view.
+#[tactic(auto, unfolding(crate::specs::ConceptMembers::with_labels))]
+fn put_labels(
+    members: &mut Map<String, Value>,
+    alloc: Global,
+    concept: &ConceptView,
+) -> Result<(), AllocError>
+    ensures { OnOk result (members_view members.new.entries ≡ with_labels concept.now (members_view members.old.entries)) }
+{
+    put(members, alloc, "alt", labels_value(alloc, &concept.alt)?)?;
+    put(
+        members,
+        alloc,
+        "hidden",
+        labels_value(alloc, &concept.hidden)?,
+    )?;
+    put(members, alloc, "pref", labels_value(alloc, &concept.pref)?)?;
+    put(
+        members,
+        alloc,
+        "scope",
+        labels_value(alloc, &concept.scope)?,
+    )
+}
+
+// Adds its links.
+#[tactic(auto, unfolding(crate::specs::ConceptMembers::with_links))]
+fn put_links(
+    members: &mut Map<String, Value>,
+    alloc: Global,
+    concept: &ConceptView,
+) -> Result<(), AllocError>
+    ensures { OnOk result (members_view members.new.entries ≡ with_links concept.now (members_view members.old.entries)) }
+{
+    put(
+        members,
+        alloc,
+        "broader",
+        numbers_value(alloc, &concept.broader)?,
+    )?;
+    put(
+        members,
+        alloc,
+        "collections",
+        numbers_value(alloc, &concept.collections)?,
+    )?;
+    put(
+        members,
+        alloc,
+        "mappings",
+        mappings_value(alloc, &concept.mappings)?,
+    )?;
+    put(
+        members,
+        alloc,
+        "narrower",
+        numbers_value(alloc, &concept.narrower)?,
+    )?;
+    put(
+        members,
+        alloc,
+        "related",
+        numbers_value(alloc, &concept.related)?,
+    )
+}
+
+// Adds what else is shown of it.
+#[tactic(auto, unfolding(crate::specs::ConceptMembers::with_facts))]
+fn put_facts(
+    members: &mut Map<String, Value>,
+    alloc: Global,
+    concept: &ConceptView,
+) -> Result<(), AllocError>
+    ensures { OnOk result (members_view members.new.entries ≡ with_facts concept.now (members_view members.old.entries)) }
+{
+    put(members, alloc, "live", Value::from(concept.live))?;
+    put(members, alloc, "number", Value::from(concept.number.get()))?;
+    put(members, alloc, "postings", Value::from(concept.postings))?;
+    put(members, alloc, "replaced", number_or_null(concept.replaced))?;
+    put(members, alloc, "scheme", number_or_null(concept.scheme))?;
+    put(members, alloc, "top", Value::from(concept.top))
+}
+
+// A concept as JSON.
+fn concept_value(alloc: Global, concept: &ConceptView) -> Result<Value, AllocError>
+    ensures { IfOk result (λ v. view v ≡ concept_data concept.now) }
+{
+    let mut members = Map::new(alloc);
+    put_labels(&mut members, alloc, concept)?;
+    put_links(&mut members, alloc, concept)?;
+    put_facts(&mut members, alloc, concept)?;
+    Ok(Value::Object(members))
+}
+
+// A posting in a list, as JSON.
+fn row_value(alloc: Global, history: &History) -> Result<Value, AllocError>
+    ensures { IfOk result (λ v. view v ≡ row_data history.now) }
+{
+    json!(in alloc; [history.number.get(), history.key.as_str(), history.rec.as_str()])
+}
+
+// Postings in a list, as JSON.
+fn rows_value(alloc: Global, rows: &[&History]) -> Result<Value, AllocError>
+    ensures { IfOk result (λ v. view v ≡ listed row_data (map (λ h. h.now) rows.now)) }
+{
+    let mut list = Vec::new(alloc);
+    for row in rows {
+        list.push(row_value(alloc, row)?)?;
+    }
+    Ok(Value::Array(list))
+}
+
+// The postings at a concept as JSON.
+fn postings_value(alloc: Global, postings: &PostingRows) -> Result<Value, AllocError>
+    ensures { IfOk result (λ v. view v ≡ postings_data postings.now) }
+{
+    let rows = rows_value(alloc, &postings.rows)?;
+    json!(in alloc; {"postings": rows})
+}
+
+// A move as JSON.
+fn move_value(alloc: Global, step: &Move) -> Result<Value, AllocError>
+    ensures { IfOk result (λ v. view v ≡ move_data step.now) }
+{
+    json!(in alloc; [step.number.get(), step.source.get(), step.target.get()])
+}
+
+// Moves as JSON.
+fn moves_value(alloc: Global, moves: &[Move]) -> Result<Value, AllocError>
+    ensures { IfOk result (λ v. view v ≡ listed move_data moves.now) }
+{
+    let mut list = Vec::new(alloc);
+    for step in moves {
+        list.push(move_value(alloc, step)?)?;
+    }
+    Ok(Value::Array(list))
+}
+
+// Where a posting stands.
+fn place_of(history: &History) -> ResNo
+    ensures { result ≡ place history.now }
+{
+    match history.moves.as_slice().last() {
+        Some(step) => step.target,
+        None => history.first,
+    }
+}
+
+// A posting with its history as JSON.
+fn posting_value(alloc: Global, history: &History) -> Result<Value, AllocError>
+    ensures { IfOk result (λ v. view v ≡ posting_data history.now) }
+{
+    let moves = moves_value(alloc, history.moves.as_slice())?;
+    json!(in alloc; {
+        "first": history.first.get(),
+        "key": history.key.as_str(),
+        "moves": moves,
+        "number": history.number.get(),
+        "place": place_of(history).get(),
+        "record": history.rec.as_str(),
+        "withdrawn": history.withdrawn
+    })
+}
+
+// The line of a value.
+#[tactic(auto, unfolding(crate::specs::ViewTexts::line_text))]
+fn value_line(alloc: Global, value: &Value) -> Result<Vec<u8>, AllocError>
+    ensures { IfOk result (λ text. has_float (view value.now) ≡ false → text.items ≡ line_text (view value.now)) }
+{
+    let mut text = value.to_vec(alloc)?;
+    text.push(b'\n')?;
+    Ok(text)
+}
+
+// The line of the totals.
+fn totals_line(alloc: Global, totals: &Totals) -> Result<Vec<u8>, AllocError>
+    ensures { IfOk result (λ text. text.items ≡ line_text (totals_data totals.now)) }
+{
+    value_line(alloc, &totals_value(alloc, totals)?)
+}
+
+// The line of a concept.
+#[tactic(auto, using(crate::proofs::ViewLemmas::concept_has_no_float))]
+fn concept_line(alloc: Global, concept: &ConceptView) -> Result<Vec<u8>, AllocError>
+    ensures { IfOk result (λ text. text.items ≡ line_text (concept_data concept.now)) }
+{
+    value_line(alloc, &concept_value(alloc, concept)?)
+}
+
+// The line of the postings at a concept.
+#[tactic(auto, using(crate::proofs::ViewLemmas::postings_have_no_float))]
+fn postings_line(alloc: Global, postings: &PostingRows) -> Result<Vec<u8>, AllocError>
+    ensures { IfOk result (λ text. text.items ≡ line_text (postings_data postings.now)) }
+{
+    value_line(alloc, &postings_value(alloc, postings)?)
+}
+
+// The line of a posting.
+#[tactic(auto, using(crate::proofs::ViewLemmas::posting_has_no_float))]
+fn posting_line(alloc: Global, history: &History) -> Result<Vec<u8>, AllocError>
+    ensures { IfOk result (λ text. text.items ≡ line_text (posting_data history.now)) }
+{
+    value_line(alloc, &posting_value(alloc, history)?)
+}
+
+/// The line of what is shown.
+pub fn view_line(alloc: Global, view: &View) -> Result<Vec<u8>, AllocError>
+    ensures { IfOk result (λ text. text.items ≡ view_text view.now) }
+{
+    match view {
+        View::Totals(totals) => totals_line(alloc, totals),
+        View::Concept(concept) => concept_line(alloc, concept),
+        View::Postings(postings) => postings_line(alloc, postings),
+        View::Posting(history) => posting_line(alloc, history),
+        View::No(refusal) => Vec::from_slice(alloc, refusal_line(*refusal).as_bytes()),
+    }
+}

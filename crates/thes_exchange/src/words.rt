@@ -1,0 +1,115 @@
+//! The words of requests and views.
+ghost use Rattle.std.specs.Prelude.{◌≡◌};
+ghost use Rattle.thes_exchange.specs.Words.{label_kind_named, link_kind_named, link_word, noun_named, verb_named};
+
+use thes_base::data::{LabelKind, LinkKind};
+
+/// What a request does.
+#[derive(Clone, Copy, Debug, PartialEq, Eq)]
+pub enum Verb {
+    Scheme,
+    Concept,
+    Collection,
+    Outside,
+    AddLabel,
+    DropLabel,
+    Relabel,
+    Link,
+    Unlink,
+    Deprecate,
+    Merge,
+    Split,
+    Post,
+    Withdraw,
+}
+
+/// What a request asks to see.
+#[derive(Clone, Copy, Debug, PartialEq, Eq)]
+pub enum Noun {
+    Totals,
+    Concept,
+    Postings,
+    Posting,
+}
+
+/// The word at `do`.
+pub fn verb_named(word: &str) -> Option<Verb>
+    ensures { result ≡ verb_named word.now }
+{
+    match word {
+        "scheme" => Some(Verb::Scheme),
+        "concept" => Some(Verb::Concept),
+        "collection" => Some(Verb::Collection),
+        "outside" => Some(Verb::Outside),
+        "addLabel" => Some(Verb::AddLabel),
+        "dropLabel" => Some(Verb::DropLabel),
+        "relabel" => Some(Verb::Relabel),
+        "link" => Some(Verb::Link),
+        "unlink" => Some(Verb::Unlink),
+        "deprecate" => Some(Verb::Deprecate),
+        "merge" => Some(Verb::Merge),
+        "split" => Some(Verb::Split),
+        "post" => Some(Verb::Post),
+        "withdraw" => Some(Verb::Withdraw),
+        _ => None,
+    }
+}
+
+/// The word at `get`.
+pub fn noun_named(word: &str) -> Option<Noun>
+    ensures { result ≡ noun_named word.now }
+{
+    match word {
+        "totals" => Some(Noun::Totals),
+        "concept" => Some(Noun::Concept),
+        "postings" => Some(Noun::Postings),
+        "posting" => Some(Noun::Posting),
+        _ => None,
+    }
+}
+
+/// The word of a kind of label.
+pub fn label_kind_named(word: &str) -> Option<LabelKind>
+    ensures { result ≡ label_kind_named word.now }
+{
+    match word {
+        "pref" => Some(LabelKind::Pref),
+        "alt" => Some(LabelKind::Alt),
+        "hidden" => Some(LabelKind::Hidden),
+        "scope" => Some(LabelKind::Scope),
+        _ => None,
+    }
+}
+
+/// The word of a kind of link.
+pub fn link_kind_named(word: &str) -> Option<LinkKind>
+    ensures { result ≡ link_kind_named word.now }
+{
+    match word {
+        "broader" => Some(LinkKind::Broader),
+        "related" => Some(LinkKind::Related),
+        "exact" => Some(LinkKind::Exact),
+        "close" => Some(LinkKind::Close),
+        "broad" => Some(LinkKind::Broad),
+        "narrow" => Some(LinkKind::Narrow),
+        "relMatch" => Some(LinkKind::RelMatch),
+        "member" => Some(LinkKind::Member),
+        _ => None,
+    }
+}
+
+/// The word that a kind of link has.
+pub fn link_word(kind: LinkKind) -> &'static str
+    ensures { result.now ≡ link_word kind }
+{
+    match kind {
+        LinkKind::Broader => "broader",
+        LinkKind::Related => "related",
+        LinkKind::Exact => "exact",
+        LinkKind::Close => "close",
+        LinkKind::Broad => "broad",
+        LinkKind::Narrow => "narrow",
+        LinkKind::RelMatch => "relMatch",
+        LinkKind::Member => "member",
+    }
+}

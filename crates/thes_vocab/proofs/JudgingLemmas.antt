@@ -1,0 +1,428 @@
+-- When a label more, one less, or another name breaks a condition on labels.
+use Rattle.std.proofs.Common.{◌≡◌, ◌≢◌, ◌⊎◌, ◌≤◌, inl, inr, ℕ, ◌+◌, length, List, [], ◌∷◌, ◌++◌, refl, sym, ap, ◌∙◌, subst, Bool, true, false, not, ◌&&◌, ◌||◌, eqb, eqb-true, eq-eqb, Bor}
+use Rattle.std.specs.Prelude.{Option, None, Some, find, option_map, if◌then◌else◌, ◌==◌}
+use Rattle.std.specs.Option.{MatchOption, is_some}
+use Rattle.std.specs.Bool.{MatchBool}
+use Rattle.std.specs.Ordering.{nat_cmp, eq_by_cmp, is_eq}
+use Rattle.std.specs.Cmp.{tied_itself, Equal-is}
+use Rattle.std.specs.Cmp.Lexicographic.{slice_cmp}
+use Rattle.std.specs.List.{list_any}
+use Rattle.std.specs.FinSet as set
+use Rattle.std.proofs.lemmas.Cmp.{nat_list_cmp_total}
+use Rattle.std.proofs.lemmas.Map.Lookups.{exact_bytes}
+use Rattle.thes_base.specs.declared.data.Resource.{Resource}
+use Rattle.thes_base.specs.declared.data.LabelKind.{LabelKind}
+use Rattle.thes_base.specs.declared.data.LabelKind.TheVariants.{Pref, Alt, Hidden, Scope}
+use Rattle.thes_base.specs.declared.data.LabelValue.{LabelValue}
+use Rattle.thes_base.specs.declared.data.LabelValue.TheVariants as values
+use Rattle.thes_base.specs.Data.{kind_of}
+use Rattle.thes_base.specs.Resources.{IsLiveConcept, IsScheme, Exists, scheme_of}
+use Rattle.thes_base.specs.Labels.{Label, Labels, label_cmp, label_kind_no, HasLabel, is_name, is_preferred_in, preferred_in, S13, S14, UniquePreferred, IsTaken}
+use Rattle.thes_base.specs.declared.fault.Refusal.{Refusal}
+use Rattle.thes_base.specs.declared.fault.Refusal.TheVariants as no
+use Rattle.thes_base.specs.Rows.{accepted}
+use Rattle.thes_base.specs.Legal.{LegalLabels}
+use Rattle.thes_base.specs.Changes.{label, concept_resource, has_name, renamed, labels_relabelled}
+use Rattle.thes_base.specs.Refusals.{LeavesPreferred, unless_relabelled, unless_scheme, unless_unique}
+use Rattle.thes_base.proofs.LabelSets.{labels_total, labels_exact, inserted_cases, inserted_kept, inserted_new}
+use Rattle.thes_base.proofs.Uniqueness.{made_unique, taken_breaks}
+use Rattle.thes_base.proofs.ConditionLemmas.{owner_exists}
+use Rattle.thes_base.proofs.NumberedLemmas.{numbered_bound}
+use Rattle.thes_base.proofs.LabelsKept.{removed_cases, removed_kept}
+use Rattle.thes_base.proofs.ResourceLemmas.{same_or_not, left_true, right_true, both_true}
+use Rattle.thes_vocab.specs.Vocabulary.{IsHolder}
+use Rattle.thes_vocab.specs.Rivals.{HasRival, HasTwoPreferred, Clashes}
+
+tied : (x y : Label) → eq_by_cmp label_cmp x y ≡ true → x ≡ y
+tied x y e = labels_exact x y ((Equal-is (label_cmp x y)).0 e)
+
+ties : (x y : Label) → x ≡ y → eq_by_cmp label_cmp x y ≡ true
+ties x y e = ap (λ z. eq_by_cmp label_cmp x z) (sym e) ∙ ap is_eq (tied_itself labels_total x)
+
+clash : (b : Bool) → b ≡ true → b ≡ false → ⊥
+clash b e f = cc
+
+pub same_label : (x y : Label) → (x ≡ y) ⊎ (x ≢ y)
+same_label x y = go (eq_by_cmp label_cmp x y) refl
+  where
+    go : (b : Bool) → eq_by_cmp label_cmp x y ≡ b → (x ≡ y) ⊎ (x ≢ y)
+    go true e = inl (tied x y e)
+    go false e = inr (λ same. clash _ (ties x y same) e)
+
+or_cases : (a b : Bool) → (a || b) ≡ true → (a ≡ true) ⊎ (b ≡ true)
+or_cases true b e = inl refl
+or_cases false b e = inr e
+
+or_left : (a b : Bool) → a ≡ true → (a || b) ≡ true
+or_left true b e = refl
+or_left false b e = absurd (cc)
+
+or_right : (a b : Bool) → b ≡ true → (a || b) ≡ true
+or_right true b e = refl
+or_right false b e = e
+
+-- The preferred label in a language.
+
+find_step : (p : Label → Bool) (l : Label) (ls : List Label) (b : Bool) → p l ≡ b → find p (l ∷ ls) ≡ (if b then Some l else find p ls)
+find_step p l ls b e = ap (λ c. if c then Some l else find p ls) e
+
+none_step : (p : Label → Bool) (l : Label) (ls : List Label) → find p (l ∷ ls) ≡ None → (p l ≡ false) × (find p ls ≡ None)
+none_step p l ls e = go (p l) refl
+  where
+    go : (b : Bool) → p l ≡ b → (p l ≡ false) × (find p ls ≡ None)
+    go true hit = absurd (never (sym (find_step p l ls true hit) ∙ e))
+      where
+        never : Some l ≡ None → ⊥
+        never f = cc
+    go false miss = (miss, sym (find_step p l ls false miss) ∙ e)
+
+find_none : (p : Label → Bool) (ls : List Label) → find p ls ≡ None → (q : Label) → p q ≡ true → list_any (eq_by_cmp label_cmp q) ls ≡ true → ⊥
+find_none p [] e q hit held = cc
+find_none p (l ∷ ls) e q hit held = elim (or_cases _ _ held) [
+  | inl same ↦ clash (p l) (ap p (sym (tied q l same)) ∙ hit) (none_step p l ls e).0
+  | inr later ↦ find_none p ls (none_step p l ls e).1 q hit later
+]
+
+some_same : {A : Type 0} {x y : A} → Some x ≡ Some y → x ≡ y
+some_same e = cc
+
+find_some : (p : Label → Bool) (ls : List Label) (f : Label) → find p ls ≡ Some f → (p f ≡ true) × (list_any (eq_by_cmp label_cmp f) ls ≡ true)
+find_some p [] f e = absurd (cc)
+find_some p (l ∷ ls) f e = go (find_some p ls f) (p l) refl
+  where
+    go : (find p ls ≡ Some f → (p f ≡ true) × (list_any (eq_by_cmp label_cmp f) ls ≡ true)) → (b : Bool) → p l ≡ b → (p f ≡ true) × (list_any (eq_by_cmp label_cmp f) (l ∷ ls) ≡ true)
+    go later true hit = let same = some_same (sym (find_step p l ls true hit) ∙ e) in (ap p (sym same) ∙ hit, or_left _ _ (ties f l (sym same)))
+    go later false miss = let found = later (sym (find_step p l ls false miss) ∙ e) in (found.0, or_right (eq_by_cmp label_cmp f l) _ found.1)
+
+is_pref : (k : LabelKind) → (label_kind_no k == 1) ≡ true → k ≡ Pref
+is_pref Pref e = refl
+is_pref Alt e = absurd (cc)
+is_pref Hidden e = absurd (cc)
+is_pref Scope e = absurd (cc)
+
+preferred_test : (owner : ℕ) (tag text : List ℕ) → is_preferred_in owner tag (label owner Pref tag text) ≡ true
+preferred_test owner tag text = both_true (owner == owner) _ (eq-eqb owner owner refl) (ap is_eq (tied_itself nat_list_cmp_total tag))
+
+tested_preferred : (owner : ℕ) (tag : List ℕ) (l : Label) → is_preferred_in owner tag l ≡ true → l ≡ label owner Pref tag l.text
+tested_preferred owner tag l e =
+    let o = eqb-true l.owner owner (left_true (l.owner == owner) _ e) in
+    let rest = right_true (l.owner == owner) _ e in
+    let k = is_pref l.kind (left_true (label_kind_no l.kind == 1) _ rest) in
+    let t = exact_bytes l.tag tag ((Equal-is (slice_cmp nat_cmp l.tag tag)).0 (right_true (label_kind_no l.kind == 1) _ rest)) in
+    λ i. label (o i) (k i) (t i) l.text
+
+module _ (labels : Labels) (owner : ℕ) (tag : List ℕ) where
+  pub preferred_has : (text : List ℕ) → preferred_in labels owner tag ≡ Some text → HasLabel labels owner Pref tag text
+  preferred_has text e = go (find (is_preferred_in owner tag) (set.items labels)) refl e
+    where
+      go : (o : Option Label) → find (is_preferred_in owner tag) (set.items labels) ≡ o → option_map (λ (l : Label). l.text) o ≡ Some text → HasLabel labels owner Pref tag text
+      go None is f = absurd (cc)
+      go (Some l) is f =
+          let found = find_some (is_preferred_in owner tag) (set.items labels) l is in
+          let held = set.contains-items labels l ∙ found.1 in
+          let same = tested_preferred owner tag l found.0 in
+          subst (λ (x : Label). set.contains labels x ≡ true) (same ∙ ap (label owner Pref tag) (some_same f)) held
+
+  -- what a look-up answers is the preferred label
+  pub preferred_is : S14 labels → (o : Option (List ℕ)) → MatchOption o ((text : List ℕ) → HasLabel labels owner Pref tag text → ⊥) (HasLabel labels owner Pref tag) → o ≡ preferred_in labels owner tag
+  preferred_is s14 o h = go (find (is_preferred_in owner tag) (set.items labels)) refl o h
+    where
+      go : (f : Option Label) → find (is_preferred_in owner tag) (set.items labels) ≡ f → (o : Option (List ℕ)) → MatchOption o ((text : List ℕ) → HasLabel labels owner Pref tag text → ⊥) (HasLabel labels owner Pref tag) → o ≡ option_map (λ (l : Label). l.text) f
+      go None is None h = refl
+      go None is (Some text) h = absurd (find_none (is_preferred_in owner tag) (set.items labels) is (label owner Pref tag text) (preferred_test owner tag text) (sym (set.contains-items labels (label owner Pref tag text)) ∙ h))
+      go (Some l) is None h = absurd (h l.text (preferred_has l.text (ap (option_map (λ (x : Label). x.text)) is)))
+      go (Some l) is (Some text) h = ap Some (s14 owner tag text l.text h (preferred_has l.text (ap (option_map (λ (x : Label). x.text)) is)))
+
+-- Owners are numbers of resources.
+pub owners_bound : (rs : List Resource) (labels : Labels) → LegalLabels rs labels → (l : Label) → set.contains labels l ≡ true → (1 ≤ l.owner) × (l.owner ≤ length rs)
+owners_bound rs labels legal l held = let at = owner_exists rs l.owner (legal.owners l held) in numbered_bound rs l.owner at.0 at.1
+
+-- A name of one of the kinds.
+
+pub named_by : (labels : Labels) (owner : ℕ) (tag text : List ℕ) → has_name labels owner tag text ≡ true → (k : LabelKind) × (is_name k ≡ true) × HasLabel labels owner k tag text
+named_by labels owner tag text e = elim (or_cases _ _ e) [
+  | inl first ↦ elim (or_cases _ _ first) [ inl pref ↦ (Pref, refl, pref) | inr alt ↦ (Alt, refl, alt) ]
+  | inr hidden ↦ (Hidden, refl, hidden)
+]
+
+pub name_of : (labels : Labels) (owner : ℕ) (k : LabelKind) (tag text : List ℕ) → is_name k ≡ true → HasLabel labels owner k tag text → has_name labels owner tag text ≡ true
+name_of labels owner Pref tag text n h = or_left _ _ (or_left _ _ h)
+name_of labels owner Alt tag text n h = or_left _ _ (or_right (set.contains labels (label owner Pref tag text)) _ h)
+name_of labels owner Hidden tag text n h = or_right (set.contains labels (label owner Pref tag text) || set.contains labels (label owner Alt tag text)) _ h
+name_of labels owner Scope tag text n h = absurd (cc)
+
+-- One label more.
+
+module _ (labels : Labels) (l : Label) where
+  abbrev more : Labels
+  more = set.insert labels l
+
+  pub breaks_s13 : set.contains labels l ≡ false → is_name l.kind ≡ true → has_name labels l.owner l.tag l.text ≡ true → S13 more → ⊥
+  breaks_s13 new name has s13 =
+      let other = named_by labels l.owner l.tag l.text has in
+      let same = s13 l.owner l.kind other.0 l.tag l.text name other.1 (inserted_new labels l) (inserted_kept labels l _ other.2) in
+      clash _ (subst (λ k. HasLabel labels l.owner k l.tag l.text) (sym same) other.2) new
+
+  pub keeps_s13 : S13 labels → (is_name l.kind ≡ false) ⊎ (has_name labels l.owner l.tag l.text ≡ false) → S13 more
+  keeps_s13 s13 apart owner j k tag text nj nk hj hk = go (inserted_cases labels l _ hj) (inserted_cases labels l _ hk)
+    where
+      never : (k : LabelKind) (n : LabelKind) → is_name n ≡ true → is_name k ≡ true → label owner n tag text ≡ l → HasLabel labels owner k tag text → (is_name l.kind ≡ false) ⊎ (has_name labels l.owner l.tag l.text ≡ false) → ⊥
+      never k n nn nk is held (inl note) = clash (is_name l.kind) (ap (λ (x : Label). is_name x.kind) (sym is) ∙ nn) note
+      never k n nn nk is held (inr free) = clash _ (ap (λ (x : Label). has_name labels x.owner x.tag x.text) (sym is) ∙ name_of labels owner k tag text nk held) free
+
+      go : (label owner j tag text ≡ l) ⊎ HasLabel labels owner j tag text → (label owner k tag text ≡ l) ⊎ HasLabel labels owner k tag text → j ≡ k
+      go (inl a) (inl b) = ap (λ (x : Label). x.kind) a ∙ sym (ap (λ (x : Label). x.kind) b)
+      go (inl a) (inr b) = absurd (never k j nj nk a b apart)
+      go (inr a) (inl b) = absurd (never j k nk nj b a apart)
+      go (inr a) (inr b) = s13 owner j k tag text nj nk a b
+
+  pub breaks_s14 : set.contains labels l ≡ false → l.kind ≡ Pref → (text : List ℕ) → HasLabel labels l.owner Pref l.tag text → S14 more → ⊥
+  breaks_s14 new is text has s14 =
+      let held : HasLabel more l.owner Pref l.tag l.text = subst (λ k. HasLabel more l.owner k l.tag l.text) is (inserted_new labels l) in
+      let same = s14 l.owner l.tag l.text text held (inserted_kept labels l _ has) in
+      clash _ (subst (λ (p : LabelKind × List ℕ). HasLabel labels l.owner p.0 l.tag p.1) (λ i. (sym is i, sym same i)) has) new
+
+  pub keeps_s14 : S14 labels → (l.kind ≢ Pref) ⊎ ((text : List ℕ) → HasLabel labels l.owner Pref l.tag text → ⊥) → S14 more
+  keeps_s14 s14 apart owner tag x y hx hy = go (inserted_cases labels l _ hx) (inserted_cases labels l _ hy)
+    where
+      never : (z w : List ℕ) → label owner Pref tag z ≡ l → HasLabel labels owner Pref tag w → (l.kind ≢ Pref) ⊎ ((text : List ℕ) → HasLabel labels l.owner Pref l.tag text → ⊥) → ⊥
+      never z w is held (inl other) = other (sym (ap (λ (q : Label). q.kind) is))
+      never z w is held (inr none) = none w (subst (λ (q : Label). HasLabel labels q.owner Pref q.tag w) is held)
+
+      go : (label owner Pref tag x ≡ l) ⊎ HasLabel labels owner Pref tag x → (label owner Pref tag y ≡ l) ⊎ HasLabel labels owner Pref tag y → x ≡ y
+      go (inl a) (inl b) = ap (λ (q : Label). q.text) a ∙ sym (ap (λ (q : Label). q.text) b)
+      go (inl a) (inr b) = absurd (never x y a b apart)
+      go (inr a) (inl b) = absurd (never y x b a apart)
+      go (inr a) (inr b) = s14 owner tag x y a b
+
+  module _ (rs : List Resource) where
+    pub breaks_unique : l.kind ≡ Pref → HasRival rs labels l.owner l.tag l.text → UniquePreferred rs more → ⊥
+    breaks_unique is rival p1 =
+        rival.other (p1 rival.rival l.owner rival.scheme l.tag l.text rival.holder.0.0 rival.concept rival.holder.0.1 rival.within (inserted_kept labels l _ rival.holder.1)
+        (subst (λ k. HasLabel more l.owner k l.tag l.text) is (inserted_new labels l)))
+
+    pub keeps_unique : UniquePreferred rs labels → (l.kind ≢ Pref) ⊎ (HasRival rs labels l.owner l.tag l.text → ⊥) → UniquePreferred rs more
+    keeps_unique p1 apart m n scheme tag text lm ln sm sn hm hn = go (inserted_cases labels l _ hm) (inserted_cases labels l _ hn) (same_or_not n m)
+      where
+        rival_at : (m n : ℕ) → label m Pref tag text ≡ l → HasLabel labels n Pref tag text → n ≢ m → IsLiveConcept rs m → scheme_of rs m ≡ Some scheme → IsLiveConcept rs n → scheme_of rs n ≡ Some scheme → (l.kind ≢ Pref) ⊎ (HasRival rs labels l.owner l.tag l.text → ⊥) → ⊥
+        rival_at m n is held differ lm sm ln sn (inl other) = other (sym (ap (λ (q : Label). q.kind) is))
+        rival_at m n is held differ lm sm ln sn (inr none) =
+            none (subst (λ (q : Label). HasRival rs labels q.owner q.tag q.text) is (record { scheme = scheme; rival = n; concept = lm; within = sm; holder = ((ln, sn), held); other = differ }))
+
+        go : (label m Pref tag text ≡ l) ⊎ HasLabel labels m Pref tag text → (label n Pref tag text ≡ l) ⊎ HasLabel labels n Pref tag text → (n ≡ m) ⊎ (n ≢ m) → m ≡ n
+        go a b (inl same) = sym same
+        go (inl a) (inl b) (inr differ) = ap (λ (x : Label). x.owner) a ∙ sym (ap (λ (x : Label). x.owner) b)
+        go (inl a) (inr b) (inr differ) = absurd (rival_at m n a b differ lm sm ln sn apart)
+        go (inr a) (inl b) (inr differ) = absurd (rival_at n m b a (λ e. differ (sym e)) ln sn lm sm apart)
+        go (inr a) (inr b) (inr differ) = p1 m n scheme tag text lm ln sm sn a b
+
+-- One label less.
+
+pub leaves_of_two : (labels : Labels) (l : Label) → HasTwoPreferred labels l.owner → LeavesPreferred labels l
+leaves_of_two labels l two = elim (same_label (label l.owner Pref two.first_tag two.first_text) l) [
+  | inl same ↦ inr (two.second_tag, two.second_text, two.second, λ e. two.apart (same ∙ sym e))
+  | inr apart ↦ inr (two.first_tag, two.first_text, two.first, apart)
+]
+
+pub two_of_leaves : (labels : Labels) (l : Label) → set.contains labels l ≡ true → l.kind ≡ Pref → LeavesPreferred labels l → HasTwoPreferred labels l.owner
+two_of_leaves labels l held is (inl other) = absurd (other is)
+two_of_leaves labels l held is (inr (tag, text, has, apart)) = record {
+  first_tag = tag;
+  first_text = text;
+  second_tag = l.tag;
+  second_text = l.text;
+  first = has;
+  second = subst (λ k. HasLabel labels l.owner k l.tag l.text) is held;
+  apart = λ e. apart (e ∙ (λ i. label l.owner (sym is i) l.tag l.text));
+}
+
+-- Another name in place of the old one.
+
+module _ (labels : Labels) (owner : ℕ) (tag text old : List ℕ) (keep : Bool) where
+  abbrev was : Label
+  was = label owner Pref tag old
+
+  abbrev fresh : Label
+  fresh = label owner Pref tag text
+
+  abbrev kept : Label
+  kept = label owner Alt tag old
+
+  abbrev after : Labels
+  after = renamed owner tag text keep old labels
+
+  pub renamed_cases : (q : Label) → set.contains after q ≡ true → (q ≡ fresh) ⊎ ((keep ≡ true) × (q ≡ kept)) ⊎ ((q ≢ was) × (set.contains labels q ≡ true))
+  renamed_cases q = go keep
+    where
+      base_cases : (b : Bool) → set.contains (set.insert (set.remove labels was) fresh) q ≡ true → (q ≡ fresh) ⊎ ((b ≡ true) × (q ≡ kept)) ⊎ ((q ≢ was) × (set.contains labels q ≡ true))
+      base_cases b e = elim (inserted_cases (set.remove labels was) fresh q e) [ inl is ↦ inl is | inr before ↦ inr (inr (removed_cases labels was q before)) ]
+
+      go : (b : Bool) → set.contains (if b then set.insert (set.insert (set.remove labels was) fresh) kept else set.insert (set.remove labels was) fresh) q ≡ true → (q ≡ fresh) ⊎ ((b ≡ true) × (q ≡ kept)) ⊎ ((q ≢ was) × (set.contains labels q ≡ true))
+      go true e = elim (inserted_cases (set.insert (set.remove labels was) fresh) kept q e) [ inl is ↦ inr (inl (refl, is)) | inr before ↦ base_cases true before ]
+      go false e = base_cases false e
+
+  renamed_has : (q : Label) → set.contains (set.insert (set.remove labels was) fresh) q ≡ true → set.contains after q ≡ true
+  renamed_has q h = go keep
+    where
+      go : (b : Bool) → set.contains (if b then set.insert (set.insert (set.remove labels was) fresh) kept else set.insert (set.remove labels was) fresh) q ≡ true
+      go true = inserted_kept (set.insert (set.remove labels was) fresh) kept q h
+      go false = h
+
+  pub renamed_fresh : set.contains after fresh ≡ true
+  renamed_fresh = renamed_has fresh (inserted_new (set.remove labels was) fresh)
+
+  pub renamed_old : (q : Label) → q ≢ was → set.contains labels q ≡ true → set.contains after q ≡ true
+  renamed_old q apart held = renamed_has q (inserted_kept (set.remove labels was) fresh q (removed_kept labels was q apart held))
+
+  renamed_kept : keep ≡ true → set.contains after kept ≡ true
+  renamed_kept e = go keep e
+    where
+      go : (b : Bool) → b ≡ true → set.contains (if b then set.insert (set.insert (set.remove labels was) fresh) kept else set.insert (set.remove labels was) fresh) kept ≡ true
+      go true e = inserted_new (set.insert (set.remove labels was) fresh) kept
+      go false e = absurd (cc)
+
+  abbrev Clashing : Type 0
+  Clashing = Clashes labels owner tag text old keep
+
+  not_alt : Alt ≡ Pref → ⊥
+  not_alt e = cc
+
+  not_hidden : Hidden ≡ Pref → ⊥
+  not_hidden e = cc
+
+  pub renamed_breaks_s13 : Clashing → S13 after → ⊥
+  renamed_breaks_s13 (inl alt) s13 = not_alt (s13 owner Alt Pref tag text refl refl (renamed_old (label owner Alt tag text) (λ e. not_alt (ap (λ (l : Label). l.kind) e)) alt) renamed_fresh)
+  renamed_breaks_s13 (inr (inl hidden)) s13 = not_hidden (s13 owner Hidden Pref tag text refl refl (renamed_old (label owner Hidden tag text) (λ e. not_hidden (ap (λ (l : Label). l.kind) e)) hidden) renamed_fresh)
+  renamed_breaks_s13 (inr (inr (keeps, same))) s13 = not_alt (s13 owner Alt Pref tag text refl refl (subst (λ x. HasLabel after owner Alt tag x) same (renamed_kept keeps)) renamed_fresh)
+
+  abbrev Cases : Label → Type 0
+  Cases q = (q ≡ fresh) ⊎ ((keep ≡ true) × (q ≡ kept)) ⊎ ((q ≢ was) × (set.contains labels q ≡ true))
+
+  pub renamed_keeps_s13 : S13 labels → HasLabel labels owner Pref tag old → (Clashing → ⊥) → S13 after
+  renamed_keeps_s13 s13 has_old free n j k t x nj nk hj hk = go j k nj nk (renamed_cases _ hj) (renamed_cases _ hk)
+    where
+      -- the fresh name beside one that was there
+      beside : (k : LabelKind) → is_name k ≡ true → n ≡ owner → t ≡ tag → x ≡ text → HasLabel labels n k t x → Pref ≡ k
+      beside k nk en et ex held = at k nk (subst (λ (p : ℕ × (List ℕ × List ℕ)). HasLabel labels p.0 k p.1.0 p.1.1) (λ i. (en i, (et i, ex i))) held)
+        where
+          at : (k : LabelKind) → is_name k ≡ true → HasLabel labels owner k tag text → Pref ≡ k
+          at Pref nk held = refl
+          at Alt nk held = absurd (free (inl held))
+          at Hidden nk held = absurd (free (inr (inl held)))
+          at Scope nk held = absurd (cc)
+
+      -- the kept name beside one that was there
+      beside_kept : (k : LabelKind) → is_name k ≡ true → n ≡ owner → t ≡ tag → x ≡ old → label n k t x ≢ was → HasLabel labels n k t x → ⊥
+      beside_kept k nk en et ex apart held =
+          let here = subst (λ (p : ℕ × (List ℕ × List ℕ)). HasLabel labels p.0 k p.1.0 p.1.1) (λ i. (en i, (et i, ex i))) held in
+          let same = s13 owner k Pref tag old nk refl here has_old in
+          apart (λ i. label (en i) (same i) (et i) (ex i))
+
+      both_new : (j k : LabelKind) → label n j t x ≡ fresh → (keep ≡ true) × (label n k t x ≡ kept) → ⊥
+      both_new j k a (keeps, b) = free (inr (inr (keeps, sym (ap (λ (l : Label). l.text) b) ∙ ap (λ (l : Label). l.text) a)))
+
+      go : (j k : LabelKind) → is_name j ≡ true → is_name k ≡ true → Cases (label n j t x) → Cases (label n k t x) → j ≡ k
+      go j k nj nk (inl a) (inl b) = ap (λ (l : Label). l.kind) a ∙ sym (ap (λ (l : Label). l.kind) b)
+      go j k nj nk (inl a) (inr (inl b)) = absurd (both_new j k a b)
+      go j k nj nk (inl a) (inr (inr (apart, b))) = ap (λ (l : Label). l.kind) a ∙ beside k nk (ap (λ (l : Label). l.owner) a) (ap (λ (l : Label). l.tag) a) (ap (λ (l : Label). l.text) a) b
+      go j k nj nk (inr (inl a)) (inl b) = absurd (both_new k j b a)
+      go j k nj nk (inr (inl (_, a))) (inr (inl (_, b))) = ap (λ (l : Label). l.kind) a ∙ sym (ap (λ (l : Label). l.kind) b)
+      go j k nj nk (inr (inl (_, a))) (inr (inr (apart, b))) = absurd (beside_kept k nk (ap (λ (l : Label). l.owner) a) (ap (λ (l : Label). l.tag) a) (ap (λ (l : Label). l.text) a) apart b)
+      go j k nj nk (inr (inr (apart, a))) (inl b) = sym (ap (λ (l : Label). l.kind) b ∙ beside j nj (ap (λ (l : Label). l.owner) b) (ap (λ (l : Label). l.tag) b) (ap (λ (l : Label). l.text) b) a)
+      go j k nj nk (inr (inr (apart, a))) (inr (inl (_, b))) = absurd (beside_kept j nj (ap (λ (l : Label). l.owner) b) (ap (λ (l : Label). l.tag) b) (ap (λ (l : Label). l.text) b) apart a)
+      go j k nj nk (inr (inr (_, a))) (inr (inr (_, b))) = s13 n j k t x nj nk a b
+
+  never_kept : (n : ℕ) (t x : List ℕ) → label n Pref t x ≡ kept → ⊥
+  never_kept n t x e = let k = ap (λ (l : Label). l.kind) e in cc
+
+  module _ (rs : List Resource) where
+    pub renamed_breaks_unique : HasRival rs labels owner tag text → UniquePreferred rs after → ⊥
+    renamed_breaks_unique rival p1 =
+        rival.other (p1 rival.rival owner rival.scheme tag text rival.holder.0.0 rival.concept rival.holder.0.1 rival.within
+        (renamed_old (label rival.rival Pref tag text) (λ e. rival.other (ap (λ (l : Label). l.owner) e)) rival.holder.1) renamed_fresh)
+
+    pub renamed_keeps_unique : UniquePreferred rs labels → (HasRival rs labels owner tag text → ⊥) → UniquePreferred rs after
+    renamed_keeps_unique p1 none m n scheme t x lm ln sm sn hm hn = go (renamed_cases _ hm) (renamed_cases _ hn) (same_or_not n m)
+      where
+        rival_at : (m n : ℕ) → label m Pref t x ≡ fresh → HasLabel labels n Pref t x → n ≢ m → IsLiveConcept rs m → scheme_of rs m ≡ Some scheme → IsLiveConcept rs n → scheme_of rs n ≡ Some scheme → ⊥
+        rival_at m n is held differ lm sm ln sn =
+            none (subst (λ (q : Label). HasRival rs labels q.owner q.tag q.text) is (record { scheme = scheme; rival = n; concept = lm; within = sm; holder = ((ln, sn), held); other = differ }))
+
+        go : Cases (label m Pref t x) → Cases (label n Pref t x) → (n ≡ m) ⊎ (n ≢ m) → m ≡ n
+        go a b (inl same) = sym same
+        go (inl a) (inl b) (inr differ) = ap (λ (l : Label). l.owner) a ∙ sym (ap (λ (l : Label). l.owner) b)
+        go (inl a) (inr (inr (_, b))) (inr differ) = absurd (rival_at m n a b differ lm sm ln sn)
+        go (inr (inr (_, a))) (inl b) (inr differ) = absurd (rival_at n m b a (λ e. differ (sym e)) ln sn lm sm)
+        go (inr (inr (_, a))) (inr (inr (_, b))) (inr differ) = p1 m n scheme t x lm ln sm sn a b
+        go (inr (inl (_, a))) b (inr differ) = absurd (never_kept m t x a)
+        go a (inr (inl (_, b))) (inr differ) = absurd (never_kept n t x b)
+
+-- The row of a request for another name.
+
+pub relabelled_is : (labels : Labels) (owner : ℕ) (tag text old : List ℕ) (keep : Bool) → S14 labels → HasLabel labels owner Pref tag old → labels_relabelled owner tag text keep labels ≡ renamed owner tag text keep old labels
+relabelled_is labels owner tag text old keep s14 has =
+    ap (λ (o : Option (List ℕ)). elim o [ None ↦ labels | Some x ↦ renamed owner tag text keep x labels ]) (sym (preferred_is labels owner tag s14 (Some old) has))
+
+pub row_without_name : (rs : List Resource) (labels after : Labels) (owner : ℕ) (tag : List ℕ) → ((text : List ℕ) → HasLabel labels owner Pref tag text → ⊥) → unless_relabelled labels rs after owner tag accepted (Some no.NoSuchLabel)
+row_without_name rs labels after owner tag none = inl (λ (text, has). none text has, refl)
+
+module _ (rs : List Resource) (labels : Labels) (owner : ℕ) (tag text old : List ℕ) (keep : Bool) (legal : LegalLabels rs labels) (has : HasLabel labels owner Pref tag old) where
+  abbrev RowOf : Option Refusal → Type 0
+  RowOf answer = unless_relabelled labels rs (labels_relabelled owner tag text keep labels) owner tag accepted answer
+
+  at_renamed : (answer : Option Refusal) → unless_relabelled labels rs (renamed owner tag text keep old labels) owner tag accepted answer → RowOf answer
+  at_renamed answer row = subst (λ (after : Labels). unless_relabelled labels rs after owner tag accepted answer) (sym (relabelled_is labels owner tag text old keep legal.one_preferred has)) row
+
+  pub row_clashing : Clashes labels owner tag text old keep → RowOf (Some no.S13)
+  row_clashing c = at_renamed _ (inr ((old, has), inl (renamed_breaks_s13 labels owner tag text old keep c, refl)))
+
+  module _ (free : Clashes labels owner tag text old keep → ⊥) where
+    pub row_with_rival : HasRival rs labels owner tag text → RowOf (Some no.PreferredTaken)
+    row_with_rival rival =
+        at_renamed _ (inr ((old, has), inr (renamed_keeps_s13 labels owner tag text old keep legal.disjoint has free, inl (renamed_breaks_unique labels owner tag text old keep rs rival, refl))))
+
+    pub row_renamed : (HasRival rs labels owner tag text → ⊥) → RowOf None
+    row_renamed none =
+        at_renamed _ (inr ((old, has), inr (renamed_keeps_s13 labels owner tag text old keep legal.disjoint has free, inr (renamed_keeps_unique labels owner tag text old keep rs legal.unique none, refl))))
+
+pub name_unless_scope : (k : LabelKind) → k ≢ Scope → is_name k ≡ true
+name_unless_scope Pref apart = refl
+name_unless_scope Alt apart = refl
+name_unless_scope Hidden apart = refl
+name_unless_scope Scope apart = absurd (apart refl)
+
+pub answers_s14 : (labels : Labels) (l : Label) → set.contains labels l ≡ false → l.kind ≡ Pref → S14 labels → (o : Option (Bor (List ℕ))) → MatchOption o ((text : List ℕ) → HasLabel labels l.owner Pref l.tag text → ⊥) (λ text. HasLabel labels l.owner Pref l.tag text.now)
+    → (answer : Bool) → answer ≡ is_some o → MatchBool answer (S14 (set.insert labels l) → ⊥) (S14 (set.insert labels l))
+answers_s14 labels l new is s14 None none answer e = subst (λ b. MatchBool b (S14 (set.insert labels l) → ⊥) (S14 (set.insert labels l))) (sym e) (keeps_s14 labels l s14 (inr none))
+answers_s14 labels l new is s14 (Some text) has answer e = subst (λ b. MatchBool b (S14 (set.insert labels l) → ⊥) (S14 (set.insert labels l))) (sym e) (breaks_s14 labels l new is text.now has)
+
+pub not_pref : (value : LabelValue) → ((text : List ℕ) → value ≡ values.Pref text → ⊥) → kind_of value ≡ Pref → ⊥
+not_pref (values.Pref text) other e = other text refl
+not_pref (values.Alt text) other e = cc
+not_pref (values.Hidden text) other e = cc
+not_pref (values.Scope text) other e = cc
+
+-- What a look-up of a holder tells.
+module _ (rs : List Resource) (labels : Labels) (scheme : ℕ) (tag text : List ℕ) where
+  pub holder_taken : (o : Option ℕ) → MatchOption o (IsTaken rs labels scheme tag text → ⊥) (IsHolder rs labels scheme tag text) → is_some o ≡ true → IsTaken rs labels scheme tag text
+  holder_taken None h e = absurd (cc)
+  holder_taken (Some n) h e = (n, h.0.0, h.0.1, h.1)
+
+  pub no_holder : (o : Option ℕ) → MatchOption o (IsTaken rs labels scheme tag text → ⊥) (IsHolder rs labels scheme tag text) → is_some o ≡ false → IsTaken rs labels scheme tag text → ⊥
+  no_holder None h e = h
+  no_holder (Some n) h e = absurd (cc)
+
+-- A new concept.
+
+module _ (rs : List Resource) (labels : Labels) (legal : LegalLabels rs labels) (scheme : ℕ) (tag text : List ℕ) (is_scheme : IsScheme rs scheme) where
+  abbrev RowOfConcept : Option Refusal → Type 0
+  RowOfConcept answer = unless_scheme rs scheme (unless_unique (rs ++ concept_resource (Some scheme) ∷ []) (set.insert labels (label (length rs + 1) Pref tag text)) accepted) answer
+
+  known : Exists rs scheme
+  known = (is_scheme.0, is_scheme.1)
+
+  pub row_taken : IsTaken rs labels scheme tag text → RowOfConcept (Some no.PreferredTaken)
+  row_taken taken = inr (known, inr (is_scheme, inl (taken_breaks rs labels scheme (concept_resource (Some scheme)) tag text refl refl taken, refl)))
+
+  pub row_free : (IsTaken rs labels scheme tag text → ⊥) → RowOfConcept None
+  row_free none = inr (known, inr (is_scheme, inr (made_unique rs labels (concept_resource (Some scheme)) tag text (owners_bound rs labels legal) legal.unique (λ s live e taken. none (subst (λ k. IsTaken rs labels k tag text) (sym (some_same e)) taken)), refl)))

@@ -1,0 +1,511 @@
+-- What holds of every vocabulary is kept by each change.
+use Rattle.std.proofs.Common.{◌≡◌, ◌≢◌, ◌⊎◌, ◌<◌, ◌^◌, inl, inr, ℕ, zero, suc, get_or, ◌+◌, ◌-◌, length, List, [], ◌∷◌, ◌++◌, refl, sym, ap, ◌∙◌, subst, arith, Bool, true, false, ◌&&◌}
+use Rattle.std.specs.Prelude.{Option, None, Some, slice_get, option_and_then}
+use Rattle.std.specs.Option.{MatchOption}
+use Rattle.std.specs.Ordering.{nat_cmp}
+use Rattle.std.specs.Cmp.{nat_cmp_total}
+use Rattle.std.specs.Cmp.Lexicographic.{slice_cmp}
+use Rattle.std.specs.FinSet as set
+use Rattle.std.specs.FinMap as dict
+use Rattle.std.proofs.lemmas.Cmp.{nat_list_cmp_total}
+use Rattle.std.proofs.lemmas.Map.Lookups.{exact_bytes}
+use Rattle.thes_base.specs.declared.data.Resource.{Resource}
+use Rattle.thes_base.specs.declared.data.ResourceKind.{ResourceKind}
+use Rattle.thes_base.specs.declared.data.ResourceKind.TheVariants as kinds
+use Rattle.thes_base.specs.declared.data.LabelKind.{LabelKind}
+use Rattle.thes_base.specs.declared.data.LabelKind.TheVariants.{Pref, Alt, Hidden, Scope}
+use Rattle.thes_base.specs.Resources.{Iris, numbered, set_numbered, IsConcept, IsLive, IsLiveConcept, IsReplacedBy, BeginsWith, CanOwn, scheme_of, is_concept_kind, is_outside_kind, is_scheme_kind, is_collection_kind}
+use Rattle.thes_base.specs.Labels.{Label, Labels, label_cmp, HasLabel, IsTaken, UniquePreferred, S13, S14}
+use Rattle.thes_base.specs.Links.{Path}
+use Rattle.thes_base.specs.Legal.{LegalResources, LegalLabels}
+use Rattle.thes_base.specs.Changes.{label, dead, renamed, labels_relabelled, outside_resource, concept_resource, taken_labels}
+use Rattle.thes_base.specs.Data.{LabelData}
+use Rattle.thes_base.specs.Machine.{owned}
+use Rattle.thes_base.specs.Rows.{accepted}
+use Rattle.thes_base.specs.Refusals.{unless_scheme, unless_unique, unless_label, unless_dropped, unless_relabelled}
+use Rattle.thes_base.proofs.RowLemmas.{passed_if, passed_unless}
+use Rattle.thes_base.proofs.LabelSets.{inserted_cases, inserted_kept, inserted_new}
+use Rattle.thes_base.proofs.LabelsKept.{labels_made, labels_push, labels_added, labels_dropped, labels_renamed, labels_dead, removed_cases, MayOwn}
+use Rattle.thes_base.proofs.ResourcesKept.{IsFit, resources_push, resources_push_outside, resources_dead}
+use Rattle.thes_base.proofs.Uniqueness.{made_unique, taken_breaks, live_before}
+use Rattle.thes_base.proofs.NumberedLemmas.{push_cases, push_old, numbered_bound}
+use Rattle.thes_base.proofs.ResourceLemmas.{same_or_not, killed_at, one_resource, concept_of_live, live_of_live, scheme_push}
+use Rattle.thes_base.proofs.MergedLabels.{labels_merged}
+use Rattle.thes_vocab.specs.declared.names.Names.{Names}
+use Rattle.thes_vocab.specs.Vocabulary.{IsConceptIn, IsConceptOf, IsHolder, IsReplacement}
+use Rattle.thes_vocab.specs.Named.{holder_in, IsPut, AreSame, IsNoted, IsKindNoted, IsLabelNoted}
+use Rattle.thes_vocab.specs.Requests.{IsNamed, IsFree}
+use Rattle.thes_vocab.specs.Kept.{IsKept}
+use Rattle.thes_vocab.proofs.NameLemmas.{same_or_not as same_key}
+use Rattle.thes_vocab.proofs.TakenLemmas.{preferred_stays}
+use Rattle.thes_vocab.proofs.TableLemmas.{put_back}
+use Rattle.thes_vocab.proofs.JudgingLemmas.{owners_bound, relabelled_is, renamed_breaks_s13, renamed_cases, renamed_fresh, renamed_old}
+
+-- The index of names.
+
+-- it finds each holder
+abbrev pub Finds : List Resource → Labels → Names → Type 0
+Finds rs labels names = (scheme n : ℕ) (tag text : List ℕ) → IsHolder rs labels scheme tag text n → holder_in names scheme tag text ≡ Some n
+
+same_text : (t x : List ℕ) → (t ≡ x) ⊎ (t ≡ x → ⊥)
+same_text = same_key (slice_cmp nat_cmp) nat_list_cmp_total exact_bytes
+
+-- a name is the one that was noted, or another
+pub same_name : (s t : ℕ) (tag tag' text text' : List ℕ) → ((s ≡ t) × (tag ≡ tag') × (text ≡ text')) ⊎ ((s ≡ t) × (tag ≡ tag') × (text ≡ text') → ⊥)
+same_name s t tag tag' text text' = go (same_or_not s t) (same_text tag tag') (same_text text text')
+  where
+    go : (s ≡ t) ⊎ (s ≢ t) → (tag ≡ tag') ⊎ (tag ≡ tag' → ⊥) → (text ≡ text') ⊎ (text ≡ text' → ⊥) → ((s ≡ t) × (tag ≡ tag') × (text ≡ text')) ⊎ ((s ≡ t) × (tag ≡ tag') × (text ≡ text') → ⊥)
+    go (inl a) (inl b) (inl c) = inl (a, b, c)
+    go (inr a) b c = inr (λ h. a h.0)
+    go a (inr b) c = inr (λ h. b h.1)
+    go a b (inr c) = inr (λ h. c h.2)
+
+-- what is found after a name is noted
+pub found_put : (old new : Names) (scheme : ℕ) (tag text : List ℕ) (concept : ℕ) → IsPut old new scheme tag text (Some concept) → (s n : ℕ) (t x : List ℕ) → ((s ≡ scheme) × (t ≡ tag) × (x ≡ text) → n ≡ concept) → (((s ≡ scheme) × (t ≡ tag) × (x ≡ text) → ⊥) → holder_in old s t x ≡ Some n) → holder_in new s t x ≡ Some n
+found_put old new scheme tag text concept put s n t x here there = elim (same_name s scheme t tag x text) [
+  | inl same ↦ (λ i. holder_in new (same.0 i) (same.1 i) (same.2 i)) ∙ put.0 ∙ ap Some (sym (here same))
+  | inr apart ↦ put.1 s t x apart ∙ there apart
+]
+
+-- and after one is forgotten that no concept has
+pub found_forgotten : (old new : Names) (scheme : ℕ) (tag text : List ℕ) → IsPut old new scheme tag text None → (s n : ℕ) (t x : List ℕ) → ((s ≡ scheme) × (t ≡ tag) × (x ≡ text) → ⊥) → holder_in old s t x ≡ Some n → holder_in new s t x ≡ Some n
+found_forgotten old new scheme tag text put s n t x apart found = put.1 s t x apart ∙ found
+
+-- a holder of the same name in the same scheme
+moved : (rs : List Resource) (labels : Labels) (s scheme n : ℕ) (t tag x text : List ℕ) → (s ≡ scheme) × (t ≡ tag) × (x ≡ text) → IsHolder rs labels s t x n → IsHolder rs labels scheme tag text n
+moved rs labels s scheme n t tag x text same h = subst (λ (p : ℕ × (List ℕ × List ℕ)). IsHolder rs labels p.0 p.1.0 p.1.1 n) (λ i. (same.0 i, (same.1 i, same.2 i))) h
+
+same_some : {A : Type 0} {x y : A} → Some x ≡ Some y → x ≡ y
+same_some e = cc
+
+-- the scheme of a concept
+one_scheme : (rs : List Resource) (n s t : ℕ) → IsConceptOf rs s n → scheme_of rs n ≡ Some t → t ≡ s
+one_scheme rs n s t at e = same_some (sym e ∙ at.1)
+
+-- One label more.
+module _ (rs : List Resource) (labels : Labels) (l : Label) (old : Names) (finds : Finds rs labels old) (unique : UniquePreferred rs (set.insert labels l)) where
+  -- a note or another name, or one of an owner that is no concept
+  pub finds_other : ((scheme : ℕ) → l.kind ≡ Pref → IsConceptOf rs scheme l.owner → ⊥) → Finds rs (set.insert labels l) old
+  finds_other none scheme n tag text h = elim (inserted_cases labels l _ h.1) [
+    | inl is ↦ absurd (none scheme (sym (ap (λ (x : Label). x.kind) is)) (subst (IsConceptOf rs scheme) (ap (λ (x : Label). x.owner) is) h.0))
+    | inr held ↦ finds scheme n tag text (h.0, held)
+  ]
+
+  module _ (scheme : ℕ) (concept : IsConceptOf rs scheme l.owner) (pref : l.kind ≡ Pref) (new : Names) (put : IsPut old new scheme l.tag l.text (Some l.owner)) where
+    owner_has : HasLabel (set.insert labels l) l.owner Pref l.tag l.text
+    owner_has = subst (λ k. HasLabel (set.insert labels l) l.owner k l.tag l.text) pref (inserted_new labels l)
+
+    -- whoever has the name is the owner
+    is_owner : (n : ℕ) → IsHolder rs (set.insert labels l) scheme l.tag l.text n → n ≡ l.owner
+    is_owner n h = unique n l.owner scheme l.tag l.text h.0.0 concept.0 h.0.1 concept.1 h.1 owner_has
+
+    -- the name is noted, and the label not added
+    pub finds_noted : Finds rs labels new
+    finds_noted s n t x h = found_put old new scheme l.tag l.text l.owner put s n t x (λ same. is_owner n (moved rs (set.insert labels l) s scheme n t l.tag x l.text same (h.0, inserted_kept labels l _ h.1))) (λ _. finds s n t x h)
+
+    pub finds_added : Finds rs (set.insert labels l) new
+    finds_added s n t x h = found_put old new scheme l.tag l.text l.owner put s n t x (λ same. is_owner n (moved rs (set.insert labels l) s scheme n t l.tag x l.text same h)) (λ apart. other apart (inserted_cases labels l _ h.1))
+      where
+        other : ((s ≡ scheme) × (t ≡ l.tag) × (x ≡ l.text) → ⊥) → (label n Pref t x ≡ l) ⊎ HasLabel labels n Pref t x → holder_in old s t x ≡ Some n
+        other apart (inl is) =
+            let owner = ap (λ (y : Label). y.owner) is in
+            absurd (apart (one_scheme rs l.owner scheme s concept (subst (λ k. scheme_of rs k ≡ Some s) owner h.0.1), ap (λ (y : Label). y.tag) is, ap (λ (y : Label). y.text) is))
+        other apart (inr held) = finds s n t x (h.0, held)
+
+-- One label less.
+module _ (rs : List Resource) (labels : Labels) (l : Label) (old : Names) (finds : Finds rs labels old) where
+  pub finds_less : Finds rs (set.remove labels l) old
+  finds_less s n t x h = finds s n t x (h.0, (removed_cases labels l _ h.1).1)
+
+  pub finds_dropped : (scheme : ℕ) → IsConceptOf rs scheme l.owner → set.contains labels l ≡ true → l.kind ≡ Pref → UniquePreferred rs labels → (new : Names) → IsPut old new scheme l.tag l.text None → Finds rs (set.remove labels l) new
+  finds_dropped scheme concept held pref unique new put s n t x h = found_forgotten old new scheme l.tag l.text put s n t x apart (finds s n t x (h.0, before.1))
+    where
+      before : (label n Pref t x ≢ l) × HasLabel labels n Pref t x
+      before = removed_cases labels l _ h.1
+
+      apart : (s ≡ scheme) × (t ≡ l.tag) × (x ≡ l.text) → ⊥
+      apart same =
+          let at = moved rs labels s scheme n t l.tag x l.text same (h.0, before.1) in
+          let owner = unique n l.owner scheme l.tag l.text at.0.0 concept.0 at.0.1 concept.1 at.1 (subst (λ k. HasLabel labels l.owner k l.tag l.text) pref held) in
+          before.0 (λ i. label (owner i) (sym pref i) (same.1 i) (same.2 i))
+
+-- Another name in place of the old one.
+module _ (rs : List Resource) (labels : Labels) (owner : ℕ) (tag text was : List ℕ) (keep : Bool) (old : Names) (finds : Finds rs labels old) (unique : UniquePreferred rs (renamed owner tag text keep was labels)) where
+  abbrev after : Labels
+  after = renamed owner tag text keep was labels
+
+  not_kept : (n : ℕ) (t x : List ℕ) → label n Pref t x ≡ label owner Alt tag was → ⊥
+  not_kept n t x e = let k = ap (λ (l : Label). l.kind) e in cc
+
+  -- an owner that is no concept
+  pub finds_unnamed : ((scheme : ℕ) → IsConceptOf rs scheme owner → ⊥) → Finds rs after old
+  finds_unnamed none s n t x h = elim (renamed_cases labels owner tag text was keep _ h.1) [
+    | inl is ↦ absurd (none s (subst (IsConceptOf rs s) (ap (λ (l : Label). l.owner) is) h.0))
+    | inr (inl (_, is)) ↦ absurd (not_kept n t x is)
+    | inr (inr (_, held)) ↦ finds s n t x (h.0, held)
+  ]
+
+  module _ (scheme : ℕ) (concept : IsConceptOf rs scheme owner) (noted : Names) (put : IsPut old noted scheme tag text (Some owner)) where
+    is_named : (n : ℕ) → IsHolder rs after scheme tag text n → n ≡ owner
+    is_named n h = unique n owner scheme tag text h.0.0 concept.0 h.0.1 concept.1 h.1 (renamed_fresh labels owner tag text was keep)
+
+    -- the new name is noted, and nothing else done
+    pub finds_still : Finds rs labels noted
+    finds_still s n t x h = found_put old noted scheme tag text owner put s n t x (λ same. at same (same_or_not n owner)) (λ _. finds s n t x h)
+      where
+        at : (s ≡ scheme) × (t ≡ tag) × (x ≡ text) → (n ≡ owner) ⊎ (n ≢ owner) → n ≡ owner
+        at same (inl here) = here
+        at same (inr differ) =
+            let h' = moved rs labels s scheme n t tag x text same h in
+            is_named n (h'.0, renamed_old labels owner tag text was keep (label n Pref tag text) (λ e. differ (ap (λ (l : Label). l.owner) e)) h'.1)
+
+    found_renamed : Finds rs after noted
+    found_renamed s n t x h = found_put old noted scheme tag text owner put s n t x (λ same. is_named n (moved rs after s scheme n t tag x text same h)) (λ apart. other apart (renamed_cases labels owner tag text was keep _ h.1))
+      where
+        other : ((s ≡ scheme) × (t ≡ tag) × (x ≡ text) → ⊥) → (label n Pref t x ≡ label owner Pref tag text) ⊎ ((keep ≡ true) × (label n Pref t x ≡ label owner Alt tag was)) ⊎ ((label n Pref t x ≢ label owner Pref tag was) × HasLabel labels n Pref t x) → holder_in old s t x ≡ Some n
+        other apart (inl is) =
+            let o = ap (λ (y : Label). y.owner) is in
+            absurd (apart (one_scheme rs owner scheme s concept (subst (λ k. scheme_of rs k ≡ Some s) o h.0.1), ap (λ (y : Label). y.tag) is, ap (λ (y : Label). y.text) is))
+        other apart (inr (inl (_, is))) = absurd (not_kept n t x is)
+        other apart (inr (inr (_, held))) = finds s n t x (h.0, held)
+
+    -- and the old one forgotten
+    pub finds_renamed : was ≢ text → HasLabel labels owner Pref tag was → UniquePreferred rs labels → (new : Names) → IsPut noted new scheme tag was None → Finds rs after new
+    finds_renamed differ has_old before new forgot s n t x h = found_forgotten noted new scheme tag was forgot s n t x apart (found_renamed s n t x h)
+      where
+        apart : (s ≡ scheme) × (t ≡ tag) × (x ≡ was) → ⊥
+        apart same = go (moved rs after s scheme n t tag x was same h)
+          where
+            go : IsHolder rs after scheme tag was n → ⊥
+            go g = elim (renamed_cases labels owner tag text was keep _ g.1) [
+              | inl is ↦ differ (ap (λ (l : Label). l.text) is)
+              | inr (inl (_, is)) ↦ not_kept n tag was is
+              | inr (inr (other, held)) ↦ other (ap (λ k. label k Pref tag was) (before n owner scheme tag was g.0.0 concept.0 g.0.1 concept.1 held has_old))
+            ]
+
+-- One more resource.
+
+scheme_at : (rs : List Resource) (n : ℕ) (r : Resource) → numbered rs n ≡ Some r → scheme_of rs n ≡ r.scheme
+scheme_at rs n r e = ap (option_and_then (λ (x : Resource). x.scheme)) e
+
+-- a concept of a scheme is the new resource, or was one
+concept_cases : (rs : List Resource) (r : Resource) (scheme n : ℕ) → IsConceptOf (rs ++ r ∷ []) scheme n → IsConceptOf rs scheme n ⊎ ((n ≡ length rs + 1) × IsConceptIn scheme r)
+concept_cases rs r scheme n c = elim (push_cases rs r c.0.0 n c.0.1) [
+  | inl was ↦ inl ((c.0.0, was, c.0.2), scheme_at rs n c.0.0 was ∙ sym (scheme_at (rs ++ r ∷ []) n c.0.0 c.0.1) ∙ c.1)
+  | inr new ↦ inr (new.0, subst (IsConceptIn scheme) new.1 (c.0.2, sym (scheme_at (rs ++ r ∷ []) n c.0.0 c.0.1) ∙ c.1))
+]
+
+module _ (rs : List Resource) (labels : Labels) (r : Resource) (tag text : List ℕ) (old : Names) (legal : LegalLabels rs labels) (finds : Finds rs labels old) where
+  abbrev next : ℕ
+  next = length rs + 1
+
+  abbrev grown : List Resource
+  grown = rs ++ r ∷ []
+
+  abbrev with_name : Labels
+  with_name = set.insert labels (label next Pref tag text)
+
+  not_next : (l : Label) → set.contains labels l ≡ true → l.owner ≢ next
+  not_next l held e = let b = owners_bound rs labels legal l held in omega (arith, b.1, e)
+
+  old_only : (n : ℕ) (t x : List ℕ) → n ≢ next → HasLabel with_name n Pref t x → HasLabel labels n Pref t x
+  old_only n t x apart h = elim (inserted_cases labels (label next Pref tag text) _ h) [ inl is ↦ absurd (apart (ap (λ (l : Label). l.owner) is)) | inr held ↦ held ]
+
+  exists_apart : (scheme n : ℕ) → IsConceptOf rs scheme n → n ≢ next
+  exists_apart scheme n c e = let b = numbered_bound rs n c.0.0 c.0.1 in omega (arith, b.1, e)
+
+  -- no concept is made
+  pub finds_made : ((scheme : ℕ) → IsConceptIn scheme r → ⊥) → Finds grown with_name old
+  finds_made none s n t x h = elim (concept_cases rs r s n h.0) [
+    | inl was ↦ finds s n t x (was, old_only n t x (exists_apart s n was) h.1)
+    | inr new ↦ absurd (none s new.1)
+  ]
+
+  module _ (scheme : ℕ) (concept : IsConceptIn scheme r) (free : IsTaken rs labels scheme tag text → ⊥) (new : Names) (put : IsPut old new scheme tag text (Some next)) where
+    -- the name is noted, and nothing made
+    pub finds_before : Finds rs labels new
+    finds_before s n t x h = found_put old new scheme tag text next put s n t x (λ same. let at = moved rs labels s scheme n t tag x text same h in absurd (free (n, at.0.0, at.0.1, at.1))) (λ _. finds s n t x h)
+
+    pub finds_made_concept : Finds grown with_name new
+    finds_made_concept s n t x h = elim (concept_cases rs r s n h.0) [
+      | inl was ↦
+          let held = old_only n t x (exists_apart s n was) h.1 in
+          finds_before s n t x (was, held)
+      | inr (at, is) ↦ found_put old new scheme tag text next put s n t x (λ _. at) (λ apart. absurd (let m = named at in apart (same_some (sym is.1 ∙ concept.1), m.0, m.1)))
+    ]
+      where
+        named : n ≡ next → (t ≡ tag) × (x ≡ text)
+        named at = elim (inserted_cases labels (label next Pref tag text) _ h.1) [
+          | inl is ↦ (ap (λ (l : Label). l.tag) is, ap (λ (l : Label). l.text) is)
+          | inr held ↦ absurd (not_next _ held at)
+        ]
+
+-- Everything.
+
+pub kept_named : (base : List ℕ) (rs : List Resource) (iris : Iris) (labels : Labels) (names : Names) (r : Resource) (tag text : List ℕ) → LegalResources base rs iris → LegalLabels rs labels → IsNamed rs r → IsFree rs labels r tag text → length rs + 1 < 2 ^ 32 → Finds (rs ++ r ∷ []) (set.insert labels (label (length rs + 1) Pref tag text)) names
+    → IsKept base (rs ++ r ∷ []) iris (set.insert labels (label (length rs + 1) Pref tag text)) names
+kept_named base rs iris labels names r tag text legal named is free few finds = record {
+  legal = resources_push base rs iris r legal (record { live = is.live; replaced = is.replaced; scheme = is.scheme; no_scheme = no_scheme }) few inside;
+  named = labels_made rs labels r tag text named is.owner (made_unique rs labels r tag text (owners_bound rs labels named) named.unique (λ scheme live e. free scheme (live, e)));
+  found = finds;
+}
+  where
+    inside : is_outside_kind r.kind ≡ false
+    inside = not_outside r.kind is.owner
+      where
+        not_outside : (k : ResourceKind) → (is_scheme_kind k ≡ true) ⊎ (is_concept_kind k ≡ true) ⊎ (is_collection_kind k ≡ true) → is_outside_kind k ≡ false
+        not_outside kinds.Scheme o = refl
+        not_outside kinds.Concept o = refl
+        not_outside kinds.Collection o = refl
+        not_outside kinds.Outside (inl e) = absurd (cc)
+        not_outside kinds.Outside (inr (inl e)) = absurd (cc)
+        not_outside kinds.Outside (inr (inr e)) = absurd (cc)
+
+    no_scheme : (is_scheme_kind r.kind ≡ true) ⊎ (is_outside_kind r.kind ≡ true) → r.scheme ≡ None
+    no_scheme (inl e) = is.no_scheme e
+    no_scheme (inr e) = absurd (let f = inside in cc)
+
+pub kept_outside : (base : List ℕ) (rs : List Resource) (iris : Iris) (labels : Labels) (names : Names) (iri : List ℕ) → IsKept base rs iris labels names → length rs + 1 < 2 ^ 32 → (BeginsWith iri base → ⊥) → ((n : ℕ) → dict.get iris n ≢ Some iri)
+    → IsKept base (rs ++ outside_resource ∷ []) (dict.insert iris (length rs + 1) iri) labels names
+kept_outside base rs iris labels names iri kept few foreign fresh = record {
+  legal = resources_push_outside base rs iris outside_resource kept.legal (record { live = refl; replaced = refl; scheme = λ k. absurd (no_kind k); no_scheme = λ _. refl }) iri few refl foreign fresh;
+  named = labels_push rs labels outside_resource no_owner kept.named;
+  found = λ s n t x h. elim (concept_cases rs outside_resource s n h.0) [ inl was ↦ kept.found s n t x (was, h.1) | inr new ↦ absurd (never new.1.0) ];
+}
+  where
+    never : false ≡ true → ⊥
+    never e = cc
+
+    no_kind : (false ≡ true) ⊎ (false ≡ true) → ⊥
+    no_kind (inl e) = cc
+    no_kind (inr e) = cc
+
+    no_owner : MayOwn outside_resource → ⊥
+    no_owner (inl e) = cc
+    no_owner (inr (inl e)) = cc
+    no_owner (inr (inr e)) = cc
+
+-- a new number has no IRI yet
+pub no_iri : (base : List ℕ) (rs : List Resource) (iris : Iris) → LegalResources base rs iris → dict.get iris (length rs + 1) ≡ None
+no_iri base rs iris legal = go (dict.get iris (length rs + 1)) refl
+  where
+    go : (o : Option (List ℕ)) → dict.get iris (length rs + 1) ≡ o → dict.get iris (length rs + 1) ≡ None
+    go None e = e
+    go (Some iri) e = absurd (let at = legal.outside.only (length rs + 1) iri e in let b = numbered_bound rs (length rs + 1) at.0 at.1 in omega (arith, b.1))
+
+pub kept_dead : (base : List ℕ) (rs : List Resource) (iris : Iris) (labels : Labels) (names : Names) (n : ℕ) (replaced : Option ℕ) (r : Resource) → IsKept base rs iris labels names → numbered rs n ≡ Some r → IsLiveConcept rs n → IsReplacement rs n replaced
+    → IsKept base (set_numbered rs n (dead replaced r)) iris labels names
+kept_dead base rs iris labels names n replaced r kept at live fit = record {
+  legal = resources_dead base rs iris n replaced r at kept.legal concept (fits replaced fit);
+  named = labels_dead rs n replaced r at labels kept.named;
+  found = λ s m t x h. let was = live_before rs n replaced r at m h.0.0 in kept.found s m t x ((was.1, sym was.2 ∙ h.0.1), h.1);
+}
+  where
+    concept : is_concept_kind r.kind ≡ true
+    concept = let c = concept_of_live rs n live in subst (λ (x : Resource). is_concept_kind x.kind ≡ true) (one_resource rs n c.0 r c.1 at) c.2
+
+    fits : (o : Option ℕ) → IsReplacement rs n o → (m : ℕ) → o ≡ Some m → (m ≢ n) × IsConcept rs m × IsLive rs m × (scheme_of rs m ≡ r.scheme)
+    fits None h m e = absurd (cc)
+    fits (Some k) h m e = subst (λ j. (j ≢ n) × IsConcept rs j × IsLive rs j × (scheme_of rs j ≡ r.scheme)) (same_some e) (h.0, concept_of_live rs k h.1, live_of_live rs k h.1, h.2 ∙ scheme_at rs n r at)
+
+-- By the scheme of an owner, if it is a live concept.
+
+abbrev pub IsSchemeOf : List Resource → ℕ → Option ℕ → Type 0
+IsSchemeOf rs n o = MatchOption o ((scheme : ℕ) → IsConceptOf rs scheme n → ⊥) (λ scheme. IsConceptOf rs scheme n)
+
+finds_same : (rs : List Resource) (labels : Labels) (old new : Names) → AreSame old new → Finds rs labels old → Finds rs labels new
+finds_same rs labels old new same finds s n t x h = same s t x ∙ finds s n t x h
+
+module _ (rs : List Resource) (labels : Labels) (l : Label) (old new : Names) (finds : Finds rs labels old) (unique : UniquePreferred rs (set.insert labels l)) where
+  both : (o : Option ℕ) → IsSchemeOf rs l.owner o → (k : LabelKind) → l.kind ≡ k → IsKindNoted k old new o (record { kind = k; tag = l.tag; text = l.text }) (Some l.owner) → Finds rs labels new × Finds rs (set.insert labels l) new
+  both (Some scheme) concept Pref is put = (finds_noted rs labels l old finds unique scheme concept is new put, finds_added rs labels l old finds unique scheme concept is new put)
+  both None none Pref is same = (finds_same rs labels old new same finds, finds_same rs (set.insert labels l) old new same (finds_other rs labels l old finds unique (λ scheme _ c. none scheme c)))
+  both o at Alt is same = (finds_same rs labels old new same finds, finds_same rs (set.insert labels l) old new same (finds_other rs labels l old finds unique (λ scheme e _. let f = sym is ∙ e in cc)))
+  both o at Hidden is same = (finds_same rs labels old new same finds, finds_same rs (set.insert labels l) old new same (finds_other rs labels l old finds unique (λ scheme e _. let f = sym is ∙ e in cc)))
+  both o at Scope is same = (finds_same rs labels old new same finds, finds_same rs (set.insert labels l) old new same (finds_other rs labels l old finds unique (λ scheme e _. let f = sym is ∙ e in cc)))
+
+  pub finds_label_noted : (o : Option ℕ) → IsSchemeOf rs l.owner o → IsLabelNoted old new o (record { kind = l.kind; tag = l.tag; text = l.text }) (Some l.owner) → Finds rs labels new
+  finds_label_noted o at noted = (both o at l.kind refl noted).0
+
+  pub finds_label_added : (o : Option ℕ) → IsSchemeOf rs l.owner o → IsLabelNoted old new o (record { kind = l.kind; tag = l.tag; text = l.text }) (Some l.owner) → Finds rs (set.insert labels l) new
+  finds_label_added o at noted = (both o at l.kind refl noted).1
+
+module _ (rs : List Resource) (labels : Labels) (l : Label) (old new : Names) (finds : Finds rs labels old) (unique : UniquePreferred rs labels) (held : set.contains labels l ≡ true) where
+  less : (o : Option ℕ) → IsSchemeOf rs l.owner o → (k : LabelKind) → l.kind ≡ k → IsKindNoted k old new o (record { kind = k; tag = l.tag; text = l.text }) None → Finds rs (set.remove labels l) new
+  less (Some scheme) concept Pref is put = finds_dropped rs labels l old finds scheme concept held is unique new put
+  less None none Pref is same = finds_same rs (set.remove labels l) old new same (finds_less rs labels l old finds)
+  less o at Alt is same = finds_same rs (set.remove labels l) old new same (finds_less rs labels l old finds)
+  less o at Hidden is same = finds_same rs (set.remove labels l) old new same (finds_less rs labels l old finds)
+  less o at Scope is same = finds_same rs (set.remove labels l) old new same (finds_less rs labels l old finds)
+
+  pub finds_label_dropped : (o : Option ℕ) → IsSchemeOf rs l.owner o → IsLabelNoted old new o (record { kind = l.kind; tag = l.tag; text = l.text }) None → Finds rs (set.remove labels l) new
+  finds_label_dropped o at noted = less o at l.kind refl noted
+
+module _ (rs : List Resource) (labels : Labels) (owner : ℕ) (tag text was : List ℕ) (keep : Bool) (old noted : Names) (finds : Finds rs labels old) (unique : UniquePreferred rs (renamed owner tag text keep was labels)) where
+  pub finds_name_noted : (o : Option ℕ) → IsSchemeOf rs owner o → IsNoted old noted o tag text (Some owner) → Finds rs labels noted
+  finds_name_noted None none same = finds_same rs labels old noted same finds
+  finds_name_noted (Some scheme) concept put = finds_still rs labels owner tag text was keep old finds unique scheme concept noted put
+
+  pub finds_name_changed : was ≢ text → HasLabel labels owner Pref tag was → UniquePreferred rs labels → (o : Option ℕ) → IsSchemeOf rs owner o → IsNoted old noted o tag text (Some owner) → (new : Names) → IsNoted noted new o tag was None → Finds rs (renamed owner tag text keep was labels) new
+  finds_name_changed differ has before None none same new gone = finds_same rs _ noted new gone (finds_same rs _ old noted same (finds_unnamed rs labels owner tag text was keep old finds unique none))
+  finds_name_changed differ has before (Some scheme) concept put new forgot = finds_renamed rs labels owner tag text was keep old finds unique scheme concept noted put differ has before new forgot
+
+module _ (rs : List Resource) (labels : Labels) (r : Resource) (tag text : List ℕ) (old new : Names) (legal : LegalLabels rs labels) (finds : Finds rs labels old) (free : IsFree rs labels r tag text) where
+  pub finds_new_noted : (o : Option ℕ) → MatchOption o ((scheme : ℕ) → IsConceptIn scheme r → ⊥) (λ scheme. IsConceptIn scheme r) → IsNoted old new o tag text (Some (length rs + 1)) → Finds rs labels new
+  finds_new_noted None none same = finds_same rs labels old new same finds
+  finds_new_noted (Some scheme) concept put = finds_before rs labels r tag text old legal finds scheme concept (free scheme concept) new put
+
+  pub finds_new : (o : Option ℕ) → MatchOption o ((scheme : ℕ) → IsConceptIn scheme r → ⊥) (λ scheme. IsConceptIn scheme r) → IsNoted old new o tag text (Some (length rs + 1)) → Finds (rs ++ r ∷ []) (set.insert labels (label (length rs + 1) Pref tag text)) new
+  finds_new None none same = finds_same _ _ old new same (finds_made rs labels r tag text old legal finds none)
+  finds_new (Some scheme) concept put = finds_made_concept rs labels r tag text old legal finds scheme concept (free scheme concept) new put
+
+-- All of it, by the calls.
+
+module _ (base : List ℕ) (rs : List Resource) (iris : Iris) (labels : Labels) (old new : Names) (kept : IsKept base rs iris labels old) where
+  abbrev Same : Type 0
+  Same = IsKept base rs iris labels new
+
+  kept_finding : Finds rs labels new → Same
+  kept_finding finds = record { legal = kept.legal; named = kept.named; found = finds }
+
+  module _ (owner : ℕ) (o : Option ℕ) (at : IsSchemeOf rs owner o) where
+    module _ (d : LabelData) where
+      abbrev l : Label
+      l = owned owner d
+
+      module _ (can : CanOwn rs owner) (row : unless_label labels rs (set.insert labels l) l accepted None) (noted : IsLabelNoted old new o d (Some owner)) where
+        row_s13 : S13 (set.insert labels l) × (S14 (set.insert labels l) × UniquePreferred rs (set.insert labels l))
+        row_s13 = let s13 = passed_unless (passed_if row).1 in let s14 = passed_unless s13.1 in (s13.0, (s14.0, (passed_unless s14.1).0))
+
+        pub kept_noted : Same
+        kept_noted = kept_finding (finds_label_noted rs labels l old new kept.found row_s13.1.1 o at noted)
+
+        pub kept_added : IsKept base rs iris (set.insert labels l) new
+        kept_added = record {
+          legal = kept.legal;
+          named = labels_added rs labels l can row_s13.0 row_s13.1.0 row_s13.1.1 kept.named;
+          found = finds_label_added rs labels l old new kept.found row_s13.1.1 o at noted;
+        }
+
+      pub kept_dropped : unless_dropped labels l accepted None → IsLabelNoted old new o d None → IsKept base rs iris (set.remove labels l) new
+      kept_dropped row noted =
+          let there = passed_unless row in
+          let leaves = passed_unless there.1 in
+          record {
+            legal = kept.legal;
+            named = labels_dropped rs labels l leaves.0 kept.named;
+            found = finds_label_dropped rs labels l old new kept.found kept.named.unique there.0 o at noted;
+          }
+
+    module _ (tag text was : List ℕ) (keep : Bool) (has : HasLabel labels owner Pref tag was) (row : unless_relabelled labels rs (labels_relabelled owner tag text keep labels) owner tag accepted None) (noted : IsNoted old new o tag text (Some owner)) where
+      renamed_row : S13 (renamed owner tag text keep was labels) × UniquePreferred rs (renamed owner tag text keep was labels)
+      renamed_row =
+          let here = subst (λ (after : Labels). unless_relabelled labels rs after owner tag accepted None) (relabelled_is labels owner tag text was keep kept.named.one_preferred has) row in
+          let s13 = passed_unless (passed_unless here).1 in
+          (s13.0, (passed_unless s13.1).0)
+
+      pub kept_name_noted : Same
+      kept_name_noted = kept_finding (finds_name_noted rs labels owner tag text was keep old new kept.found renamed_row.1 o at noted)
+
+      pub kept_renamed : CanOwn rs owner → was ≢ text → (last : Names) → IsNoted new last o tag was None → IsKept base rs iris (renamed owner tag text keep was labels) last
+      kept_renamed can differ last gone = record {
+        legal = kept.legal;
+        named = labels_renamed rs labels owner tag text keep was kept.named has can renamed_row.0 renamed_row.1;
+        found = finds_name_changed rs labels owner tag text was keep old new kept.found renamed_row.1 differ has kept.named.unique o at noted last gone;
+      }
+
+  module _ (r : Resource) (tag text : List ℕ) (is : IsNamed rs r) (free : IsFree rs labels r tag text) (o : Option ℕ) (at : MatchOption o ((scheme : ℕ) → IsConceptIn scheme r → ⊥) (λ scheme. IsConceptIn scheme r)) (noted : IsNoted old new o tag text (Some (length rs + 1))) where
+    pub kept_new_noted : Same
+    kept_new_noted = kept_finding (finds_new_noted rs labels r tag text old new kept.named kept.found free o at noted)
+
+    pub kept_new : length rs + 1 < 2 ^ 32 → IsKept base (rs ++ r ∷ []) iris (set.insert labels (label (length rs + 1) Pref tag text)) new
+    kept_new few = kept_named base rs iris labels new r tag text kept.legal kept.named is free few (finds_new rs labels r tag text old new kept.named kept.found free o at noted)
+
+-- a concept whose name nothing refuses is free to have it
+pub free_concept : (rs : List Resource) (labels : Labels) (scheme : ℕ) (tag text : List ℕ) → unless_scheme rs scheme (unless_unique (rs ++ concept_resource (Some scheme) ∷ []) (set.insert labels (label (length rs + 1) Pref tag text)) accepted) None → IsFree rs labels (concept_resource (Some scheme)) tag text
+free_concept rs labels scheme tag text row s is taken =
+    taken_breaks rs labels scheme (concept_resource (Some scheme)) tag text refl refl (subst (λ k. IsTaken rs labels k tag text) (sym (same_some is.1)) taken) (passed_unless (passed_unless (passed_unless row).1).1).0
+
+-- Nothing at all.
+pub kept_empty : (base : List ℕ) (names : Names) → IsKept base [] dict.empty set.empty names
+kept_empty base names = record {
+  legal = record {
+    few = omega arith;
+    each = λ n r e. absurd (none n r e);
+    no_return = λ n chain. absurd (no_path n chain.0 n chain.1);
+    outside = record {
+      each = λ n o. absurd (none n o.0 o.1);
+      only = λ n iri e. absurd (no_iri_at n iri e);
+      distinct = λ m n iri e f. absurd (no_iri_at m iri e);
+      foreign = λ n iri e b. no_iri_at n iri e;
+    };
+  };
+  named = record {
+    owners = λ l held. absurd (no_label l held);
+    disjoint = λ owner j k tag text nj nk hj hk. absurd (no_label _ hj);
+    one_preferred = λ owner tag x y hx hy. absurd (no_label _ hx);
+    unique = λ m n scheme tag text lm ln sm sn hm hn. absurd (no_label _ hm);
+    named = λ n o. absurd (no_owner n o);
+  };
+  found = λ s n t x h. absurd (no_label _ h.1);
+}
+  where
+    none : (n : ℕ) (r : Resource) → numbered [] n ≡ Some r → ⊥
+    none n r e = let b = numbered_bound [] n r e in omega (arith, b.0, b.1)
+
+    no_path : (x : ℕ) (between : List ℕ) (y : ℕ) → Path (IsReplacedBy []) x between y → ⊥
+    no_path x [] y one = none x one.0 one.1
+    no_path x (z ∷ zs) y path = none x path.0.0 path.0.1
+
+    no_iri_at : (n : ℕ) (iri : List ℕ) → dict.get (dict.empty {R = nat_cmp}) n ≡ Some iri → ⊥
+    no_iri_at n iri e = never (sym (dict.get-empty {X = List ℕ} nat_cmp n) ∙ e)
+      where
+        never : None ≡ Some iri → ⊥
+        never f = cc
+
+    no_label : (l : Label) → set.contains (set.empty {R = label_cmp}) l ≡ true → ⊥
+    no_label l held = clash _ held (set.contains-empty label_cmp l)
+      where
+        clash : (b : Bool) → b ≡ true → b ≡ false → ⊥
+        clash b e f = cc
+
+    no_owner : (n : ℕ) → CanOwn [] n → ⊥
+    no_owner n (inl o) = none n o.0 o.1
+    no_owner n (inr (inl o)) = none n o.0 o.1
+    no_owner n (inr (inr o)) = none n o.0 o.1
+
+-- a number that is one is found where it stands
+pub numbered_at : {A : Type 0} (xs : List A) (n : ℕ) (x y : A) → numbered xs n ≡ Some y → x ≡ get_or xs (n - 1) x → numbered xs n ≡ Some x
+numbered_at {A = A} xs zero x y e f = absurd (cc)
+numbered_at {A = A} xs (suc n) x y e f = go xs n e (f ∙ ap (λ k. get_or xs k x) (let q : suc n - 1 ≡ n = omega arith in q))
+  where
+    go : (xs : List A) (n : ℕ) → slice_get xs n ≡ Some y → x ≡ get_or xs n x → slice_get xs n ≡ Some x
+    go [] n e f = absurd (cc)
+    go (z ∷ xs) zero e f = ap Some (sym f)
+    go (z ∷ xs) (suc n) e f = go xs n e f
+
+-- The target of a merge takes names.
+pub kept_merged : (base : List ℕ) (rs : List Resource) (iris : Iris) (labels : Labels) (names : Names) (source target : ℕ) → IsKept base rs iris labels names → IsLiveConcept rs target → IsKept base rs iris (set.union labels (taken_labels source target labels)) names
+kept_merged base rs iris labels names source target kept live = record {
+  legal = kept.legal;
+  named = labels_merged rs labels source target kept.named (inr (inl (concept_of_live rs target live)));
+  found = λ s n t x h. kept.found s n t x (h.0, preferred_stays labels source target n t x h.1);
+}
+
+-- a number has one scheme, or none
+pub one_scheme_of : (rs : List Resource) (n : ℕ) (o p : Option ℕ) → IsSchemeOf rs n o → IsSchemeOf rs n p → o ≡ p
+one_scheme_of rs n None None a b = refl
+one_scheme_of rs n None (Some t) a b = absurd (a t b)
+one_scheme_of rs n (Some s) None a b = absurd (b s a)
+one_scheme_of rs n (Some s) (Some t) a b = ap Some (one_scheme rs n t s b a.1)
+
+-- A preferred label in place of itself.
+pub unchanged : (rs : List Resource) (labels : Labels) (owner : ℕ) (tag text old : List ℕ) (keep : Bool) → LegalLabels rs labels → HasLabel labels owner Pref tag old → old ≡ text → unless_relabelled labels rs (labels_relabelled owner tag text keep labels) owner tag accepted None → labels ≡ labels_relabelled owner tag text keep labels
+unchanged rs labels owner tag text old keep legal has same row =
+    let is = relabelled_is labels owner tag text old keep legal.one_preferred has in
+    let here = subst (λ (after : Labels). unless_relabelled labels rs after owner tag accepted None) is row in
+    go keep ((passed_unless (passed_unless here).1).0) ∙ sym is
+  where
+    go : (b : Bool) → S13 (renamed owner tag text b old labels) → labels ≡ renamed owner tag text b old labels
+    go true s13 = absurd (renamed_breaks_s13 labels owner tag text old true (inr (inr (refl, same))) s13)
+    go false s13 = sym (ap (λ x. set.insert (set.remove labels (label owner Pref tag old)) (label owner Pref tag x)) (sym same) ∙ put_back labels (label owner Pref tag old) has)

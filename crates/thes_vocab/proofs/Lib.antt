@@ -1,0 +1,9 @@
+mod OrderLemmas
+mod OwnLemmas
+mod TableLemmas
+mod AnswerLemmas
+mod NameLemmas
+mod IriLemmas
+mod JudgingLemmas
+mod KeptLemmas
+mod TakenLemmas

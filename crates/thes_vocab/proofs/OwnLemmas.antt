@@ -1,0 +1,294 @@
+-- The labels of one owner: where one stands, and what is had after one comes or goes.
+use Rattle.std.proofs.Common.{◌≡◌, ◌≢◌, ◌⊎◌, inl, inr, ◌<◌, ◌≤◌, ℕ, zero, suc, ◌+◌, length, List, [], ◌∷◌, ◌++◌, refl, sym, ap, ◌∙◌, subst, arith, Bool, true, false, not, ◌&&◌, ◌||◌, get_or, take, drop}
+use Rattle.std.specs.Prelude.{Result, Ok, Err, is_ok}
+use Rattle.std.specs.Result.{MatchResult, result_ok}
+use Rattle.std.specs.Option.{MatchOption}
+use Rattle.std.specs.declared.cmp.Ordering.{Ordering}
+use Rattle.std.specs.declared.cmp.Ordering.TheVariants.{Less, Equal, Greater}
+use Rattle.std.specs.Ordering.{nat_cmp, eq_by_cmp, is_eq, ordering_reverse, ordering_then, ordering_index}
+use Rattle.std.specs.Cmp.{IsTotalOrder, nat_cmp_total, tied_itself, Equal-is}
+use Rattle.std.specs.Cmp.Lexicographic.{slice_cmp}
+use Rattle.std.specs.List.{list_any, AllByRecursion, HoldsAt, insert, remove}
+use Rattle.std.specs.List.Sorted.{IsStrictlySortedBy, IsBinarySearchResult, IsSearchInRange, IsPartitionPoint}
+use Rattle.std.proofs.lemmas.Cmp.{then_total, on_total, nat_list_cmp_total}
+use Rattle.std.proofs.lemmas.List.{take-append-drop}
+use Rattle.std.proofs.lemmas.List.Folds.{list_any-append, list_any_at}
+use Rattle.thes_base.specs.declared.data.LabelKind.{LabelKind}
+use Rattle.thes_base.specs.declared.data.LabelKind.TheVariants.{Pref, Alt, Hidden, Scope}
+use Rattle.thes_base.specs.Data.{LabelData}
+use Rattle.thes_base.specs.Labels.{label_kind_no}
+use Rattle.thes_base.specs.Machine.{owned}
+use Rattle.thes_base.proofs.LabelSets.{labels_exact}
+use Rattle.thes_vocab.specs.LabelData.{language_cmp, data_cmp, own_label, has_own, HasPreferred, HasNoPreferred, HasTwo}
+use Rattle.thes_vocab.specs.Places.{StandsAt, FitsAt, IsPlace, IsPreferredAt}
+use Rattle.thes_vocab.proofs.OrderLemmas.{each_front, each_back, split_at, length_front, front_of, back_of, after_of, none_below, none_above, sorted_put, sorted_cut, sorted_below, sorted_above, rises, nondecreasing}
+
+pub language_total : IsTotalOrder language_cmp
+language_total = then_total (on_total (λ (l : LabelData). label_kind_no l.kind) nat_cmp_total) (on_total (λ (l : LabelData). l.tag) nat_list_cmp_total)
+
+pub data_total : IsTotalOrder data_cmp
+data_total = then_total language_total (on_total (λ (l : LabelData). l.text) nat_list_cmp_total)
+
+regroup : (q r s : Ordering) → ordering_then (ordering_then q r) s ≡ Equal → ordering_then q (ordering_then r s) ≡ Equal
+regroup Less r s e = e
+regroup Equal r s e = e
+regroup Greater r s e = e
+
+-- labels that compare alike are one
+pub data_exact : (x y : LabelData) → data_cmp x y ≡ Equal → x ≡ y
+data_exact x y e = let same = labels_exact (owned 0 x) (owned 0 y) (regroup (nat_cmp (label_kind_no x.kind) (label_kind_no y.kind)) _ _ e) in λ i. record { kind = (same i).kind; tag = (same i).tag; text = (same i).text }
+
+pub tied : (x y : LabelData) → eq_by_cmp data_cmp x y ≡ true → x ≡ y
+tied x y e = data_exact x y ((Equal-is (data_cmp x y)).0 e)
+
+pub ties : (x y : LabelData) → x ≡ y → eq_by_cmp data_cmp x y ≡ true
+ties x y e = ap (λ z. eq_by_cmp data_cmp x z) (sym e) ∙ ap is_eq (tied_itself data_total x)
+
+turned : (x y : LabelData) → data_cmp x y ≡ Greater → data_cmp y x ≡ Less
+turned x y e = data_total.antisymm y x ∙ ap ordering_reverse e
+
+-- what a binary search answers
+pub searched : (own : List LabelData) (l : LabelData) (r : Result ℕ ℕ) → IsStrictlySortedBy data_cmp own → IsSearchInRange r (length own) → IsBinarySearchResult (λ x. data_cmp x l) own r → IsPlace own l r
+searched own l (Ok i) sorted bound found = record {
+  front = take i own;
+  back = drop (suc i) own;
+  is = split_at own i l bound ∙ ap (λ x. take i own ++ x ∷ drop (suc i) own) (data_exact _ _ (found l));
+  at = length_front own i (omega (arith, bound));
+}
+searched own l (Err i) sorted bound found =
+    let parts = found (nondecreasing data_cmp _ (λ x y. rises data_total x y l) own sorted) in
+    record {
+      front = take i own;
+      back = drop i own;
+      is = sym (take-append-drop i own);
+      at = length_front own i bound;
+      below = each_front (λ x. data_cmp x l ≡ Less) own i (λ k d b. parts.0 k d (omega arith) b) bound;
+      above = each_back (λ x. data_cmp l x ≡ Less) own i (λ k d a b. turned _ l (parts.1 k d a b));
+    }
+
+or_cases : (a b : Bool) → (a || b) ≡ true → (a ≡ true) ⊎ (b ≡ true)
+or_cases true b e = inl refl
+or_cases false b e = inr e
+
+or_true : (a : Bool) → (a || true) ≡ true
+or_true true = refl
+or_true false = refl
+
+-- what is found
+pub has_at : (own : List LabelData) (l : LabelData) (i : ℕ) → StandsAt own l i → has_own own l ≡ true
+has_at own l i s = ap (λ xs. has_own xs l) s.is ∙ list_any-append (eq_by_cmp data_cmp l) s.front (l ∷ s.back) ∙ ap (λ b. has_own s.front l || (b || has_own s.back l)) (ties l l refl) ∙ or_true (has_own s.front l)
+
+-- what is not
+pub lacks_at : (own : List LabelData) (l : LabelData) (i : ℕ) → FitsAt own l i → has_own own l ≡ false
+lacks_at own l i f = ap (λ xs. has_own xs l) f.is ∙ list_any-append (eq_by_cmp data_cmp l) f.front f.back ∙ ap (λ b. b || has_own f.back l) (none_below data_total l f.front f.below) ∙ none_above data_total l f.back f.above
+
+or_swap : (a b c : Bool) → (a || (b || c)) ≡ (b || (a || c))
+or_swap true true c = refl
+or_swap true false c = refl
+or_swap false b c = refl
+
+put_is : (own : List LabelData) (l : LabelData) (i : ℕ) (f : FitsAt own l i) → insert own i l ≡ f.front ++ l ∷ f.back
+put_is own l i f =
+    ap (λ (p : List LabelData × ℕ). insert p.0 p.1 l) (λ j. (f.is j, sym f.at j))
+    ∙ ap (λ xs. xs ++ l ∷ drop (length f.front) (f.front ++ f.back)) (front_of f.front f.back)
+    ∙ ap (λ ys. f.front ++ l ∷ ys) (back_of f.front f.back)
+
+pub sorted_insert : (own : List LabelData) (l : LabelData) (i : ℕ) → FitsAt own l i → IsStrictlySortedBy data_cmp own → IsStrictlySortedBy data_cmp (insert own i l)
+sorted_insert own l i f s = subst (IsStrictlySortedBy data_cmp) (sym (put_is own l i f)) (sorted_put data_total f.front l f.back (subst (IsStrictlySortedBy data_cmp) f.is s) f.below f.above)
+
+pub has_insert : (own : List LabelData) (l : LabelData) (i : ℕ) → FitsAt own l i → (q : LabelData) → has_own (insert own i l) q ≡ (eq_by_cmp data_cmp q l || has_own own q)
+has_insert own l i f q =
+    ap (λ xs. has_own xs q) (put_is own l i f) ∙ list_any-append (eq_by_cmp data_cmp q) f.front (l ∷ f.back) ∙ or_swap (has_own f.front q) (eq_by_cmp data_cmp q l) (has_own f.back q)
+    ∙ ap (λ b. eq_by_cmp data_cmp q l || b) (sym (ap (λ xs. has_own xs q) f.is ∙ list_any-append (eq_by_cmp data_cmp q) f.front f.back))
+
+-- a label that is there is put in without change
+pub has_again : (own : List LabelData) (l : LabelData) (i : ℕ) → StandsAt own l i → (q : LabelData) → has_own own q ≡ (eq_by_cmp data_cmp q l || has_own own q)
+has_again own l i s q = go (eq_by_cmp data_cmp q l) refl
+  where
+    go : (b : Bool) → eq_by_cmp data_cmp q l ≡ b → has_own own q ≡ (b || has_own own q)
+    go true e = ap (has_own own) (tied q l e) ∙ has_at own l i s
+    go false e = refl
+
+cut_is : (own : List LabelData) (l : LabelData) (i : ℕ) (s : StandsAt own l i) → remove own i ≡ s.front ++ s.back
+cut_is own l i s =
+    ap (λ (p : List LabelData × ℕ). remove p.0 p.1) (λ j. (s.is j, sym s.at j))
+    ∙ ap (λ xs. xs ++ drop (suc (length s.front)) (s.front ++ l ∷ s.back)) (front_of s.front (l ∷ s.back))
+    ∙ ap (λ ys. s.front ++ ys) (after_of s.front l s.back)
+
+pub sorted_remove : (own : List LabelData) (l : LabelData) (i : ℕ) → StandsAt own l i → IsStrictlySortedBy data_cmp own → IsStrictlySortedBy data_cmp (remove own i)
+sorted_remove own l i s sorted = subst (IsStrictlySortedBy data_cmp) (sym (cut_is own l i s)) (sorted_cut data_total s.front l s.back (subst (IsStrictlySortedBy data_cmp) s.is sorted))
+
+pub has_remove : (own : List LabelData) (l : LabelData) (i : ℕ) → StandsAt own l i → IsStrictlySortedBy data_cmp own → (q : LabelData) → has_own (remove own i) q ≡ (not (eq_by_cmp data_cmp q l) && has_own own q)
+has_remove own l i s sorted q = ap (λ xs. has_own xs q) (cut_is own l i s) ∙ list_any-append (eq_by_cmp data_cmp q) s.front s.back ∙ go (eq_by_cmp data_cmp q l) refl
+  where
+    whole : has_own own q ≡ (has_own s.front q || (eq_by_cmp data_cmp q l || has_own s.back q))
+    whole = ap (λ xs. has_own xs q) s.is ∙ list_any-append (eq_by_cmp data_cmp q) s.front (l ∷ s.back)
+
+    split_sorted : IsStrictlySortedBy data_cmp (s.front ++ l ∷ s.back)
+    split_sorted = subst (IsStrictlySortedBy data_cmp) s.is sorted
+
+    no_front : has_own s.front l ≡ false
+    no_front = none_below data_total l s.front (sorted_below data_total s.front l s.back split_sorted)
+
+    no_back : has_own s.back l ≡ false
+    no_back = none_above data_total l s.back (sorted_above data_total s.front l s.back split_sorted)
+
+    go : (b : Bool) → eq_by_cmp data_cmp q l ≡ b → (has_own s.front q || has_own s.back q) ≡ (not b && has_own own q)
+    go true e = ap (λ x. has_own s.front x || has_own s.back x) (tied q l e) ∙ ap (λ b. b || has_own s.back l) no_front ∙ no_back
+    go false e = sym (whole ∙ ap (λ b. has_own s.front q || (b || has_own s.back q)) e)
+
+-- a label that is not there is taken out without change
+pub has_gone : (own : List LabelData) (l : LabelData) (i : ℕ) → FitsAt own l i → (q : LabelData) → has_own own q ≡ (not (eq_by_cmp data_cmp q l) && has_own own q)
+has_gone own l i f q = go (eq_by_cmp data_cmp q l) refl
+  where
+    go : (b : Bool) → eq_by_cmp data_cmp q l ≡ b → has_own own q ≡ (not b && has_own own q)
+    go true e = ap (has_own own) (tied q l e) ∙ lacks_at own l i f
+    go false e = refl
+
+pub found_is : (own : List LabelData) (l : LabelData) (r : Result ℕ ℕ) → IsPlace own l r → is_ok r ≡ has_own own l
+found_is own l (Ok i) s = sym (has_at own l i s)
+found_is own l (Err i) f = sym (lacks_at own l i f)
+
+-- Preferred labels.
+
+language_before : (r s : Ordering) → ordering_then r s ≡ Less → (r ≡ Less) ⊎ (r ≡ Equal)
+language_before Less s e = inl refl
+language_before Equal s e = inr refl
+language_before Greater s e = absurd (cc)
+
+language_rises : (x y t : LabelData) → data_cmp x y ≡ Less → ordering_index (language_cmp x t) ≤ ordering_index (language_cmp y t)
+language_rises x y t e = elim (language_before (language_cmp x y) _ e) [
+  | inl less ↦ rises language_total x y t less
+  | inr tie ↦ subst (λ r. ordering_index (language_cmp x t) ≤ ordering_index r) (language_total.congr x y t tie) (omega arith)
+]
+
+-- labels that compare alike by kind and language have one kind and language
+same_language : (x y : LabelData) → language_cmp x y ≡ Equal → (x.kind ≡ y.kind) × (x.tag ≡ y.tag)
+same_language x y e =
+    let same = data_exact (own_label x.kind x.tag []) (own_label y.kind y.tag []) (ap (λ r. ordering_then r Equal) e) in
+    (ap (λ (l : LabelData). l.kind) same, ap (λ (l : LabelData). l.tag) same)
+
+le_or_lt : (i k : ℕ) → (i ≤ k) ⊎ (k < i)
+le_or_lt zero k = inl (omega arith)
+le_or_lt (suc i) zero = inr (omega arith)
+le_or_lt (suc i) (suc k) = elim (le_or_lt i k) [ inl a ↦ inl (omega arith) | inr b ↦ inr (omega arith) ]
+
+abbrev preferred_ord : List ℕ → LabelData → Ordering
+preferred_ord tag l = language_cmp l (own_label Pref tag [])
+
+-- what a binary search by kind and language answers
+pub preferred_searched : (own : List LabelData) (tag : List ℕ) (r : Result ℕ ℕ) → IsStrictlySortedBy data_cmp own → IsSearchInRange r (length own) → IsBinarySearchResult (preferred_ord tag) own r → MatchResult r (IsPreferredAt own tag) (λ _. HasNoPreferred own tag)
+preferred_searched own tag (Ok i) sorted bound found = record {
+  within = bound;
+  kind = λ d. (same_language (get_or own i d) (own_label Pref tag []) (found d)).0;
+  tag_is = λ d. (same_language (get_or own i d) (own_label Pref tag []) (found d)).1;
+}
+preferred_searched own tag (Err i) sorted bound found = λ text has. go text has parts
+  where
+    parts : IsPartitionPoint (λ l. preferred_ord tag l ≡ Less) (λ l. preferred_ord tag l ≡ Greater) own i
+    parts = found (nondecreasing data_cmp _ (λ x y. language_rises x y (own_label Pref tag [])) own sorted)
+
+    none : (text : List ℕ) (xs : List LabelData) → ((k : ℕ) (d : LabelData) → k < length xs → preferred_ord tag (get_or xs k d) ≢ Equal) → has_own xs (own_label Pref tag text) ≡ true → ⊥
+    none text [] each e = cc
+    none text (x ∷ xs) each e = elim (or_cases _ _ e) [
+      | inl same ↦ each 0 x (omega arith) (subst (λ l. preferred_ord tag l ≡ Equal) (tied (own_label Pref tag text) x same) (tied_itself language_total (own_label Pref tag [])))
+      | inr later ↦ none text xs (λ k d b. each (suc k) d (omega arith)) later
+    ]
+
+    go : (text : List ℕ) → HasPreferred own tag text → IsPartitionPoint (λ l. preferred_ord tag l ≡ Less) (λ l. preferred_ord tag l ≡ Greater) own i → ⊥
+    go text has p = none text own (λ k d b e. elim (le_or_lt i k) [ inl from ↦ (let g = p.1 k d from b in apart _ g e) | inr below ↦ (let l = p.0 k d (omega arith) below in before _ l e) ]) has
+      where
+        apart : (r : Ordering) → r ≡ Greater → r ≡ Equal → ⊥
+        apart r e f = cc
+
+        before : (r : Ordering) → r ≡ Less → r ≡ Equal → ⊥
+        before r e f = cc
+
+-- what stands there is had
+pub preferred_at : (own : List LabelData) (tag text : List ℕ) (place : ℕ) (l : LabelData) → IsPreferredAt own tag place → get_or own place l ≡ l → l.text ≡ text → HasPreferred own tag text
+preferred_at own tag text place l at is e =
+    list_any_at (eq_by_cmp data_cmp (own_label Pref tag text)) own place l at.within
+    (ties (own_label Pref tag text) (get_or own place l) (λ i. record { kind = sym (at.kind l) i; tag = sym (at.tag_is l) i; text = (sym e ∙ sym (ap (λ (x : LabelData). x.text) is)) i }))
+
+kind_before : (j k : LabelKind) (r s : Ordering) → ordering_then (ordering_then (nat_cmp (label_kind_no j) (label_kind_no k)) r) s ≡ Less → k ≡ Pref → j ≡ Pref
+kind_before Pref k r s e f = refl
+kind_before Alt k r s e f = absurd (let g = subst (λ x. ordering_then (ordering_then (nat_cmp 2 (label_kind_no x)) r) s ≡ Less) f e in cc)
+kind_before Hidden k r s e f = absurd (let g = subst (λ x. ordering_then (ordering_then (nat_cmp 3 (label_kind_no x)) r) s ≡ Less) f e in cc)
+kind_before Scope k r s e f = absurd (let g = subst (λ x. ordering_then (ordering_then (nat_cmp 4 (label_kind_no x)) r) s ≡ Less) f e in cc)
+
+has_first : (x : LabelData) (xs : List LabelData) → has_own (x ∷ xs) x ≡ true
+has_first x xs = ap (λ b. b || has_own xs x) (ties x x refl)
+
+has_later : (x y : LabelData) (xs : List LabelData) → has_own xs y ≡ true → has_own (x ∷ xs) y ≡ true
+has_later x y xs e = ap (λ b. eq_by_cmp data_cmp y x || b) e ∙ or_true (eq_by_cmp data_cmp y x)
+
+as_preferred : (l : LabelData) → l.kind ≡ Pref → l ≡ own_label Pref l.tag l.text
+as_preferred l e i = record { kind = e i; tag = l.tag; text = l.text }
+
+pub two_first : (x y : LabelData) (xs : List LabelData) → IsStrictlySortedBy data_cmp (x ∷ y ∷ xs) → y.kind ≡ Pref → HasTwo (x ∷ y ∷ xs)
+unfolding IsStrictlySortedBy
+two_first x y xs sorted is = record {
+  first_tag = x.tag;
+  first_text = x.text;
+  second_tag = y.tag;
+  second_text = y.text;
+  first = subst (λ l. has_own (x ∷ y ∷ xs) l ≡ true) (as_preferred x first) (has_first x (y ∷ xs));
+  second = subst (λ l. has_own (x ∷ y ∷ xs) l ≡ true) (as_preferred y is) (has_later x y (y ∷ xs) (has_first y xs));
+  apart = λ e. differ (data_cmp x y) sorted.0.0 (subst (λ l. data_cmp x l ≡ Equal) (as_preferred x first ∙ e ∙ sym (as_preferred y is)) (tied_itself data_total x));
+}
+  where
+    first : x.kind ≡ Pref
+    first = kind_before x.kind y.kind _ _ sorted.0.0 is
+
+    differ : (r : Ordering) → r ≡ Less → r ≡ Equal → ⊥
+    differ r e f = cc
+
+preferred_in_rest : (y : LabelData) (xs : List LabelData) (tag text : List ℕ) → IsStrictlySortedBy data_cmp (y ∷ xs) → HasPreferred (y ∷ xs) tag text → y.kind ≡ Pref
+unfolding IsStrictlySortedBy
+preferred_in_rest y xs tag text sorted has = elim (or_cases _ _ has) [
+  | inl same ↦ sym (ap (λ (l : LabelData). l.kind) (tied (own_label Pref tag text) y same))
+  | inr later ↦ below xs sorted.0 later
+]
+  where
+    below : (zs : List LabelData) → AllByRecursion (λ z. data_cmp y z ≡ Less) zs → has_own zs (own_label Pref tag text) ≡ true → y.kind ≡ Pref
+    below [] each e = absurd (cc)
+    below (z ∷ zs) each e = elim (or_cases _ _ e) [
+      | inl same ↦ kind_before y.kind z.kind _ _ each.0 (sym (ap (λ (l : LabelData). l.kind) (tied (own_label Pref tag text) z same)))
+      | inr later ↦ below zs each.1 later
+    ]
+
+pub second_of_two : (x y : LabelData) (xs : List LabelData) → IsStrictlySortedBy data_cmp (x ∷ y ∷ xs) → HasTwo (x ∷ y ∷ xs) → y.kind ≡ Pref
+unfolding IsStrictlySortedBy
+second_of_two x y xs sorted two = elim (or_cases _ _ two.first) [
+  | inl a ↦ elim (or_cases _ _ two.second) [
+    | inl b ↦ absurd (two.apart (tied _ x a ∙ sym (tied _ x b)))
+    | inr later ↦ preferred_in_rest y xs two.second_tag two.second_text sorted.1 later
+  ]
+  | inr later ↦ preferred_in_rest y xs two.first_tag two.first_text sorted.1 later
+]
+
+pub not_two_of_one : (x : LabelData) → HasTwo (x ∷ []) → ⊥
+not_two_of_one x two = elim (or_cases _ _ two.first) [
+  | inl a ↦ elim (or_cases _ _ two.second) [ inl b ↦ two.apart (tied _ x a ∙ sym (tied _ x b)) | inr later ↦ absurd (cc) ]
+  | inr later ↦ absurd (cc)
+]
+
+pub not_two_of_none : HasTwo [] → ⊥
+not_two_of_none two = let e = two.first in cc
+
+pub found_option : (P : ℕ → Type 0) (Q : Type 0) (r : Result ℕ ℕ) → MatchResult r P (λ _. Q) → MatchOption (result_ok r) Q P
+found_option P Q (Ok i) h = h
+found_option P Q (Err i) h = h
+
+-- the second of a row's labels tells whether two are preferred
+pub two_of_none : (own : List LabelData) → length own ≤ 1 → HasTwo own → ⊥
+two_of_none [] short two = not_two_of_none two
+two_of_none (x ∷ []) short two = not_two_of_one x two
+two_of_none (x ∷ y ∷ own) short two = absurd (omega arith)
+
+pub two_of_second : (own : List LabelData) (l : LabelData) → IsStrictlySortedBy data_cmp own → 1 < length own → l ≡ get_or own 1 l → (l.kind ≡ Pref → HasTwo own) × (HasTwo own → l.kind ≡ Pref)
+two_of_second [] l sorted b e = absurd (omega arith)
+two_of_second (x ∷ []) l sorted b e = absurd (omega arith)
+two_of_second (x ∷ y ∷ own) l sorted b e =
+    let same : y ≡ l = sym e in
+    (λ is. two_first x y own sorted (ap (λ (z : LabelData). z.kind) same ∙ is), λ two. sym (ap (λ (z : LabelData). z.kind) same) ∙ second_of_two x y own sorted two)

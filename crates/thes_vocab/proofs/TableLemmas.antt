@@ -1,0 +1,312 @@
+-- The set of labels that rows hold.
+use Rattle.std.proofs.Common.{◌≡◌, ◌≢◌, ◌⊎◌, ◌<◌, ◌≤◌, ℕ, zero, suc, ◌+◌, ◌-◌, length, List, [], ◌∷◌, ◌++◌, refl, sym, ap, ◌∙◌, subst, arith, inl, inr, Bool, true, false, not, ◌&&◌, ◌||◌, cond, map}
+use Rattle.std.specs.Prelude.{Option, None, Some}
+use Rattle.std.specs.Option.{unwrap_or, IsSome, MatchOption}
+use Rattle.std.specs.declared.cmp.Ordering.{Ordering}
+use Rattle.std.specs.declared.cmp.Ordering.TheVariants.{Less, Equal, Greater}
+use Rattle.std.specs.Ordering.{nat_cmp, eq_by_cmp, is_eq, ordering_then}
+use Rattle.std.specs.Cmp.{nat_cmp_total, eq_by_cmp_equiv, Equal-is}
+use Rattle.std.specs.Cmp.Lexicographic.{slice_cmp}
+use Rattle.std.specs.List.{list_any, AllByRecursion}
+use Rattle.std.specs.List.Sorted.{IsStrictlySortedBy}
+use Rattle.std.specs.Map.{keys_of, lookup}
+use Rattle.std.specs.BTreeMap.{BTreeMap, IsOrdered, is_at, get, Updates, WritesThrough}
+use Rattle.std.proofs.lemmas.Map.Lookups.{exact_unsigned}
+use Rattle.std.proofs.lemmas.List.Folds.{list_any-append}
+use Rattle.std.specs.FinSet as set
+use Rattle.thes_base.specs.Data.{LabelData}
+use Rattle.thes_base.specs.Labels.{Label, Labels, HasLabel, label_cmp, label_kind_no}
+use Rattle.thes_base.specs.declared.data.LabelKind.TheVariants.{Pref, Alt}
+use Rattle.thes_base.specs.Changes.{label, renamed}
+use Rattle.thes_base.specs.Machine.{owned}
+use Rattle.thes_base.proofs.LabelSets.{labels_total, labels_exact}
+use Rattle.thes_vocab.specs.LabelData.{data_cmp, own_label, has_own, HasNoPreferred, HasTwo}
+use Rattle.thes_vocab.specs.Rivals.{HasTwoPreferred}
+use Rattle.thes_vocab.specs.Rows.{all_owned, labels_in, row_of, AreRows, Owns, OwnsNone, IsPut, IsTaken, AreSame}
+
+then_eq : (r s : Ordering) → is_eq (ordering_then r s) ≡ (is_eq r && is_eq s)
+then_eq Less s = refl
+then_eq Equal s = refl
+then_eq Greater s = refl
+
+and_group : (a b c : Bool) → (a && (b && c)) ≡ ((a && b) && c)
+and_group true b c = refl
+and_group false b c = refl
+
+-- a label without its owner
+abbrev pub data_of : Label → LabelData
+data_of q = own_label q.kind q.tag q.text
+
+-- labels are one where their owners and what is left are
+pub owned_tie : (q : Label) (owner : ℕ) (l : LabelData) → eq_by_cmp label_cmp q (owned owner l) ≡ (eq_by_cmp nat_cmp q.owner owner && eq_by_cmp data_cmp (data_of q) l)
+owned_tie q owner l =
+    then_eq (nat_cmp q.owner owner) _
+    ∙ ap (λ b. eq_by_cmp nat_cmp q.owner owner && b) (
+    then_eq (nat_cmp (label_kind_no q.kind) (label_kind_no l.kind)) _
+    ∙ ap (λ b. is_eq (nat_cmp (label_kind_no q.kind) (label_kind_no l.kind)) && b) (then_eq (slice_cmp nat_cmp q.tag l.tag) _)
+    ∙ and_group (is_eq (nat_cmp (label_kind_no q.kind) (label_kind_no l.kind))) (is_eq (slice_cmp nat_cmp q.tag l.tag)) (is_eq (slice_cmp nat_cmp q.text l.text))
+    ∙ sym (then_eq (ordering_then (nat_cmp (label_kind_no q.kind) (label_kind_no l.kind)) (slice_cmp nat_cmp q.tag l.tag)) _
+    ∙ ap (λ b. b && is_eq (slice_cmp nat_cmp q.text l.text)) (then_eq (nat_cmp (label_kind_no q.kind) (label_kind_no l.kind)) (slice_cmp nat_cmp q.tag l.tag)))
+    )
+
+and_or : (a b c : Bool) → ((a && b) || (a && c)) ≡ (a && (b || c))
+and_or true b c = refl
+and_or false b c = refl
+
+and_false : (a : Bool) → (a && false) ≡ false
+and_false true = refl
+and_false false = refl
+
+any_row : (q : Label) (owner : ℕ) (row : List LabelData) → list_any (eq_by_cmp label_cmp q) (map (owned owner) row) ≡ (eq_by_cmp nat_cmp q.owner owner && has_own row (data_of q))
+any_row q owner [] = sym (and_false (eq_by_cmp nat_cmp q.owner owner))
+any_row q owner (l ∷ row) =
+    ap (λ b. b || list_any (eq_by_cmp label_cmp q) (map (owned owner) row)) (owned_tie q owner l)
+    ∙ ap (λ b. (eq_by_cmp nat_cmp q.owner owner && eq_by_cmp data_cmp (data_of q) l) || b) (any_row q owner row)
+    ∙ and_or (eq_by_cmp nat_cmp q.owner owner) (eq_by_cmp data_cmp (data_of q) l) (has_own row (data_of q))
+
+-- whether one of the rows is the owner's and has the label
+abbrev has_in : ℕ → LabelData → List (ℕ × List LabelData) → Bool
+has_in owner l = list_any (λ e. eq_by_cmp nat_cmp owner e.0 && has_own e.1 l)
+
+any_owned : (q : Label) (es : List (ℕ × List LabelData)) → list_any (eq_by_cmp label_cmp q) (all_owned es) ≡ has_in q.owner (data_of q) es
+any_owned q [] = refl
+any_owned q (e ∷ es) =
+    list_any-append (eq_by_cmp label_cmp q) (map (owned e.0) e.1) (all_owned es)
+    ∙ ap (λ b. b || list_any (eq_by_cmp label_cmp q) (all_owned es)) (any_row q e.0 e.1)
+    ∙ ap (λ b. (eq_by_cmp nat_cmp q.owner e.0 && has_own e.1 (data_of q)) || b) (any_owned q es)
+
+none_after : (owner : ℕ) (l : LabelData) (es : List (ℕ × List LabelData)) → AllByRecursion (λ k. nat_cmp owner k ≡ Less) (keys_of es) → has_in owner l es ≡ false
+none_after owner l [] each = refl
+none_after owner l (e ∷ es) each = ap (λ r. (is_eq r && has_own e.1 l) || has_in owner l es) each.0 ∙ none_after owner l es each.1
+
+found_in : (owner : ℕ) (l : LabelData) (es : List (ℕ × List LabelData)) → IsStrictlySortedBy nat_cmp (keys_of es) → has_in owner l es ≡ has_own (unwrap_or (lookup (is_at (nat_cmp owner)) es) []) l
+unfolding IsStrictlySortedBy
+found_in owner l [] sorted = refl
+found_in owner l (e ∷ es) sorted = go (found_in owner l es sorted.1) (eq_by_cmp nat_cmp owner e.0) refl
+  where
+    or_false : (a : Bool) → (a || false) ≡ a
+    or_false true = refl
+    or_false false = refl
+
+    go : has_in owner l es ≡ has_own (unwrap_or (lookup (is_at (nat_cmp owner)) es) []) l → (b : Bool) → eq_by_cmp nat_cmp owner e.0 ≡ b → ((b && has_own e.1 l) || has_in owner l es) ≡ has_own (unwrap_or (cond b (Some e.1) (lookup (is_at (nat_cmp owner)) es)) []) l
+    go rest true tie =
+        let same = exact_unsigned owner e.0 ((Equal-is (nat_cmp owner e.0)).0 tie) in
+        ap (λ b. has_own e.1 l || b) (ap (λ k. has_in k l es) same ∙ none_after e.0 l es sorted.0) ∙ or_false (has_own e.1 l)
+    go rest false tie = rest
+
+-- what the set has, a row has
+pub has_label : (rows : BTreeMap ℕ (List LabelData)) → IsOrdered nat_cmp rows → (q : Label) → set.contains (labels_in rows.entries) q ≡ has_own (row_of rows q.owner) (data_of q)
+has_label rows ordered q = set.contains-from_list labels_total (all_owned rows.entries) q ∙ any_owned q rows.entries ∙ found_in q.owner (data_of q) rows.entries ordered
+
+-- rows that hold the same hold one set
+pub same_labels : (old new : BTreeMap ℕ (List LabelData)) → IsOrdered nat_cmp old → IsOrdered nat_cmp new → AreSame old new → labels_in new.entries ≡ labels_in old.entries
+same_labels old new o n same = set.same_set labels_total labels_exact _ _ (λ q. has_label new n q ∙ ap (λ row. has_own row (data_of q)) (same q.owner) ∙ sym (has_label old o q))
+
+pub put_labels : (old new : BTreeMap ℕ (List LabelData)) (owner : ℕ) (l : LabelData) → IsOrdered nat_cmp old → IsOrdered nat_cmp new → IsPut old new owner l → labels_in new.entries ≡ set.insert (labels_in old.entries) (owned owner l)
+put_labels old new owner l o n is = set.same_set labels_total labels_exact _ _ (λ q.
+    has_label new n q ∙ is q.owner (data_of q)
+    ∙ sym (set.contains-insert labels_total (labels_in old.entries) (owned owner l) q
+    ∙ ap (λ b. b || set.contains (labels_in old.entries) q) (owned_tie q owner l)
+    ∙ ap (λ b. (eq_by_cmp nat_cmp q.owner owner && eq_by_cmp data_cmp (data_of q) l) || b) (has_label old o q)))
+
+pub take_labels : (old new : BTreeMap ℕ (List LabelData)) (owner : ℕ) (l : LabelData) → IsOrdered nat_cmp old → IsOrdered nat_cmp new → IsTaken old new owner l → labels_in new.entries ≡ set.remove (labels_in old.entries) (owned owner l)
+take_labels old new owner l o n is = set.same_set labels_total labels_exact _ _ (λ q.
+    has_label new n q ∙ is q.owner (data_of q)
+    ∙ sym (set.contains-remove labels_total (labels_in old.entries) (owned owner l) q
+    ∙ ap (λ b. not b && set.contains (labels_in old.entries) q) (owned_tie q owner l)
+    ∙ ap (λ b. not (eq_by_cmp nat_cmp q.owner owner && eq_by_cmp data_cmp (data_of q) l) && b) (has_label old o q)))
+
+pub row_owns : (rows : BTreeMap ℕ (List LabelData)) → IsOrdered nat_cmp rows → (owner : ℕ) (o : Option (List LabelData)) → o ≡ get nat_cmp rows owner → MatchOption o (OwnsNone (labels_in rows.entries) owner) (Owns (labels_in rows.entries) owner)
+row_owns rows ordered owner None e = λ l. has_label rows ordered (owned owner l) ∙ ap (λ r. has_own (unwrap_or r []) l) (sym e)
+row_owns rows ordered owner (Some row) e = λ l. sym (has_label rows ordered (owned owner l) ∙ ap (λ r. has_own (unwrap_or r []) l) (sym e))
+
+-- Rows after one is written.
+
+-- the map has this at the owner, and at others what it had
+abbrev pub IsWritten : BTreeMap ℕ (List LabelData) → BTreeMap ℕ (List LabelData) → ℕ → List LabelData → Type 0
+IsWritten old new owner now = (n : ℕ) → get nat_cmp new n ≡ cond (eq_by_cmp nat_cmp n owner) (Some now) (get nat_cmp old n)
+
+turned : (old new : BTreeMap ℕ (List LabelData)) (owner : ℕ) (now : List LabelData) → ((n : ℕ) → get nat_cmp new n ≡ cond (is_at (nat_cmp owner) n) (Some now) (get nat_cmp old n)) → IsWritten old new owner now
+turned old new owner now each n = each n ∙ ap (λ b. cond b (Some now) (get nat_cmp old n)) ((eq_by_cmp_equiv nat_cmp_total).symm owner n)
+
+pub written : (old new : BTreeMap ℕ (List LabelData)) (owner : ℕ) (was now : List LabelData) → WritesThrough nat_cmp (nat_cmp owner) old now new → Some was ≡ get nat_cmp old owner → IsWritten old new owner now
+written old new owner was now w e = turned old new owner now (w.3 (subst (λ o. IsSome o) e refl)).0
+
+pub inserted : (old new : BTreeMap ℕ (List LabelData)) (owner : ℕ) (now : List LabelData) → Updates nat_cmp old new owner (Some now) → IsWritten old new owner now
+inserted old new owner now u = turned old new owner now u.0
+
+pub row_after : (old new : BTreeMap ℕ (List LabelData)) (owner : ℕ) (now : List LabelData) → IsWritten old new owner now → (n : ℕ) → row_of new n ≡ cond (eq_by_cmp nat_cmp n owner) now (row_of old n)
+row_after old new owner now w n = ap (λ o. unwrap_or o []) (w n) ∙ go (eq_by_cmp nat_cmp n owner)
+  where
+    go : (b : Bool) → unwrap_or (cond b (Some now) (get nat_cmp old n)) [] ≡ cond b now (row_of old n)
+    go true = refl
+    go false = refl
+
+pub row_put : (old new : BTreeMap ℕ (List LabelData)) (owner : ℕ) (now : List LabelData) (l : LabelData) → IsWritten old new owner now → ((q : LabelData) → has_own now q ≡ (eq_by_cmp data_cmp q l || has_own (row_of old owner) q)) → IsPut old new owner l
+row_put old new owner now l w each n q = ap (λ row. has_own row q) (row_after old new owner now w n) ∙ go (eq_by_cmp nat_cmp n owner) refl
+  where
+    go : (b : Bool) → eq_by_cmp nat_cmp n owner ≡ b → has_own (cond b now (row_of old n)) q ≡ ((b && eq_by_cmp data_cmp q l) || has_own (row_of old n) q)
+    go true tie = each q ∙ ap (λ k. eq_by_cmp data_cmp q l || has_own (row_of old k) q) (sym (exact_unsigned n owner ((Equal-is (nat_cmp n owner)).0 tie)))
+    go false tie = refl
+
+pub row_taken : (old new : BTreeMap ℕ (List LabelData)) (owner : ℕ) (now : List LabelData) (l : LabelData) → IsWritten old new owner now → ((q : LabelData) → has_own now q ≡ (not (eq_by_cmp data_cmp q l) && has_own (row_of old owner) q)) → IsTaken old new owner l
+row_taken old new owner now l w each n q = ap (λ row. has_own row q) (row_after old new owner now w n) ∙ go (eq_by_cmp nat_cmp n owner) refl
+  where
+    go : (b : Bool) → eq_by_cmp nat_cmp n owner ≡ b → has_own (cond b now (row_of old n)) q ≡ (not (b && eq_by_cmp data_cmp q l) && has_own (row_of old n) q)
+    go true tie = each q ∙ ap (λ k. not (eq_by_cmp data_cmp q l) && has_own (row_of old k) q) (sym (exact_unsigned n owner ((Equal-is (nat_cmp n owner)).0 tie)))
+    go false tie = refl
+
+-- a row that is written as it was
+pub row_kept : (old new : BTreeMap ℕ (List LabelData)) (owner : ℕ) (now : List LabelData) → IsWritten old new owner now → now ≡ row_of old owner → AreSame old new
+row_kept old new owner now w same n = row_after old new owner now w n ∙ go (eq_by_cmp nat_cmp n owner) refl
+  where
+    go : (b : Bool) → eq_by_cmp nat_cmp n owner ≡ b → cond b now (row_of old n) ≡ row_of old n
+    go true tie = same ∙ ap (row_of old) (sym (exact_unsigned n owner ((Equal-is (nat_cmp n owner)).0 tie)))
+    go false tie = refl
+
+-- a row that an owner does not have
+pub none_taken : (rows : BTreeMap ℕ (List LabelData)) (owner : ℕ) (l : LabelData) → row_of rows owner ≡ [] → IsTaken rows rows owner l
+none_taken rows owner l none n q = go (eq_by_cmp nat_cmp n owner) refl
+  where
+    empty : eq_by_cmp nat_cmp n owner ≡ true → has_own (row_of rows n) q ≡ false
+    empty tie = ap (λ k. has_own (row_of rows k) q) (exact_unsigned n owner ((Equal-is (nat_cmp n owner)).0 tie)) ∙ ap (λ row. has_own row q) none
+
+    either : (b : Bool) → false ≡ (b && false)
+    either true = refl
+    either false = refl
+
+    go : (b : Bool) → eq_by_cmp nat_cmp n owner ≡ b → has_own (row_of rows n) q ≡ (not (b && eq_by_cmp data_cmp q l) && has_own (row_of rows n) q)
+    go true tie = empty tie ∙ either (not (eq_by_cmp data_cmp q l)) ∙ ap (λ b. not (eq_by_cmp data_cmp q l) && b) (sym (empty tie))
+    go false tie = refl
+
+-- Preferred labels.
+
+pub preferred_owned : (labels : Labels) (owner : ℕ) (tag : List ℕ) (row : List LabelData) → Owns labels owner row → HasNoPreferred row tag → (text : List ℕ) → HasLabel labels owner Pref tag text → ⊥
+preferred_owned labels owner tag row owns none text has = none text (owns (own_label Pref tag text) ∙ has)
+
+pub two_owned : (labels : Labels) (owner : ℕ) (row : List LabelData) → Owns labels owner row → (HasTwo row → HasTwoPreferred labels owner) × (HasTwoPreferred labels owner → HasTwo row)
+two_owned labels owner row owns = (
+  λ two. record {
+    first_tag = two.first_tag;
+    first_text = two.first_text;
+    second_tag = two.second_tag;
+    second_text = two.second_text;
+    first = sym (owns (own_label Pref two.first_tag two.first_text)) ∙ two.first;
+    second = sym (owns (own_label Pref two.second_tag two.second_text)) ∙ two.second;
+    apart = λ e. two.apart (ap data_of e);
+  },
+  λ two. record {
+    first_tag = two.first_tag;
+    first_text = two.first_text;
+    second_tag = two.second_tag;
+    second_text = two.second_text;
+    first = owns (own_label Pref two.first_tag two.first_text) ∙ two.first;
+    second = owns (own_label Pref two.second_tag two.second_text) ∙ two.second;
+    apart = λ e. two.apart (ap (owned owner) e);
+  },
+)
+
+pub none_two : (labels : Labels) (owner : ℕ) → OwnsNone labels owner → HasTwoPreferred labels owner → ⊥
+none_two labels owner none two = never _ (none (own_label Pref two.first_tag two.first_text)) two.first
+  where
+    never : (b : Bool) → b ≡ false → b ≡ true → ⊥
+    never b e f = cc
+
+pub none_preferred : (labels : Labels) (owner : ℕ) (tag text : List ℕ) → OwnsNone labels owner → HasLabel labels owner Pref tag text → ⊥
+none_preferred labels owner tag text none has = never _ (none (own_label Pref tag text)) has
+  where
+    never : (b : Bool) → b ≡ false → b ≡ true → ⊥
+    never b e f = cc
+
+-- Rows and their count.
+
+pub rows_same : (old new : BTreeMap ℕ (List LabelData)) (count : ℕ) → AreRows old count → IsOrdered nat_cmp new → AreSame old new → AreRows new count
+rows_same old new count rows ordered same = record { ordered = ordered; counted = rows.counted ∙ ap set.len (sym (same_labels old new rows.ordered ordered same)) }
+
+module _ (old new : BTreeMap ℕ (List LabelData)) (count owner : ℕ) (l : LabelData) (rows : AreRows old count) (ordered : IsOrdered nat_cmp new) where
+  was_there : set.contains (labels_in old.entries) (owned owner l) ≡ has_own (row_of old owner) l
+  was_there = has_label old rows.ordered (owned owner l)
+
+  pub rows_put : IsPut old new owner l → (added : Bool) → added ≡ not (has_own (row_of old owner) l) → AreRows new (cond added (count + 1) count)
+  rows_put is added e = record { ordered = ordered; counted = go (has_own (row_of old owner) l) refl ∙ sym after }
+    where
+      after : set.len (labels_in new.entries) ≡ cond (has_own (row_of old owner) l) (set.len (labels_in old.entries)) (set.len (labels_in old.entries) + 1)
+      after = ap set.len (put_labels old new owner l rows.ordered ordered is) ∙ set.len-insert labels_total (labels_in old.entries) (owned owner l)
+          ∙ ap (λ b. cond b (set.len (labels_in old.entries)) (set.len (labels_in old.entries) + 1)) was_there
+
+      go : (b : Bool) → has_own (row_of old owner) l ≡ b → cond added (count + 1) count ≡ cond b (set.len (labels_in old.entries)) (set.len (labels_in old.entries) + 1)
+      go true h = ap (λ a. cond a (count + 1) count) (e ∙ ap not h) ∙ rows.counted
+      go false h = ap (λ a. cond a (count + 1) count) (e ∙ ap not h) ∙ ap (λ n. n + 1) rows.counted
+
+  pub rows_taken : IsTaken old new owner l → (taken : Bool) → taken ≡ has_own (row_of old owner) l → AreRows new (cond taken (count - 1) count)
+  rows_taken is taken e = record {
+    ordered = ordered;
+    counted = ap (λ n. cond taken (n - 1) n) rows.counted
+        ∙ sym (ap set.len (take_labels old new owner l rows.ordered ordered is) ∙ set.len-remove labels_total (labels_in old.entries) (owned owner l)
+        ∙ ap (λ b. cond b (set.len (labels_in old.entries) - 1) (set.len (labels_in old.entries))) (was_there ∙ sym e));
+  }
+
+-- a label that is there is counted
+pub counted_one : (rows : BTreeMap ℕ (List LabelData)) (count owner : ℕ) (l : LabelData) → AreRows rows count → has_own (row_of rows owner) l ≡ true → 1 ≤ count
+counted_one rows count owner l is has = go count refl
+  where
+    go : (n : ℕ) → count ≡ n → 1 ≤ count
+    go zero e = absurd (cc (ap (λ s. set.contains s (owned owner l)) (set.empty_of_len (labels_in rows.entries) (sym is.counted ∙ e)), set.contains-empty label_cmp (owned owner l), has_label rows is.ordered (owned owner l), has))
+    go (suc n) e = omega (arith, e)
+
+-- Another name in place of the old one, step by step.
+
+or_false : (a : Bool) → (a || false) ≡ a
+or_false true = refl
+or_false false = refl
+
+clash : (b : Bool) → b ≡ true → b ≡ false → ⊥
+clash b e f = cc
+
+module _ (labels : Labels) where
+  -- a label that is taken back
+  pub undone : (l : Label) → set.contains labels l ≡ false → set.remove (set.insert labels l) l ≡ labels
+  undone l new = set.same_set labels_total labels_exact _ _ (λ q. set.contains-remove labels_total (set.insert labels l) l q ∙ ap (λ b. not (eq_by_cmp label_cmp q l) && b) (set.contains-insert labels_total labels l q) ∙ go q (eq_by_cmp label_cmp q l) refl)
+    where
+      go : (q : Label) (b : Bool) → eq_by_cmp label_cmp q l ≡ b → (not b && (b || set.contains labels q)) ≡ set.contains labels q
+      go q true tie = sym (ap (set.contains labels) (labels_exact q l ((Equal-is (label_cmp q l)).0 tie)) ∙ new)
+      go q false tie = refl
+
+  -- a label that is put back
+  pub put_back : (l : Label) → set.contains labels l ≡ true → set.insert (set.remove labels l) l ≡ labels
+  put_back l held = set.same_set labels_total labels_exact _ _ (λ q. set.contains-insert labels_total (set.remove labels l) l q ∙ ap (λ b. eq_by_cmp label_cmp q l || b) (set.contains-remove labels_total labels l q) ∙ go q (eq_by_cmp label_cmp q l) refl)
+    where
+      go : (q : Label) (b : Bool) → eq_by_cmp label_cmp q l ≡ b → (b || (not b && set.contains labels q)) ≡ set.contains labels q
+      go q true tie = sym (ap (set.contains labels) (labels_exact q l ((Equal-is (label_cmp q l)).0 tie)) ∙ held)
+      go q false tie = refl
+
+  -- a label put in before another is taken out
+  pub swapped : (l was : Label) → l ≢ was → set.remove (set.insert labels l) was ≡ set.insert (set.remove labels was) l
+  swapped l was apart = set.same_set labels_total labels_exact _ _ (λ q.
+      set.contains-remove labels_total (set.insert labels l) was q ∙ ap (λ b. not (eq_by_cmp label_cmp q was) && b) (set.contains-insert labels_total labels l q)
+      ∙ go q (eq_by_cmp label_cmp q was) refl (eq_by_cmp label_cmp q l) refl
+      ∙ sym (set.contains-insert labels_total (set.remove labels was) l q ∙ ap (λ b. eq_by_cmp label_cmp q l || b) (set.contains-remove labels_total labels was q)))
+    where
+      go : (q : Label) (a : Bool) → eq_by_cmp label_cmp q was ≡ a → (b : Bool) → eq_by_cmp label_cmp q l ≡ b → (not a && (b || set.contains labels q)) ≡ (b || (not a && set.contains labels q))
+      go q true e true f = absurd (apart (sym (labels_exact q l ((Equal-is (label_cmp q l)).0 f)) ∙ labels_exact q was ((Equal-is (label_cmp q was)).0 e)))
+      go q true e false f = refl
+      go q false e b f = refl
+
+module _ (labels : Labels) (owner : ℕ) (tag text old : List ℕ) (differ : old ≢ text) where
+  abbrev was : Label
+  was = label owner Pref tag old
+
+  abbrev fresh : Label
+  fresh = label owner Pref tag text
+
+  abbrev kept : Label
+  kept = label owner Alt tag old
+
+  pub renamed_plain : set.remove (set.insert labels fresh) was ≡ renamed owner tag text false old labels
+  renamed_plain = swapped labels fresh was (λ e. differ (sym (ap (λ (l : Label). l.text) e)))
+
+  pub renamed_keeping : set.remove (set.insert (set.insert labels fresh) kept) was ≡ renamed owner tag text true old labels
+  renamed_keeping = swapped (set.insert labels fresh) kept was other ∙ ap (λ (s : Labels). set.insert s kept) renamed_plain
+    where
+      other : kept ≢ was
+      other e = let k = ap (λ (l : Label). l.kind) e in cc

@@ -1,0 +1,354 @@
+-- The names that the target of a merge takes.
+use Rattle.std.proofs.Common.{◌≡◌, ◌≢◌, ◌⊎◌, inl, inr, ◌<◌, ◌≤◌, ℕ, zero, suc, ◌+◌, length, List, [], ◌∷◌, ◌++◌, refl, sym, ap, ◌∙◌, subst, arith, Bool, true, false, not, ◌&&◌, ◌||◌, cond, get_or, take, map, eqb-true, eq-eqb}
+use Rattle.std.specs.Prelude.{filter, if◌then◌else◌, ◌==◌}
+use Rattle.std.specs.declared.cmp.Ordering.{Ordering}
+use Rattle.std.specs.declared.cmp.Ordering.TheVariants.{Less, Equal}
+use Rattle.std.specs.Ordering.{nat_cmp, eq_by_cmp, is_eq}
+use Rattle.std.specs.Cmp.{nat_cmp_total, both_ways, tied_itself, Equal-is}
+use Rattle.std.specs.List.{list_any, AllByRecursion}
+use Rattle.std.specs.List.Sorted.{IsStrictlySortedBy}
+use Rattle.std.proofs.lemmas.Map.Lookups.{exact_unsigned}
+use Rattle.std.specs.BTreeMap.{BTreeMap, IsOrdered}
+use Rattle.std.specs.FinSet as set
+use Rattle.thes_base.specs.declared.data.LabelKind.{LabelKind}
+use Rattle.thes_base.specs.declared.data.LabelKind.TheVariants.{Pref, Alt, Hidden, Scope}
+use Rattle.thes_base.specs.Data.{LabelData}
+use Rattle.thes_base.specs.Labels.{Label, Labels, label_cmp, HasLabel, is_name, S13}
+use Rattle.thes_base.specs.Changes.{label, has_name, taken_kind, taken_labels}
+use Rattle.thes_base.specs.Machine.{owned}
+use Rattle.thes_base.proofs.LabelSets.{labels_total, labels_exact}
+use Rattle.thes_base.proofs.ResourceLemmas.{left_true, right_true, both_true}
+use Rattle.thes_vocab.specs.LabelData.{data_cmp, own_label, has_own, AreLabelsOf}
+use Rattle.thes_vocab.specs.Taken.{takes, takes_own, taken, gives, has_own_name}
+use Rattle.thes_vocab.specs.Rows.{Owns, labels_in, row_of, IsMerged}
+use Rattle.thes_vocab.proofs.OwnLemmas.{data_total, tied, ties}
+use Rattle.thes_vocab.proofs.TableLemmas.{data_of, owned_tie, has_label, IsWritten, row_after}
+use Rattle.thes_vocab.proofs.JudgingLemmas.{name_of}
+
+clash : (b : Bool) → b ≡ true → b ≡ false → ⊥
+clash b e f = cc
+
+or_cases : (a b : Bool) → (a || b) ≡ true → (a ≡ true) ⊎ (b ≡ true)
+or_cases true b e = inl refl
+or_cases false b e = inr e
+
+or_left : (a b : Bool) → a ≡ true → (a || b) ≡ true
+or_left true b e = refl
+or_left false b e = absurd (cc)
+
+or_right : (a b : Bool) → b ≡ true → (a || b) ≡ true
+or_right true b e = refl
+or_right false b e = e
+
+or_false : (a : Bool) → (a || false) ≡ a
+or_false true = refl
+or_false false = refl
+
+or_group : (a b c : Bool) → (a || (b || c)) ≡ ((a || b) || c)
+or_group true b c = refl
+or_group false b c = refl
+
+and_or : (a b c : Bool) → ((a && b) || (a && c)) ≡ (a && (b || c))
+and_or true b c = refl
+and_or false b c = refl
+
+and_false : (a : Bool) → (a && false) ≡ false
+and_false true = refl
+and_false false = refl
+
+and_swap : (a b c : Bool) → (a && (b && c)) ≡ (b && (a && c))
+and_swap true true c = refl
+and_swap true false c = refl
+and_swap false true c = refl
+and_swap false false c = refl
+
+-- One label further.
+
+any_more : {A : Type 0} (p : A → Bool) (xs : List A) (i : ℕ) (x : A) → i < length xs → x ≡ get_or xs i x → list_any p (take (suc i) xs) ≡ (list_any p (take i xs) || p x)
+any_more p [] i x b e = absurd (omega arith)
+any_more p (y ∷ []) zero x b e = ap (λ z. p z || false) (sym e) ∙ or_false (p x)
+any_more p (y ∷ z ∷ xs) zero x b e = ap (λ w. p w || false) (sym e) ∙ or_false (p x)
+any_more p (y ∷ xs) (suc i) x b e = ap (λ c. p y || c) (any_more p xs i x (omega arith) e) ∙ or_group (p y) (list_any p (take i xs)) (p x)
+
+pub gives_more : (source target : List LabelData) (i : ℕ) (l q : LabelData) → i < length source → l ≡ get_or source i l → gives (take (i + 1) source) target q ≡ (gives (take i source) target q || (takes_own target l && eq_by_cmp data_cmp q (taken l)))
+gives_more source target i l q b e = ap (λ k. gives (take k source) target q) (let s : i + 1 ≡ suc i = omega arith in s) ∙ any_more (λ x. takes_own target x && eq_by_cmp data_cmp q (taken x)) source i l b e
+
+or_swap : (a b c : Bool) → (a || (b || c)) ≡ (b || (c || a))
+or_swap true true c = refl
+or_swap true false true = refl
+or_swap true false false = refl
+or_swap false b c = ap (λ d. b || d) (sym (or_false c))
+
+-- the row with the label taken
+pub gives_taken : (source target row now : List LabelData) (i : ℕ) (l q : LabelData) → i < length source → l ≡ get_or source i l → has_own row q ≡ (has_own target q || gives (take i source) target q) → takes_own target l ≡ true → has_own now q ≡ (eq_by_cmp data_cmp q (taken l) || has_own row q)
+    → has_own now q ≡ (has_own target q || gives (take (i + 1) source) target q)
+gives_taken source target row now i l q b e before picks after =
+    after ∙ ap (λ c. eq_by_cmp data_cmp q (taken l) || c) before ∙ or_swap (eq_by_cmp data_cmp q (taken l)) (has_own target q) (gives (take i source) target q)
+    ∙ ap (λ c. has_own target q || c) (ap (λ y. gives (take i source) target q || (y && eq_by_cmp data_cmp q (taken l))) (sym picks) ∙ sym (gives_more source target i l q b e))
+
+pub gives_left : (source target row : List LabelData) (i : ℕ) (l q : LabelData) → i < length source → l ≡ get_or source i l → has_own row q ≡ (has_own target q || gives (take i source) target q) → takes_own target l ≡ false → has_own row q ≡ (has_own target q || gives (take (i + 1) source) target q)
+gives_left source target row i l q b e before no_name =
+    before ∙ ap (λ c. has_own target q || c) (sym (gives_more source target i l q b e ∙ ap (λ y. gives (take i source) target q || (y && eq_by_cmp data_cmp q (taken l))) no_name ∙ or_false (gives (take i source) target q)))
+
+-- What is in a filtered and mapped list.
+
+module _ {A : Type 0} (p : A → Bool) where
+  pub kept_yes : (x : A) (xs : List A) → p x ≡ true → filter p (x ∷ xs) ≡ x ∷ filter p xs
+  kept_yes x xs e = ap (λ b. if b then x ∷ filter p xs else filter p xs) e
+
+  pub kept_no : (x : A) (xs : List A) → p x ≡ false → filter p (x ∷ xs) ≡ filter p xs
+  kept_no x xs e = ap (λ b. if b then x ∷ filter p xs else filter p xs) e
+
+decide : (b : Bool) → (b ≡ true) ⊎ (b ≡ false)
+decide true = inl refl
+decide false = inr refl
+
+-- a label that passes, and what it is mapped to
+any_mapped : (p : Label → Bool) (f : Label → Label) (q : Label) (ls : List Label) → list_any (eq_by_cmp label_cmp q) (map f (filter p ls)) ≡ true → (l : Label) × (p l ≡ true) × (list_any (eq_by_cmp label_cmp l) ls ≡ true) × (q ≡ f l)
+any_mapped p f q [] e = absurd (cc)
+any_mapped p f q (x ∷ ls) e = elim (decide (p x)) [
+  | inl picks ↦ elim (or_cases _ _ (sym (ap (λ ys. list_any (eq_by_cmp label_cmp q) (map f ys)) (kept_yes p x ls picks)) ∙ e)) [
+    | inl same ↦ (x, picks, or_left _ _ (itself x), labels_exact q (f x) ((Equal-is (label_cmp q (f x))).0 same))
+    | inr later ↦ let found = any_mapped p f q ls later in (found.0, found.1, or_right (eq_by_cmp label_cmp found.0 x) _ found.2, found.3)
+  ]
+  | inr miss ↦ let found = any_mapped p f q ls (sym (ap (λ ys. list_any (eq_by_cmp label_cmp q) (map f ys)) (kept_no p x ls miss)) ∙ e) in (found.0, found.1, or_right (eq_by_cmp label_cmp found.0 x) _ found.2, found.3)
+]
+  where
+    itself : (x : Label) → eq_by_cmp label_cmp x x ≡ true
+    itself x = ap is_eq (tied_itself labels_total x)
+
+mapped_any : (p : Label → Bool) (f : Label → Label) (q l : Label) (ls : List Label) → p l ≡ true → q ≡ f l → list_any (eq_by_cmp label_cmp l) ls ≡ true → list_any (eq_by_cmp label_cmp q) (map f (filter p ls)) ≡ true
+mapped_any p f q l [] picks is e = e
+mapped_any p f q l (x ∷ ls) picks is e = elim (or_cases _ _ e) [
+  | inl same ↦
+      let here = labels_exact l x ((Equal-is (label_cmp l x)).0 same) in
+      ap (λ ys. list_any (eq_by_cmp label_cmp q) (map f ys)) (kept_yes p x ls (ap p (sym here) ∙ picks)) ∙ or_left _ _ (ap (λ y. eq_by_cmp label_cmp q (f y)) (sym here) ∙ ap (λ y. eq_by_cmp label_cmp q y) (sym is) ∙ ap is_eq (tied_itself labels_total q))
+  | inr later ↦ elim (decide (p x)) [
+    | inl hit ↦ ap (λ ys. list_any (eq_by_cmp label_cmp q) (map f ys)) (kept_yes p x ls hit) ∙ or_right (eq_by_cmp label_cmp q (f x)) _ (mapped_any p f q l ls picks is later)
+    | inr miss ↦ ap (λ ys. list_any (eq_by_cmp label_cmp q) (map f ys)) (kept_no p x ls miss) ∙ mapped_any p f q l ls picks is later
+  ]
+]
+
+any_found : (test : LabelData → Bool) (own : List LabelData) → list_any test own ≡ true → (d : LabelData) × (test d ≡ true) × (has_own own d ≡ true)
+any_found test [] e = absurd (cc)
+any_found test (x ∷ own) e = elim (or_cases _ _ e) [
+  | inl hit ↦ (x, hit, or_left _ _ (ties x x refl))
+  | inr later ↦ let found = any_found test own later in (found.0, found.1, or_right (eq_by_cmp data_cmp found.0 x) _ found.2)
+]
+
+any_of : (test : LabelData → Bool) (own : List LabelData) (d : LabelData) → test d ≡ true → has_own own d ≡ true → list_any test own ≡ true
+any_of test [] d hit e = e
+any_of test (x ∷ own) d hit e = elim (or_cases _ _ e) [
+  | inl same ↦ or_left _ _ (ap test (sym (tied d x same)) ∙ hit)
+  | inr later ↦ or_right (test x) _ (any_of test own d hit later)
+]
+
+-- What the target takes, by the source's own labels.
+module _ (labels : Labels) (source target : ℕ) (own : List LabelData) (owns : Owns labels source own) where
+  abbrev passes : Label → Bool
+  passes l = l.owner == source && (is_name l.kind && not (has_name labels target l.tag l.text))
+
+  abbrev given : Label → Label
+  given l = label target (taken_kind l.kind) l.tag l.text
+
+  abbrev test : Label → LabelData → Bool
+  test q d = takes labels target d && eq_by_cmp data_cmp (data_of q) (taken d)
+
+  pub taken_contains : (q : Label) → set.contains (taken_labels source target labels) q ≡ (eq_by_cmp nat_cmp q.owner target && list_any (test q) own)
+  taken_contains q = set.contains-from_list labels_total (map given (filter passes (set.items labels))) q ∙ both_ways _ _ there back
+    where
+      there : list_any (eq_by_cmp label_cmp q) (map given (filter passes (set.items labels))) ≡ true → (eq_by_cmp nat_cmp q.owner target && list_any (test q) own) ≡ true
+      there e =
+          let found = any_mapped passes given q (set.items labels) e in
+          let l = found.0 in
+          let held = set.contains-items labels l ∙ found.2 in
+          let is = found.3 in
+          let source_is = eqb-true l.owner source (left_true (l.owner == source) _ found.1) in
+          let takes_it = right_true (l.owner == source) (takes labels target (data_of l)) found.1 in
+          let has = owns (data_of l) ∙ ap (λ n. set.contains labels (label n l.kind l.tag l.text)) (sym source_is) ∙ held in
+          both_true (eq_by_cmp nat_cmp q.owner target) (list_any (test q) own) (ap (λ (x : Label). eq_by_cmp nat_cmp x.owner target) is ∙ ap is_eq (tied_itself nat_cmp_total target))
+          (any_of (test q) own (data_of l) (both_true (takes labels target (data_of l)) _ takes_it (ties (data_of q) (taken (data_of l)) (ap data_of is))) has)
+
+      back : (eq_by_cmp nat_cmp q.owner target && list_any (test q) own) ≡ true → list_any (eq_by_cmp label_cmp q) (map given (filter passes (set.items labels))) ≡ true
+      back e =
+          let owner = exact_unsigned q.owner target ((Equal-is (nat_cmp q.owner target)).0 (left_true (eq_by_cmp nat_cmp q.owner target) _ e)) in
+          let found = any_found (test q) own (right_true (eq_by_cmp nat_cmp q.owner target) (list_any (test q) own) e) in
+          let d = found.0 in
+          let l = owned source d in
+          let takes_it = left_true (takes labels target d) _ found.1 in
+          let is = tied (data_of q) (taken d) (right_true (takes labels target d) (eq_by_cmp data_cmp (data_of q) (taken d)) found.1) in
+          let same : q ≡ given l = λ i. label (owner i) (is i).kind (is i).tag (is i).text in
+          mapped_any passes given q l (set.items labels) (both_true (source == source) (takes labels target d) (eq-eqb source source refl) takes_it) same (sym (set.contains-items labels l) ∙ sym (owns d) ∙ found.2)
+
+  pub union_contains : (q : Label) → set.contains (set.union labels (taken_labels source target labels)) q ≡ (set.contains labels q || (eq_by_cmp nat_cmp q.owner target && list_any (test q) own))
+  union_contains q = set.contains-union labels_total labels (taken_labels source target labels) q ∙ ap (λ b. set.contains labels q || b) (taken_contains q)
+
+-- whether the target takes a label, by its own labels
+pub takes_is : (labels : Labels) (target : ℕ) (own : List LabelData) → Owns labels target own → (d : LabelData) → takes_own own d ≡ takes labels target d
+takes_is labels target own owns d = (λ i. is_name d.kind && not ((owns (own_label Pref d.tag d.text) i || owns (own_label Alt d.tag d.text) i) || owns (own_label Hidden d.tag d.text) i))
+
+any_same : {A : Type 0} (p q : A → Bool) → ((x : A) → p x ≡ q x) → (xs : List A) → list_any p xs ≡ list_any q xs
+any_same p q same [] = refl
+any_same p q same (x ∷ xs) = λ i. same x i || any_same p q same xs i
+
+pub gives_is : (labels : Labels) (target : ℕ) (own : List LabelData) → Owns labels target own → (source : List LabelData) (q : LabelData) → gives source own q ≡ list_any (λ d. takes labels target d && eq_by_cmp data_cmp q (taken d)) source
+gives_is labels target own owns source q = any_same _ _ (λ d. ap (λ b. b && eq_by_cmp data_cmp q (taken d)) (takes_is labels target own owns d)) source
+
+-- no preferred label is taken as one
+pub preferred_stays : (labels : Labels) (source target n : ℕ) (tag text : List ℕ) → HasLabel (set.union labels (taken_labels source target labels)) n Pref tag text → HasLabel labels n Pref tag text
+preferred_stays labels source target n tag text h = elim (or_cases _ _ (sym (set.contains-union labels_total labels (taken_labels source target labels) (label n Pref tag text)) ∙ h)) [
+  | inl held ↦ held
+  | inr new ↦
+      let found = any_mapped (λ l. l.owner == source && (is_name l.kind && not (has_name labels target l.tag l.text))) (λ l. label target (taken_kind l.kind) l.tag l.text) (label n Pref tag text) (set.items labels) (sym (set.contains-from_list labels_total (map (λ (l : Label). label target (taken_kind l.kind) l.tag l.text) (filter (λ (l : Label). l.owner == source && (is_name l.kind && not (has_name labels target l.tag l.text))) (set.items labels))) (label n Pref tag text)) ∙ new) in
+      absurd (never found.0.kind (ap (λ (l : Label). l.kind) found.3))
+]
+  where
+    never : (k : LabelKind) → Pref ≡ taken_kind k → ⊥
+    never Pref e = cc
+    never Alt e = cc
+    never Hidden e = cc
+    never Scope e = cc
+
+-- How many are taken.
+module _ (labels : Labels) (source target : ℕ) (s13 : S13 labels) where
+  abbrev as_taken : LabelData → Label
+  as_taken d = owned target (taken d)
+
+  abbrev picked : List LabelData → List LabelData
+  picked own = filter (takes labels target) own
+
+  abbrev built : List LabelData → Labels
+  built own = set.from_list (map as_taken (picked own))
+
+  -- a list of labels of the source, in order
+  abbrev AreSome : List LabelData → Type 0
+  AreSome own = (d : LabelData) → has_own own d ≡ true → set.contains labels (owned source d) ≡ true
+
+  empty_union : set.union labels (set.empty {R = label_cmp}) ≡ labels
+  empty_union = set.same_set labels_total labels_exact _ _ (λ q. set.contains-union labels_total labels set.empty q ∙ ap (λ b. set.contains labels q || b) (set.contains-empty label_cmp q) ∙ or_false (set.contains labels q))
+
+  or_push : (a b c : Bool) → (a || (b || c)) ≡ (b || (a || c))
+  or_push true true c = refl
+  or_push true false c = refl
+  or_push false b c = refl
+
+  union_insert : (more : Labels) (g : Label) → set.union labels (set.insert more g) ≡ set.insert (set.union labels more) g
+  union_insert more g = set.same_set labels_total labels_exact _ _ (λ q.
+      set.contains-union labels_total labels (set.insert more g) q ∙ ap (λ b. set.contains labels q || b) (set.contains-insert labels_total more g q)
+      ∙ or_push (set.contains labels q) (eq_by_cmp label_cmp q g) (set.contains more q)
+      ∙ sym (set.contains-insert labels_total (set.union labels more) g q ∙ ap (λ b. eq_by_cmp label_cmp q g || b) (set.contains-union labels_total labels more q)))
+
+  -- one of those that were picked
+  built_from : (own : List LabelData) (q : Label) → list_any (eq_by_cmp label_cmp q) (map as_taken (picked own)) ≡ true → (d : LabelData) × (takes labels target d ≡ true) × (has_own own d ≡ true) × (q ≡ as_taken d)
+  built_from [] q e = absurd (cc)
+  built_from (x ∷ own) q e = elim (decide (takes labels target x)) [
+    | inl picks ↦ elim (or_cases _ _ (sym (ap (λ ys. list_any (eq_by_cmp label_cmp q) (map as_taken ys)) (kept_yes (takes labels target) x own picks)) ∙ e)) [
+      | inl same ↦ (x, picks, or_left _ _ (ties x x refl), labels_exact q (as_taken x) ((Equal-is (label_cmp q (as_taken x))).0 same))
+      | inr later ↦ let found = built_from own q later in (found.0, found.1, or_right (eq_by_cmp data_cmp found.0 x) _ found.2, found.3)
+    ]
+    | inr miss ↦ let found = built_from own q (sym (ap (λ ys. list_any (eq_by_cmp label_cmp q) (map as_taken ys)) (kept_no (takes labels target) x own miss)) ∙ e) in (found.0, found.1, or_right (eq_by_cmp data_cmp found.0 x) _ found.2, found.3)
+  ]
+
+  name_taken : (k : LabelKind) → is_name k ≡ true → is_name (taken_kind k) ≡ true
+  name_taken Pref e = refl
+  name_taken Alt e = refl
+  name_taken Hidden e = refl
+  name_taken Scope e = e
+
+  not_true : (b : Bool) → not b ≡ true → b ≡ false
+  not_true true e = absurd (cc)
+  not_true false e = refl
+
+  -- what the target takes it has not
+  fresh : (d : LabelData) → takes labels target d ≡ true → set.contains labels (as_taken d) ≡ true → ⊥
+  fresh d picks held =
+      let name = left_true (is_name d.kind) _ picks in
+      let free = not_true _ (right_true (is_name d.kind) (not (has_name labels target d.tag d.text)) picks) in
+      clash _ (name_of labels target (taken_kind d.kind) d.tag d.text (name_taken d.kind name) held) free
+
+  -- two that become one are one
+  same_taken : (c d : LabelData) → takes labels target c ≡ true → takes labels target d ≡ true → set.contains labels (owned source c) ≡ true → set.contains labels (owned source d) ≡ true → as_taken c ≡ as_taken d → c ≡ d
+  same_taken c d tc td hc hd is =
+      let tag = ap (λ (l : Label). l.tag) is in
+      let text = ap (λ (l : Label). l.text) is in
+      let there = subst (λ (p : List ℕ × List ℕ). HasLabel labels source c.kind p.0 p.1) (λ i. (tag i, text i)) hc in
+      let kind = s13 source c.kind d.kind d.tag d.text (left_true (is_name c.kind) _ tc) (left_true (is_name d.kind) _ td) there hd in
+      λ i. own_label (kind i) (tag i) (text i)
+
+  after_none : (x d : LabelData) (own : List LabelData) → AllByRecursion (λ y. data_cmp x y ≡ Less) own → has_own own d ≡ true → x ≡ d → ⊥
+  after_none x d [] each e same = cc
+  after_none x d (y ∷ own) each e same = elim (or_cases _ _ e) [
+    | inl here ↦ differ (data_cmp x y) each.0 (subst (λ z. data_cmp x z ≡ Equal) (same ∙ tied d y here) (tied_itself data_total x))
+    | inr later ↦ after_none x d own each.1 later same
+  ]
+    where
+      differ : (r : Ordering) → r ≡ Less → r ≡ Equal → ⊥
+      differ r e f = cc
+
+  len_built : (own : List LabelData) → IsStrictlySortedBy data_cmp own → AreSome own → set.len (set.union labels (built own)) ≡ set.len labels + length (picked own)
+  unfolding IsStrictlySortedBy
+  len_built [] sorted some = ap set.len empty_union ∙ (let n = set.len labels in let e : n ≡ n + 0 = omega arith in e)
+  len_built (x ∷ own) sorted some = go (len_built own sorted.1 later) (decide (takes labels target x))
+    where
+      later : AreSome own
+      later d h = some d (or_right (eq_by_cmp data_cmp d x) _ h)
+
+      absent : takes labels target x ≡ true → (b : Bool) → set.contains (set.union labels (built own)) (as_taken x) ≡ b → b ≡ false
+      absent picks false e = refl
+      absent picks true e = absurd (elim (or_cases _ _ (sym (set.contains-union labels_total labels (built own) (as_taken x)) ∙ e)) [
+        | inl held ↦ fresh x picks held
+        | inr again ↦
+            let found = built_from own (as_taken x) (sym (set.contains-from_list labels_total (map as_taken (picked own)) (as_taken x)) ∙ again) in
+            let same = same_taken x found.0 picks found.1 (some x (or_left _ _ (ties x x refl))) (later found.0 found.2) found.3 in
+            after_none x found.0 own sorted.0 found.2 same
+      ])
+
+      go : set.len (set.union labels (built own)) ≡ set.len labels + length (picked own) → (takes labels target x ≡ true) ⊎ (takes labels target x ≡ false) → set.len (set.union labels (built (x ∷ own))) ≡ set.len labels + length (picked (x ∷ own))
+      go rest (inl picks) =
+          let kept = kept_yes (takes labels target) x own picks in
+          let more = ap (λ ys. set.len (set.union labels (set.from_list (map as_taken ys)))) kept ∙ ap set.len (union_insert (built own) (as_taken x)) ∙ set.len-insert labels_total (set.union labels (built own)) (as_taken x) ∙ ap (λ b. cond b (set.len (set.union labels (built own))) (set.len (set.union labels (built own)) + 1)) (absent picks _ refl) in
+          let count = ap length kept in
+          omega (arith, rest, more, count)
+      go rest (inr miss) =
+          let kept = kept_no (takes labels target) x own miss in
+          ap (λ ys. set.len (set.union labels (set.from_list (map as_taken ys)))) kept ∙ rest ∙ ap (λ ys. set.len labels + length ys) (sym kept)
+
+  built_any : (own : List LabelData) (q : Label) → list_any (eq_by_cmp label_cmp q) (map as_taken (picked own)) ≡ (eq_by_cmp nat_cmp q.owner target && list_any (λ d. takes labels target d && eq_by_cmp data_cmp (data_of q) (taken d)) own)
+  built_any [] q = sym (and_false (eq_by_cmp nat_cmp q.owner target))
+  built_any (x ∷ own) q = go (built_any own q) (decide (takes labels target x))
+    where
+      go : list_any (eq_by_cmp label_cmp q) (map as_taken (picked own)) ≡ (eq_by_cmp nat_cmp q.owner target && list_any (λ d. takes labels target d && eq_by_cmp data_cmp (data_of q) (taken d)) own) → (takes labels target x ≡ true) ⊎ (takes labels target x ≡ false)
+          → list_any (eq_by_cmp label_cmp q) (map as_taken (picked (x ∷ own))) ≡ (eq_by_cmp nat_cmp q.owner target && ((takes labels target x && eq_by_cmp data_cmp (data_of q) (taken x)) || list_any (λ d. takes labels target d && eq_by_cmp data_cmp (data_of q) (taken d)) own))
+      go rest (inl picks) =
+          ap (λ ys. list_any (eq_by_cmp label_cmp q) (map as_taken ys)) (kept_yes (takes labels target) x own picks)
+          ∙ (λ i. owned_tie q target (taken x) i || rest i)
+          ∙ and_or (eq_by_cmp nat_cmp q.owner target) (eq_by_cmp data_cmp (data_of q) (taken x)) (list_any (λ d. takes labels target d && eq_by_cmp data_cmp (data_of q) (taken d)) own)
+          ∙ ap (λ b. eq_by_cmp nat_cmp q.owner target && ((b && eq_by_cmp data_cmp (data_of q) (taken x)) || list_any (λ d. takes labels target d && eq_by_cmp data_cmp (data_of q) (taken d)) own)) (sym picks)
+      go rest (inr miss) =
+          ap (λ ys. list_any (eq_by_cmp label_cmp q) (map as_taken ys)) (kept_no (takes labels target) x own miss) ∙ rest
+          ∙ ap (λ b. eq_by_cmp nat_cmp q.owner target && ((b && eq_by_cmp data_cmp (data_of q) (taken x)) || list_any (λ d. takes labels target d && eq_by_cmp data_cmp (data_of q) (taken d)) own)) (sym miss)
+
+  pub taken_len : (own : List LabelData) → AreLabelsOf labels source own → set.len labels + length (picked own) ≡ set.len (set.union labels (taken_labels source target labels))
+  taken_len own are = sym (len_built own are.ordered (λ d h. sym (are.each d) ∙ h)) ∙ ap set.len (set.same_set labels_total labels_exact _ _ (λ q.
+      set.contains-union labels_total labels (built own) q ∙ ap (λ b. set.contains labels q || b) (set.contains-from_list labels_total (map as_taken (picked own)) q ∙ built_any own q)
+      ∙ sym (union_contains labels source target own are.each q)))
+
+-- The rows with the target's merged row.
+pub union_rows : (old new : BTreeMap ℕ (List LabelData)) (source target : ℕ) (row : List LabelData) → IsOrdered nat_cmp old → IsOrdered nat_cmp new → IsWritten old new target row → IsMerged old source target row → labels_in new.entries ≡ set.union (labels_in old.entries) (taken_labels source target (labels_in old.entries))
+union_rows old new source target row o n written merged = set.same_set labels_total labels_exact _ _ (λ q.
+    has_label new n q ∙ ap (λ r. has_own r (data_of q)) (row_after old new target row written q.owner) ∙ at q (eq_by_cmp nat_cmp q.owner target) refl
+    ∙ sym (union_contains (labels_in old.entries) source target (row_of old source) (owns source) q))
+  where
+    owns : (n : ℕ) → Owns (labels_in old.entries) n (row_of old n)
+    owns n l = sym (has_label old o (owned n l))
+
+    at : (q : Label) (b : Bool) → eq_by_cmp nat_cmp q.owner target ≡ b
+        → has_own (cond b row (row_of old q.owner)) (data_of q) ≡ (set.contains (labels_in old.entries) q || (eq_by_cmp nat_cmp q.owner target && list_any (λ d. takes (labels_in old.entries) target d && eq_by_cmp data_cmp (data_of q) (taken d)) (row_of old source)))
+    at q true tie =
+        let here = exact_unsigned q.owner target ((Equal-is (nat_cmp q.owner target)).0 tie) in
+        merged (data_of q)
+        ∙ (λ i. (ap (λ k. has_own (row_of old k) (data_of q)) (sym here) ∙ sym (has_label old o q)) i || gives_is (labels_in old.entries) target (row_of old target) (owns target) (row_of old source) (data_of q) i)
+        ∙ ap (λ b. set.contains (labels_in old.entries) q || (b && list_any (λ d. takes (labels_in old.entries) target d && eq_by_cmp data_cmp (data_of q) (taken d)) (row_of old source))) (sym tie)
+    at q false apart =
+        sym (has_label old o q) ∙ sym (or_false (set.contains (labels_in old.entries) q))
+        ∙ ap (λ b. set.contains (labels_in old.entries) q || (b && list_any (λ d. takes (labels_in old.entries) target d && eq_by_cmp data_cmp (data_of q) (taken d)) (row_of old source))) (sym apart)

@@ -1,0 +1,9 @@
+use Rattle.std.proofs.Common.{◌≡◌, ◌∙◌, ap, sym, List}
+use Rattle.std.specs.FinSet as set
+use Rattle.thes_base.specs.Data.{LabelData}
+use Rattle.thes_base.specs.Labels.{label_cmp}
+use Rattle.thes_vocab.specs.Rows.{labels_in}
+use Rattle.thes_vocab.proofs.labels.LabelTable.new.Goals as goal
+
+pub invariant_of-result : goal.invariant_of-result
+invariant_of-result c = record { ordered = c.new.ensures.ordered; counted = sym (ap (λ es. set.len (labels_in es)) c.new.ensures.empty ∙ set.len-empty label_cmp) }

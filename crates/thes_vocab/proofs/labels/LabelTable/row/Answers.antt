@@ -1,0 +1,15 @@
+use Rattle.std.proofs.Common.{◌≡◌, subst, List}
+use Rattle.std.specs.Prelude.{Option}
+use Rattle.std.specs.Option.{MatchOption, option_copied}
+use Rattle.thes_base.specs.Data.{LabelData}
+use Rattle.thes_base.specs.Labels.{Labels}
+use Rattle.thes_vocab.specs.Rows.{Owns, OwnsNone}
+use Rattle.thes_vocab.proofs.TableLemmas.{row_owns}
+use Rattle.thes_vocab.proofs.AnswerLemmas.{behind}
+use Rattle.thes_vocab.proofs.labels.LabelTable.row.Goals as goal
+
+pub returns : goal.returns
+returns c =
+    let at = row_owns c.self.inside.rows c.self.invariant.ordered c.args.owner (option_copied c.get.result) c.get.ensures.value in
+    let here = subst (λ (labels : Labels). MatchOption (option_copied c.get.result) (OwnsNone labels c.args.owner) (Owns labels c.args.owner)) c.self.view_is at in
+    behind (OwnsNone c.args.self.now c.args.owner) (Owns c.args.self.now c.args.owner) c.get.result here

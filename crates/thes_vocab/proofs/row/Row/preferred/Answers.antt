@@ -1,0 +1,13 @@
+use Rattle.std.proofs.Common.{◌≡◌, ◌∙◌, ap, sym, subst, List, get_or}
+use Rattle.thes_base.specs.Data.{LabelData, text_of}
+use Rattle.thes_vocab.specs.LabelData.{HasPreferred}
+use Rattle.thes_vocab.specs.Places.{IsPreferredAt}
+use Rattle.thes_vocab.proofs.OwnLemmas.{preferred_at}
+use Rattle.thes_vocab.proofs.row.Row.preferred.Goals as goal
+
+pub returns-in-Pref : goal.returns-in-Pref
+returns-in-Pref c =
+    let own = c.self.inside.labels.items in
+    let at = subst (λ xs. IsPreferredAt xs c.args.tag.now c.in_ok-place.place) c.as_slice.ensures.value c.in_ok-place.ensures in
+    let text = sym (ap (λ (l : LabelData). l.text) c.behind-self.view_is) ∙ ap text_of c.in-Pref.is in
+    subst (λ xs. HasPreferred xs c.args.tag.now c.in-Pref.text) c.self.view_is (preferred_at own c.args.tag.now c.in-Pref.text c.in_ok-place.place c.index.result.now at (sym c.index.ensures) text)

@@ -1,0 +1,14 @@
+use Rattle.std.proofs.Common.{◌≡◌, ◌∙◌, sym, ap, subst, List, ℕ}
+use Rattle.std.specs.Prelude.{None, Some}
+use Rattle.thes_base.specs.declared.data.Resource.{Resource}
+use Rattle.thes_base.specs.declared.data.NewResource.{NewResource}
+use Rattle.thes_base.specs.Rows.{accepted}
+use Rattle.thes_vocab.specs.Requests.{unless_new, IsFree}
+use Rattle.thes_vocab.proofs.KeptLemmas.{free_concept}
+use Rattle.thes_vocab.proofs.vocab.Vocab.add_resource.Goals as goal
+
+pub add_named-requires-in-Concept-clause-free : goal.add_named-requires-in-Concept-clause-free
+add_named-requires-in-Concept-clause-free c =
+    let v = c.args.self.now in
+    let row = subst (λ (new : NewResource). unless_new v new accepted None) c.in-Concept.is c.requires.allowed in
+    subst (λ (r : Resource). IsFree v.resources v.labels r c.in-Concept.tag c.in-Concept.text) (sym c.new_resource-in-Concept.ensures) (free_concept v.resources v.labels c.in-Concept.scheme c.in-Concept.tag c.in-Concept.text row)

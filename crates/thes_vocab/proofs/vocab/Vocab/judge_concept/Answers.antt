@@ -1,0 +1,29 @@
+use Rattle.std.proofs.Common.{rules, ◌≡◌, ◌∙◌, ap, sym, subst, List, ℕ, true}
+use Rattle.std.specs.Prelude.{Option, Some}
+use Rattle.thes_base.specs.declared.data.Resource.{Resource}
+use Rattle.thes_base.specs.Resources.{IsScheme, numbered, is_scheme_kind}
+use Rattle.thes_base.specs.Labels.{IsTaken}
+use Rattle.thes_base.specs.Legal.{LegalLabels}
+use Rattle.thes_vocab.specs.Vocabulary.{Vocabulary}
+use Rattle.thes_vocab.proofs.JudgingLemmas.{row_taken, row_free, holder_taken, no_holder}
+use Rattle.thes_vocab.proofs.vocab.Vocab.judge_concept.Goals as goal
+
+pub returns-then-is_some : goal.returns-then-is_some
+returns-then-is_some c =
+    let v = c.args.self.now in
+    let legal = subst (λ (v : Vocabulary). LegalLabels v.resources v.labels) c.self.view_is c.self.invariant.named in
+    let at : numbered v.resources c.args.scheme ≡ Some c.in-Some.resource.now = sym (c.in-Some.ensures ∙ ap (λ (rs : List Resource). numbered rs c.args.scheme) c.as_slice.ensures.value ∙ ap (λ (v : Vocabulary). numbered v.resources c.args.scheme) c.self.view_is) in
+    let kind : is_scheme_kind c.in-Some.resource.now.kind ≡ true = search rules in
+    let is : IsScheme v.resources c.args.scheme = (c.in-Some.resource.now, at, kind) in
+    row_taken v.resources v.labels legal c.args.scheme c.args.tag.now c.args.text.now is
+    (holder_taken v.resources v.labels c.args.scheme c.args.tag.now c.args.text.now c.holder.result c.holder.ensures (sym c.is_some.ensures ∙ c.if-is_some.true))
+
+pub returns : goal.returns
+returns c =
+    let v = c.args.self.now in
+    let legal = subst (λ (v : Vocabulary). LegalLabels v.resources v.labels) c.self.view_is c.self.invariant.named in
+    let at : numbered v.resources c.args.scheme ≡ Some c.in-Some.resource.now = sym (c.in-Some.ensures ∙ ap (λ (rs : List Resource). numbered rs c.args.scheme) c.as_slice.ensures.value ∙ ap (λ (v : Vocabulary). numbered v.resources c.args.scheme) c.self.view_is) in
+    let kind : is_scheme_kind c.in-Some.resource.now.kind ≡ true = search rules in
+    let is : IsScheme v.resources c.args.scheme = (c.in-Some.resource.now, at, kind) in
+    row_free v.resources v.labels legal c.args.scheme c.args.tag.now c.args.text.now is
+    (no_holder v.resources v.labels c.args.scheme c.args.tag.now c.args.text.now c.holder.result c.holder.ensures (sym c.is_some.ensures ∙ c.if-is_some.false))

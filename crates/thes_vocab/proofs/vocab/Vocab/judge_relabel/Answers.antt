@@ -1,0 +1,41 @@
+use Rattle.std.proofs.Common.{◌≡◌, sym, subst, List, ℕ}
+use Rattle.std.specs.Prelude.{Option, None, Some}
+use Rattle.thes_base.specs.declared.data.LabelKind.TheVariants.{Pref}
+use Rattle.thes_base.specs.Labels.{HasLabel}
+use Rattle.thes_base.specs.Legal.{LegalLabels}
+use Rattle.thes_base.specs.Changes.{labels_relabelled}
+use Rattle.thes_vocab.specs.Vocabulary.{Vocabulary}
+use Rattle.thes_vocab.specs.Rivals.{Clashes}
+use Rattle.thes_vocab.proofs.AnswerLemmas.{never}
+use Rattle.thes_vocab.proofs.JudgingLemmas.{row_without_name, row_clashing, row_with_rival, row_renamed}
+use Rattle.thes_vocab.proofs.vocab.Vocab.judge_relabel.Goals as goal
+
+pub returns-in_default : goal.returns-in_default
+returns-in_default c =
+    let v = c.args.self.now in
+    let none = subst (λ (v : Vocabulary). (text : List ℕ) → HasLabel v.labels c.args.owner Pref c.args.tag.now text → ⊥) c.self.view_is c.in_default.ensures in
+    row_without_name v.resources v.labels (labels_relabelled c.args.owner c.args.tag.now c.args.text.now c.args.keep v.labels) c.args.owner c.args.tag.now none
+
+pub returns-then-clashes : goal.returns-then-clashes
+returns-then-clashes c =
+    let v = c.args.self.now in
+    let legal = subst (λ (v : Vocabulary). LegalLabels v.resources v.labels) c.self.view_is c.self.invariant.named in
+    let has = subst (λ (v : Vocabulary). HasLabel v.labels c.args.owner Pref c.args.tag.now c.in-Some.old.now) c.self.view_is c.in-Some.ensures in
+    let clash = subst (λ (v : Vocabulary). Clashes v.labels c.args.owner c.args.tag.now c.args.text.now c.in-Some.old.now c.args.keep) c.self.view_is (c.clashes.ensures.0 c.if-clashes.true) in
+    row_clashing v.resources v.labels c.args.owner c.args.tag.now c.args.text.now c.in-Some.old.now c.args.keep legal has clash
+
+pub returns-then-has_rival : goal.returns-then-has_rival
+returns-then-has_rival c =
+    let v = c.args.self.now in
+    let legal = subst (λ (v : Vocabulary). LegalLabels v.resources v.labels) c.self.view_is c.self.invariant.named in
+    let has = subst (λ (v : Vocabulary). HasLabel v.labels c.args.owner Pref c.args.tag.now c.in-Some.old.now) c.self.view_is c.in-Some.ensures in
+    let free = λ (clash : Clashes v.labels c.args.owner c.args.tag.now c.args.text.now c.in-Some.old.now c.args.keep). let yes = c.clashes.ensures.1 (subst (λ (v : Vocabulary). Clashes v.labels c.args.owner c.args.tag.now c.args.text.now c.in-Some.old.now c.args.keep) (sym c.self.view_is) clash) in never c.clashes.result yes c.if-clashes.false in
+    row_with_rival v.resources v.labels c.args.owner c.args.tag.now c.args.text.now c.in-Some.old.now c.args.keep legal has free (c.has_rival.ensures.0 c.if-has_rival.true)
+
+pub returns : goal.returns
+returns c =
+    let v = c.args.self.now in
+    let legal = subst (λ (v : Vocabulary). LegalLabels v.resources v.labels) c.self.view_is c.self.invariant.named in
+    let has = subst (λ (v : Vocabulary). HasLabel v.labels c.args.owner Pref c.args.tag.now c.in-Some.old.now) c.self.view_is c.in-Some.ensures in
+    let free = λ (clash : Clashes v.labels c.args.owner c.args.tag.now c.args.text.now c.in-Some.old.now c.args.keep). let yes = c.clashes.ensures.1 (subst (λ (v : Vocabulary). Clashes v.labels c.args.owner c.args.tag.now c.args.text.now c.in-Some.old.now c.args.keep) (sym c.self.view_is) clash) in never c.clashes.result yes c.if-clashes.false in
+    row_renamed v.resources v.labels c.args.owner c.args.tag.now c.args.text.now c.in-Some.old.now c.args.keep legal has free (λ rival. never c.has_rival.result (c.has_rival.ensures.1 rival) c.if-has_rival.false)

@@ -1,0 +1,34 @@
+use Rattle.std.proofs.Common.{◌≡◌, ◌∙◌, ◌-◌, sym, ap, subst, List, ℕ, get_or, set}
+use Rattle.std.specs.Prelude.{Some}
+use Rattle.thes_base.specs.declared.data.Resource.{Resource}
+use Rattle.thes_base.specs.Resources.{numbered, IsLiveConcept}
+use Rattle.thes_base.specs.Changes.{dead}
+use Rattle.thes_base.proofs.ResourceLemmas.{killed_at}
+use Rattle.thes_vocab.specs.Vocabulary.{Vocabulary, IsReplacement, with_dead}
+use Rattle.thes_vocab.specs.Kept.{IsKept}
+use Rattle.thes_vocab.proofs.KeptLemmas.{kept_dead, numbered_at}
+use Rattle.thes_vocab.proofs.vocab.Vocab.mark_dead.Goals as goal
+
+pub invariant_of-self : goal.invariant_of-self
+invariant_of-self c =
+    let inside = c.self.inside in
+    let rs = inside.resources.items in
+    let r = c.index-resource.result.now in
+    let live = subst (λ (v : Vocabulary). IsLiveConcept v.resources c.args.n) (sym c.self.view_is) c.requires.concept in
+    let fit = subst (λ (v : Vocabulary). IsReplacement v.resources c.args.n c.args.replaced) (sym c.self.view_is) c.requires.replacement in
+    let at = numbered_at rs c.args.n r live.0 live.1 (c.index-resource.ensures ∙ ap (λ k. get_or rs (k - 1) r) c.get.ensures.value) in
+    let new = ap (dead c.args.replaced) c.resource.view_is in
+    subst (λ (x : List Resource). IsKept inside.base x inside.iris inside.labels inside.names) (λ i. set rs (sym c.get.ensures.value i - 1) (sym new i))
+    (kept_dead inside.base rs inside.iris inside.labels inside.names c.args.n c.args.replaced r c.self.invariant at live fit)
+
+pub returns : goal.returns
+returns c =
+    let inside = c.self.inside in
+    let rs = inside.resources.items in
+    let r = c.index-resource.result.now in
+    let live = subst (λ (v : Vocabulary). IsLiveConcept v.resources c.args.n) (sym c.self.view_is) c.requires.concept in
+    let at = numbered_at rs c.args.n r live.0 live.1 (c.index-resource.ensures ∙ ap (λ k. get_or rs (k - 1) r) c.get.ensures.value) in
+    let new = ap (dead c.args.replaced) c.resource.view_is in
+    let list = (λ i. set rs (c.get.ensures.value i - 1) (new i)) ∙ sym (killed_at rs c.args.n c.args.replaced r at) in
+    ap (λ (x : List Resource). let v : Vocabulary = record { base = inside.base; resources = x; iris = inside.iris; labels = inside.labels } in v) list
+    ∙ ap (λ (v : Vocabulary). with_dead v c.args.n c.args.replaced) c.self.view_is

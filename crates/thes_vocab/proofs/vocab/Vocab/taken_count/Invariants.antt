@@ -1,0 +1,8 @@
+use Rattle.std.proofs.Common.{◌≡◌, ◌≤◌, take, length, List}
+use Rattle.std.specs.Prelude.{filter}
+use Rattle.thes_base.specs.Data.{LabelData}
+use Rattle.thes_vocab.specs.Taken.{takes}
+use Rattle.thes_vocab.proofs.vocab.Vocab.taken_count.Given as goal
+
+abbrev pub invariant-loop-label : goal.invariant-loop-label
+invariant-loop-label l = record { few : l.count ≤ l.label-index; counted : l.count ≡ length (filter (takes l.self.labels l.target) (take l.label-index l.label-items)) }

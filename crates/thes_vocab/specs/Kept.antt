@@ -1,0 +1,15 @@
+-- What holds of every vocabulary.
+use Rattle.std.specs.Prelude.{◌≡◌, ℕ, List, Some}
+use Rattle.thes_base.specs.declared.data.Resource.{Resource}
+use Rattle.thes_base.specs.Resources.{Iris}
+use Rattle.thes_base.specs.Labels.{Labels}
+use Rattle.thes_base.specs.Legal.{LegalResources, LegalLabels}
+use Rattle.thes_vocab.specs.Vocabulary.{IsHolder}
+use Rattle.thes_vocab.specs.Named.{holder_in}
+use Rattle.thes_vocab.specs.declared.names.Names.{Names}
+
+-- Resources and labels are legal, and the holder of each preferred label is found.
+pub record IsKept (base : List ℕ) (resources : List Resource) (iris : Iris) (labels : Labels) (names : Names) : Type 0 where
+  pub legal : LegalResources base resources iris
+  pub named : LegalLabels resources labels
+  pub found : (scheme n : ℕ) (tag text : List ℕ) → IsHolder resources labels scheme tag text n → holder_in names scheme tag text ≡ Some n

@@ -1,0 +1,10 @@
+pub mod Vocabulary
+pub mod Requests
+pub mod Rivals
+pub mod LabelData
+pub mod Places
+pub mod Taken
+pub mod Rows
+pub mod Named
+pub mod Numbered
+pub mod Kept

@@ -1,0 +1,196 @@
+//! Changes of resources and labels. Each makes its growths first, so that want of memory changes nothing.
+ghost use Rattle.std.specs.Prelude.{◌≡◌, ◌≢◌, ◌<◌, ◌+◌, ◌^◌, ℕ, length, true, IfOk, OnOk, OnErr, None, Some};
+ghost use Rattle.std.specs.FinMap as dict;
+ghost use Rattle.std.specs.FinSet as set;
+ghost use Rattle.thes_base.specs.Rows.{accepted};
+ghost use Rattle.thes_base.specs.Machine.{owned};
+ghost use Rattle.thes_base.specs.Resources.{IsLiveConcept, BeginsWith};
+ghost use Rattle.thes_base.specs.Changes.{made, outside_made, labels_relabelled, taken_labels};
+ghost use Rattle.thes_base.specs.Refusals.{unless_label, unless_dropped, unless_relabelled};
+ghost use Rattle.thes_vocab.specs.Vocabulary.{bare_state, vocabulary_of, with_labels, with_dead, IsLiveOwner, IsReplacement};
+ghost use Rattle.thes_vocab.specs.Taken.{takes};
+ghost use Rattle.thes_vocab.specs.Requests.{unless_new, with_new, IsNamed, IsFree};
+
+use crate::vocab::{Vocab, concept_scheme, scheme_if_concept};
+use std::alloc::AllocError;
+use thes_base::data::{Label, LabelKind, LabelValue, NewResource, Resource, ResourceKind};
+use thes_base::number::ResNo;
+use thes_base::text::{Iri, Tag, Text};
+
+impl Vocab {
+    /// Makes a resource that nothing refuses, and answers its number. An `Err` changes nothing.
+    pub fn add_resource(&mut self, new: NewResource) -> Result<ResNo, AllocError>
+        requires allowed { unless_new self.old new accepted None }
+        requires room { length self.old.resources + 1 < 2 ^ 32 }
+        ensures number { IfOk result (λ n. n ≡ length self.old.resources + 1) }
+        ensures ok { OnOk result (self.new ≡ with_new new self.old) }
+        ensures err { OnErr result (self.new ≡ self.old) }
+    {
+        match new {
+            NewResource::Scheme(tag, text) => self.add_named(
+                new_resource(ResourceKind::Scheme, None),
+                tag,
+                text,
+            ),
+            NewResource::Concept(scheme, tag, text) => {
+                self.add_named(new_resource(ResourceKind::Concept, Some(scheme)), tag, text)
+            }
+            NewResource::Collection(scheme, tag, text) => {
+                self.add_named(
+                    new_resource(ResourceKind::Collection, Some(scheme)),
+                    tag,
+                    text,
+                )
+            }
+            NewResource::Outside(iri) => self.add_outside(iri),
+        }
+    }
+
+    /// Adds a label that nothing refuses. An `Err` changes nothing.
+    pub fn add_label(&mut self, owner: ResNo, label: &Label) -> Result<(), AllocError>
+        requires owner { IsLiveOwner self.old.resources owner }
+        requires allowed { let l = owned owner label.now in unless_label self.old.labels self.old.resources (set.insert self.old.labels l) l accepted None }
+        ensures ok { OnOk result (self.new ≡ with_labels self.old (set.insert self.old.labels (owned owner label.now))) }
+        ensures err { OnErr result (self.new ≡ self.old) }
+    {
+        let copy = label.try_clone(self.alloc)?;
+        let scheme = concept_scheme(self.resources.as_slice(), owner);
+        self.names.put_label(scheme, label, owner)?;
+        self.labels.insert(owner, copy)?;
+        Ok(())
+    }
+
+    /// Drops a label where nothing refuses it.
+    pub fn drop_label(&mut self, owner: ResNo, label: &Label)
+        requires owner { IsLiveOwner self.old.resources owner }
+        requires allowed { unless_dropped self.old.labels (owned owner label.now) accepted None }
+        ensures { self.new ≡ with_labels self.old (set.remove self.old.labels (owned owner label.now)) }
+    {
+        let scheme = concept_scheme(self.resources.as_slice(), owner);
+        self.names.forget_label(scheme, label);
+        self.labels
+            .remove(owner, label.kind(), &label.tag, label.text());
+    }
+
+    /// Gives an owner another preferred label in the language where nothing refuses it, and keeps the old one as an
+    /// alternative label if asked to. An `Err` changes nothing.
+    pub fn relabel(
+        &mut self,
+        owner: ResNo,
+        tag: &Tag,
+        text: &Text,
+        keep: bool,
+    ) -> Result<(), AllocError>
+        requires owner { IsLiveOwner self.old.resources owner }
+        requires allowed { unless_relabelled self.old.labels self.old.resources (labels_relabelled owner tag.now text.now keep self.old.labels) owner tag.now accepted None }
+        ensures ok { OnOk result (self.new ≡ with_labels self.old (labels_relabelled owner tag.now text.now keep self.old.labels)) }
+        ensures err { OnErr result (self.new ≡ self.old) }
+    {
+        let old = self.labels.preferred_clone(owner, tag)?;
+        if old == *text {
+            return Ok(());
+        }
+        let scheme = concept_scheme(self.resources.as_slice(), owner);
+        self.names.put(scheme, tag, text, owner)?;
+        self.labels.rename(owner, tag, &old, text, keep)?;
+        let scheme = concept_scheme(self.resources.as_slice(), owner);
+        self.names.forget(scheme, tag, &old);
+        Ok(())
+    }
+
+    /// How many labels the target would take from the source in a merge.
+    pub fn taken_count(&self, source: ResNo, target: ResNo) -> u64
+        ensures { set.len self.now.labels + result ≡ set.len (set.union self.now.labels (taken_labels source target self.now.labels)) }
+    {
+        let mut count = 0u64;
+        for label in self.labels.of_owner(source) {
+            if self.takes(target, label) {
+                count += 1;
+            }
+        }
+        count
+    }
+
+    /// Gives the target the names of the source that it lacks, preferred ones as alternative ones, and answers how many
+    /// those are. An `Err` changes nothing.
+    pub fn take_labels(&mut self, source: ResNo, target: ResNo) -> Result<u64, AllocError>
+        requires { IsLiveConcept self.old.resources target }
+        ensures gained { IfOk result (λ k. set.len self.old.labels + k ≡ set.len self.new.labels) }
+        ensures ok { OnOk result (self.new ≡ with_labels self.old (set.union self.old.labels (taken_labels source target self.old.labels))) }
+        ensures err { OnErr result (self.new ≡ self.old) }
+    {
+        let gained = self.taken_count(source, target);
+        self.labels.take_names(source, target, gained)?;
+        Ok(gained)
+    }
+
+    /// Makes a live concept dead, replaced by another live concept of its scheme or by none.
+    pub fn mark_dead(&mut self, n: ResNo, replaced: Option<ResNo>)
+        requires concept { IsLiveConcept self.old.resources n }
+        requires replacement { IsReplacement self.old.resources n replaced }
+        ensures { self.new ≡ with_dead self.old n replaced }
+    {
+        let place = n.get() as usize - 1;
+        let resource = self.resources[place];
+        self.resources[place] = Resource {
+            kind: resource.kind,
+            scheme: resource.scheme,
+            live: false,
+            replaced,
+        };
+    }
+    // Whether the target takes the label of another in a merge: a name that it lacks.
+    fn takes(&self, target: ResNo, label: &Label) -> bool
+        ensures { result ≡ takes self.now.labels target label.now }
+    {
+        label.kind() != LabelKind::Scope && !self.labels.has_name(target, &label.tag, label.text())
+    }
+
+    // Makes a resource with a preferred label that no live concept of its scheme has.
+    fn add_named(&mut self, resource: Resource, tag: Tag, text: Text) -> Result<ResNo, AllocError>
+        requires named { IsNamed self.old.resources resource }
+        requires free { IsFree self.old.resources self.old.labels resource tag text }
+        requires room { length self.old.resources + 1 < 2 ^ 32 }
+        ensures number { IfOk result (λ n. n ≡ length self.old.resources + 1) }
+        ensures ok { OnOk result (self.new ≡ vocabulary_of self.old.base (made resource tag text (bare_state self.old))) }
+        ensures err { OnErr result (self.new ≡ self.old) }
+    {
+        let n = ResNo::new(self.resources.len() as u32 + 1);
+        self.resources.try_reserve(1)?;
+        let scheme = scheme_if_concept(&resource);
+        self.names.put(scheme, &tag, &text, n)?;
+        let value = LabelValue::Pref(text);
+        self.labels.insert(n, Label { tag, value })?;
+        self.resources.push(resource).unwrap();
+        Ok(n)
+    }
+
+    // Makes an outside concept with an IRI that no other has.
+    fn add_outside(&mut self, iri: Iri) -> Result<ResNo, AllocError>
+        requires foreign { BeginsWith iri self.old.base → ⊥ }
+        requires free { (n : ℕ) → dict.get self.old.iris n ≢ Some iri }
+        requires room { length self.old.resources + 1 < 2 ^ 32 }
+        ensures number { IfOk result (λ n. n ≡ length self.old.resources + 1) }
+        ensures ok { OnOk result (self.new ≡ vocabulary_of self.old.base (outside_made iri (bare_state self.old))) }
+        ensures err { OnErr result (self.new ≡ self.old) }
+    {
+        let n = ResNo::new(self.resources.len() as u32 + 1);
+        self.resources.try_reserve(1)?;
+        self.iris.insert(n, iri)?;
+        let resource = new_resource(ResourceKind::Outside, None);
+        self.resources.push(resource).unwrap();
+        Ok(n)
+    }
+}
+
+// A live resource.
+fn new_resource(kind: ResourceKind, scheme: Option<ResNo>) -> Resource
+    ensures { result ≡ record { kind = kind; scheme = scheme; live = true; replaced = None } }
+{
+    Resource {
+        kind,
+        scheme,
+        live: true,
+        replaced: None,
+    }
+}

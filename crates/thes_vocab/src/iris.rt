@@ -1,0 +1,79 @@
+// The IRIs of outside concepts.
+ghost use Rattle.std.specs.Prelude.{◌≡◌, ◌≢◌, ℕ, OnOk, OnErr, None, Some, MatchOption, option_copied};
+ghost use Rattle.std.specs.FinMap as dict;
+
+use std::alloc::{AllocError, Global};
+use std::collections::BTreeMap;
+use std::marker::Model;
+use thes_base::number::ResNo;
+use thes_base::text::Iri;
+
+// The IRI of each outside concept by its number, and the number by its IRI. No two have one IRI.
+#[derive(Drop)]
+pub(crate) struct IriTable {
+    alloc: Global,
+    iris: BTreeMap<ResNo, Iri>,
+    numbers: BTreeMap<Iri, ResNo>,
+}
+
+impl Model for IriTable {
+    ghost use Rattle.std.specs.Coded.{codes};
+    ghost use Rattle.std.specs.FinMap as dict;
+    ghost use Rattle.thes_base.specs.Resources.{Iris};
+
+    ghost Value = { Iris };
+
+    ghost coded = { Prim.hlevel (codes, dict.code) };
+
+    ghost use Rattle.thes_vocab.specs.Numbered.{iris_in, AreTied};
+
+    ghost view = { λ a. iris_in a.iris.entries };
+
+    ghost invariant = { λ a. AreTied (iris_in a.iris.entries) a.numbers };
+}
+
+impl IriTable {
+    // No IRIs.
+    pub(crate) fn new(alloc: Global) -> IriTable
+        ensures { result ≡ dict.empty }
+    {
+        IriTable {
+            alloc,
+            iris: BTreeMap::new(alloc),
+            numbers: BTreeMap::new(alloc),
+        }
+    }
+
+    // The IRI with this number.
+    pub(crate) fn iri(&self, n: ResNo) -> Option<&Iri>
+        ensures { option_copied result ≡ dict.get self.now n }
+    {
+        self.iris.get(&n)
+    }
+
+    // The number of the IRI.
+    pub(crate) fn number(&self, iri: &Iri) -> Option<ResNo>
+        ensures { MatchOption result ((n : ℕ) → dict.get self.now n ≢ Some iri.now) (λ n. dict.get self.now n ≡ Some iri.now) }
+    {
+        self.numbers.get(iri).copied()
+    }
+
+    // Gives a new number an IRI that no other has. An `Err` changes nothing.
+    pub(crate) fn insert(&mut self, n: ResNo, iri: Iri) -> Result<(), AllocError>
+        requires number { dict.get self.old n ≡ None }
+        requires iri { (m : ℕ) → dict.get self.old m ≢ Some iri }
+        ensures ok { OnOk result (self.new ≡ dict.insert self.old n iri) }
+        ensures err { OnErr result (self.new ≡ self.old) }
+    {
+        let copy = iri.try_clone(self.alloc)?;
+        self.numbers.insert(copy, n)?;
+        match self.iris.insert(n, iri) {
+            Ok(_) => Ok(()),
+            Err(refused) => {
+                let (_, iri) = refused.value;
+                self.numbers.remove(&iri);
+                Err(AllocError)
+            }
+        }
+    }
+}

@@ -1,0 +1,15 @@
+//! Resources and labels: who has which name, in which language, and whether a new one may be given.
+#![tactic(auto)]
+
+mod changing;
+mod iris;
+mod judging;
+mod labels;
+mod names;
+mod row;
+#[cfg(test)]
+mod tests;
+pub mod vocab;
+
+pub use thes_base::data::NewResource;
+pub use vocab::Vocab;

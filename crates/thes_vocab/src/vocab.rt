@@ -1,0 +1,166 @@
+//! A vocabulary: what it holds, and what can be looked up in it.
+ghost use Rattle.std.specs.Prelude.{◌≡◌, ◌<◌, ◌^◌, ◌↔◌, IsTrue, ℕ, length, None, Some, option_copied, MatchOption};
+ghost use Rattle.std.specs.FinMap as dict;
+ghost use Rattle.std.specs.FinSet as set;
+ghost use Rattle.thes_base.specs.Resources.{numbered, IsLive};
+ghost use Rattle.thes_base.specs.Labels.{preferred_in, IsTaken};
+ghost use Rattle.thes_vocab.specs.LabelData.{AreLabelsOf};
+ghost use Rattle.thes_vocab.specs.Vocabulary.{empty_vocabulary, IsConceptOf, IsConceptIn, IsHolder};
+
+use crate::iris::IriTable;
+use crate::labels::LabelTable;
+use crate::names::Names;
+use std::alloc::Global;
+use std::marker::Model;
+use thes_base::data::{Label, LabelKind, Resource, ResourceKind};
+use thes_base::number::ResNo;
+use thes_base::text::{Base, Iri, Tag, Text};
+
+/// The resources of a thesaurus, with the IRIs of outside concepts and the labels of all others.
+///
+/// No two of its labels clash: an owner has no text of a language under two kinds and no two preferred labels in a
+/// language, two live concepts of a scheme share no preferred label, and each scheme, concept and collection has one.
+#[derive(Drop)]
+pub struct Vocab {
+    pub(crate) alloc: Global,
+    pub(crate) base: Base,
+    pub(crate) resources: Vec<Resource>,
+    pub(crate) iris: IriTable,
+    pub(crate) labels: LabelTable,
+    // Where the holder of a preferred label is found.
+    pub(crate) names: Names,
+}
+
+impl Model for Vocab {
+    ghost use Rattle.std.specs.Coded.{codes};
+    ghost use Rattle.std.specs.FinMap as dict;
+    ghost use Rattle.std.specs.FinSet as set;
+    ghost use Rattle.thes_vocab.specs.LabelData.{AreLabelsOf};
+    ghost use Rattle.thes_vocab.specs.Vocabulary.{Vocabulary};
+
+    ghost Value = { Vocabulary };
+
+    ghost coded = { Prim.hlevel (codes, set.code, dict.code) };
+
+    ghost use Rattle.thes_vocab.specs.Kept.{IsKept};
+
+    ghost view = { λ a. record { base = a.base; resources = a.resources.items; iris = a.iris; labels = a.labels } };
+
+    ghost invariant = { λ a. IsKept a.base a.resources.items a.iris a.labels a.names };
+}
+
+impl Vocab {
+    /// A vocabulary without resources.
+    pub fn new(alloc: Global, base: Base) -> Vocab
+        ensures { result ≡ empty_vocabulary base }
+    {
+        Vocab {
+            alloc,
+            base,
+            resources: Vec::new(alloc),
+            iris: IriTable::new(alloc),
+            labels: LabelTable::new(alloc),
+            names: Names::new(alloc),
+        }
+    }
+
+    /// The resource with this number.
+    pub fn resource(&self, n: ResNo) -> Option<&Resource>
+        ensures { option_copied result ≡ numbered self.now.resources n }
+    {
+        resource_at(self.resources.as_slice(), n)
+    }
+
+    /// Whether the number is a live resource's.
+    pub fn is_live(&self, n: ResNo) -> bool
+        ensures { IsTrue result ↔ IsLive self.now.resources n }
+    {
+        self.resource(n).is_some_and(|r| r.live)
+    }
+
+    /// How many resources there are.
+    pub fn resource_count(&self) -> u64
+        ensures count { result ≡ length self.now.resources }
+        ensures few { result < 2 ^ 32 }
+    {
+        self.resources.len() as u64
+    }
+
+    /// How many labels there are.
+    pub fn label_count(&self) -> u64
+        ensures { result ≡ set.len self.now.labels }
+    {
+        self.labels.len()
+    }
+
+    /// The owner's preferred label in the language.
+    pub fn preferred(&self, owner: ResNo, tag: &Tag) -> Option<&Text>
+        ensures { option_copied result ≡ preferred_in self.now.labels owner tag.now }
+    {
+        self.labels.preferred(owner, tag)
+    }
+
+    /// The owner's labels, by kind, language and text.
+    pub fn labels_of(&self, owner: ResNo) -> &[Label]
+        ensures { AreLabelsOf self.now.labels owner result.now }
+    {
+        self.labels.of_owner(owner)
+    }
+
+    /// The live concept of the scheme that has this preferred label.
+    pub fn holder(&self, scheme: ResNo, tag: &Tag, text: &Text) -> Option<ResNo>
+        ensures { MatchOption result (¬ IsTaken self.now.resources self.now.labels scheme tag.now text.now) (IsHolder self.now.resources self.now.labels scheme tag.now text.now) }
+    {
+        let n = self.names.holder(scheme, tag, text)?;
+        if self.is_held(n, scheme, tag, text) {
+            return Some(n);
+        }
+        None
+    }
+
+    // Whether a live concept of the scheme with this number has the preferred label.
+    fn is_held(&self, n: ResNo, scheme: ResNo, tag: &Tag, text: &Text) -> bool
+        ensures { IsTrue result ↔ IsHolder self.now.resources self.now.labels scheme tag.now text.now n }
+    {
+        concept_scheme(self.resources.as_slice(), n) == Some(scheme)
+            && self.labels.contains(n, LabelKind::Pref, tag, text.as_str())
+    }
+
+    /// The number of the outside concept with this IRI.
+    pub fn outside(&self, iri: &Iri) -> Option<ResNo>
+        ensures { MatchOption result ((n : ℕ) → ¬ (dict.get self.now.iris n ≡ Some iri.now)) (λ n. dict.get self.now.iris n ≡ Some iri.now) }
+    {
+        self.iris.number(iri)
+    }
+
+    /// The IRI of an outside concept.
+    pub fn outside_iri(&self, n: ResNo) -> Option<&Iri>
+        ensures { option_copied result ≡ dict.get self.now.iris n }
+    {
+        self.iris.iri(n)
+    }
+}
+
+// The resource with this number.
+pub(crate) fn resource_at(resources: &[Resource], n: ResNo) -> Option<&Resource>
+    ensures { option_copied result ≡ numbered resources.now n }
+{
+    resources.get(n.get() as usize - 1)
+}
+
+// The scheme of a live concept.
+pub(crate) fn concept_scheme(resources: &[Resource], n: ResNo) -> Option<ResNo>
+    ensures { MatchOption result ((scheme : ℕ) → IsConceptOf resources.now scheme n → ⊥) (λ scheme. IsConceptOf resources.now scheme n) }
+{
+    scheme_if_concept(resource_at(resources, n)?)
+}
+
+// The scheme of a resource that is a live concept.
+pub(crate) fn scheme_if_concept(resource: &Resource) -> Option<ResNo>
+    ensures { MatchOption result ((scheme : ℕ) → IsConceptIn scheme resource.now → ⊥) (λ scheme. IsConceptIn scheme resource.now) }
+{
+    if resource.kind != ResourceKind::Concept || !resource.live {
+        return None;
+    }
+    resource.scheme
+}
