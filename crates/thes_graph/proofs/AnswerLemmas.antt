@@ -1,12 +1,12 @@
 -- What carries the answers of the judging calls into rows of refusals, and how many links a merge leaves.
-use Rattle.std.proofs.Common.{◌≡◌, ◌≢◌, ◌⊎◌, inl, inr, ◌+◌, ◌≤◌, ℕ, List, [], ◌∷◌, Bool, true, false, not, ◌==◌, cond, Contains, length, Option, None, Some, map, refl, sym, ap, subst, ◌∙◌, arith}
+use Rattle.std.proofs.Common.{◌≡◌, ◌≢◌, inl, inr, ◌+◌, ◌≤◌, ℕ, List, [], ◌∷◌, Bool, true, false, not, ◌==◌, cond, Contains, length, Option, map, refl, sym, ap, subst, ◌∙◌, arith}
 use Rattle.std.specs.Prelude.{filter}
 use Rattle.std.specs.FinSet.{insert, contains, items, from_list, len, len-insert, len-empty}
 use Rattle.thes_base.specs.declared.data.Link.{Link}
 use Rattle.thes_base.specs.declared.fault.Refusal.{Refusal}
 use Rattle.thes_base.specs.declared.fault.Refusal.TheVariants as no
 use Rattle.thes_base.specs.Rows.{Row, refused_if, found_or}
-use Rattle.thes_base.specs.Links.{Links, link_cmp, HeldIn, norm, sent, sent_link, contracted, IsFirstBroken, unless_broken}
+use Rattle.thes_base.specs.Links.{Links, link_cmp, HeldIn, norm, sent, sent_link, contracted, unless_broken}
 use Rattle.thes_base.proofs.LinkSets.{links_total, link_inserted_cases}
 use Rattle.thes_base.proofs.LinkLemmas.{row_of_first, first_of_row}
 use Rattle.thes_graph.specs.Judge.{row_of_add}

@@ -1,24 +1,17 @@
 -- Sets of links after several changes.
-use Rattle.std.proofs.Common.{◌≡◌, ◌≢◌, ◌+◌, ◌-◌, ◌<◌, ◌≤◌, ◌⊎◌, inl, inr, ℕ, zero, suc, List, [], ◌∷◌, ◌++◌, Bool, true, false, cond, not, ◌||◌, ◌==◌, Contains, length, take, get_or, Option, Some, None, slice_get, refl, sym, ap, subst, ◌∙◌, arith}
+use Rattle.std.proofs.Common.{◌≡◌, ◌≢◌, ◌+◌, ◌-◌, ◌<◌, ◌≤◌, ◌⊎◌, inl, inr, ℕ, List, [], ◌∷◌, ◌++◌, Bool, true, false, cond, not, Contains, length, take, get_or, Option, Some, None, slice_get, refl, sym, ap, subst, ◌∙◌, arith}
 use Rattle.std.specs.Option.{MatchOption}
-use Rattle.std.specs.FinSet.{insert, remove, retain, contains, len, empty, len-remove, empty_of_len, contains-empty}
+use Rattle.std.specs.FinSet.{insert, remove, contains, len, len-remove, empty_of_len, contains-empty}
 use Rattle.std.proofs.lemmas.Option.{slice_get_within, get_or_from_slice_get}
 use Rattle.std.proofs.lemmas.List.{take_more}
 use Rattle.thes_base.specs.declared.data.Link.{Link}
-use Rattle.thes_base.specs.Links.{Links, link_cmp, HeldIn, norm, sent, sent_link, contracted, without_node}
+use Rattle.thes_base.specs.Links.{Links, link_cmp, HeldIn, without_node}
 use Rattle.thes_base.proofs.LinkSets.{links_total, link_inserted_cases, link_retained}
-use Rattle.thes_graph.specs.Reading.{HaveTwoEnds, EndsAt}
-use Rattle.thes_graph.specs.Sight.{place, becomes}
-use Rattle.thes_graph.specs.declared.sight.Sight.TheVariants.{Merged}
-use Rattle.thes_graph.specs.Net.{Net, is_marked, ends_at}
+use Rattle.thes_graph.specs.Reading.{EndsAt}
+use Rattle.thes_graph.specs.Net.{Net, ends_at}
 use Rattle.thes_graph.specs.Moved.{with_all, without_all}
-use Rattle.thes_graph.proofs.NumberLemmas.{same_of, other_of}
-use Rattle.thes_graph.proofs.PivotLemmas.{same_or_not}
 use Rattle.thes_graph.proofs.WeightLemmas.{past_of_none, Contains-none, Contains-head, Contains-later, Contains-cons_cases}
-use Rattle.thes_graph.proofs.SightLemmas.{becomes-ends}
-use Rattle.thes_graph.proofs.NormLemmas.{norm_ends, norm_two, norm_again}
 use Rattle.thes_graph.proofs.SetLemmas.{same_links, inserted_held, insert_keeps, remove_keeps, removed_cases, retain_keeps, not_held_of, off_of_not}
-use Rattle.thes_graph.proofs.ContractLemmas.{contracted_from, contracted_to}
 use Rattle.thes_graph.proofs.IndexLemmas.{ends_of_test, test_of_ends}
 
 not_true : (b : Bool) → not b ≡ true → b ≡ false

@@ -1,4 +1,4 @@
-use Rattle.std.proofs.Common.{◌≡◌, ◌≢◌, ◌==◌, ◌+◌, ◌*◌, ◌≤◌, ◌<◌, ◌⊎◌, inl, inr, ℕ, zero, suc, List, [], ◌∷◌, ◌++◌, length, ap, sym, subst, ◌∙◌, arith, refl, Contains, Bool, true, false, if◌then◌else◌, Option, Some, None, length-append}
+use Rattle.std.proofs.Common.{◌≡◌, ◌≢◌, ◌+◌, ◌⊎◌, inl, inr, ℕ, List, ◌∷◌, ◌++◌, length, ap, sym, subst, ◌∙◌, arith, refl, Contains, Option, length-append}
 use Rattle.std.proofs.lemmas.List.Elements.{Contains-append_left, Contains-append_right, Contains-append_cases}
 use Rattle.thes_base.specs.declared.data.Link.{Link}
 use Rattle.thes_base.specs.declared.data.LinkKind.{LinkKind}
@@ -9,7 +9,7 @@ use Rattle.thes_graph.specs.Reading.{HaveTwoEnds, EndsAt}
 use Rattle.thes_graph.specs.Sight.{place, WouldBe, TouchesAt}
 use Rattle.thes_graph.specs.Local.{BreakNone, AwayFrom, IsFirstBrokenAt, CoversNear}
 use Rattle.thes_graph.specs.Judge.{HasNeighbourhood}
-use Rattle.thes_graph.proofs.PivotLemmas.{BreakNone-within, IsFirstBroken-from_pivot, same_or_not}
+use Rattle.thes_graph.proofs.PivotLemmas.{BreakNone-within, IsFirstBroken-from_pivot}
 use Rattle.thes_graph.proofs.WeightLemmas.{cut, Contains-cons_cases}
 use Rattle.thes_graph.proofs.SightLemmas.{becomes-ends}
 

@@ -1,5 +1,5 @@
 -- The order of links that `cmp` computes is that of the set.
-use Rattle.std.proofs.Common.{◌≡◌, refl, ap}
+use Rattle.std.proofs.Common.{◌≡◌, refl}
 use Rattle.std.specs.Ordering.{nat_cmp, ordering_then}
 use Rattle.std.specs.declared.cmp.Ordering.{Ordering}
 use Rattle.thes_base.specs.declared.data.Link.{Link}

@@ -1,5 +1,5 @@
 -- The resources marked as outside concepts.
-use Rattle.std.proofs.Common.{◌≡◌, ◌≢◌, inl, inr, ℕ, List, Bool, true, false, cond, not, ◌&&◌, ◌||◌, nat_lt, if◌then◌else◌, nat_eq, refl, sym, ap, subst, ◌∙◌}
+use Rattle.std.proofs.Common.{◌≡◌, ◌≢◌, inl, inr, ℕ, List, Bool, true, false, cond, ◌&&◌, ◌||◌, nat_lt, if◌then◌else◌, refl, sym, ap, ◌∙◌}
 use Rattle.std.specs.List.{list_any}
 use Rattle.std.specs.Ordering.{nat_cmp, eq_by_cmp}
 use Rattle.std.specs.Cmp.{nat_cmp_total, nat_eq_equiv, unsigned_tied}
@@ -9,7 +9,7 @@ use Rattle.thes_base.specs.declared.data.Link.{Link}
 use Rattle.thes_base.specs.Links.{HeldIn, is_symmetric, exchanged, norm}
 use Rattle.thes_graph.specs.Reading.{EndsAt}
 use Rattle.thes_graph.specs.Rows.{Rows, IsIndexed}
-use Rattle.thes_graph.proofs.NumberLemmas.{other_of, same_of}
+use Rattle.thes_graph.proofs.NumberLemmas.{same_of}
 use Rattle.thes_graph.proofs.SetLemmas.{off_of_not}
 
 -- one more number

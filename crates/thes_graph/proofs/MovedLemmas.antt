@@ -1,5 +1,5 @@
 -- A merge: the new links are added, and those at the source dropped.
-use Rattle.std.proofs.Common.{◌≡◌, ◌≢◌, ◌⊎◌, ◌+◌, ◌<◌, ◌++◌, length, get_or, inl, inr, ℕ, zero, suc, List, [], ◌∷◌, Bool, true, false, cond, ◌==◌, nat_eq, Contains, take, Option, Some, None, if◌then◌else◌, refl, sym, ap, subst, ◌∙◌, arith}
+use Rattle.std.proofs.Common.{◌≡◌, ◌≢◌, ◌⊎◌, ◌+◌, ◌<◌, ◌++◌, length, get_or, inl, inr, ℕ, zero, suc, List, [], ◌∷◌, Bool, true, false, ◌==◌, Contains, take, Option, Some, None, if◌then◌else◌, refl, sym, ap, subst, ◌∙◌, arith}
 use Rattle.std.specs.Prelude.{option_and_then}
 use Rattle.std.specs.List.{filter_map, cons_option}
 use Rattle.std.specs.Option.{option_to_list}
@@ -9,13 +9,11 @@ use Rattle.std.specs.FinSet.{contains}
 use Rattle.std.proofs.lemmas.Bool.Decides.{Decides-eqb}
 use Rattle.thes_base.specs.declared.data.Link.{Link}
 use Rattle.thes_base.specs.Links.{Links, HeldIn, norm, sent, sent_link, contracted, without_node}
-use Rattle.thes_graph.specs.declared.sight.Sight.TheVariants.{Merged}
 use Rattle.thes_graph.specs.Reading.{HaveTwoEnds, EndsAt}
-use Rattle.thes_graph.specs.Sight.{place, becomes}
+use Rattle.thes_graph.specs.Sight.{becomes}
 use Rattle.thes_graph.specs.Net.{Net, is_marked, links_at}
 use Rattle.thes_graph.specs.Moved.{AreNormal, AreMoved, AreNew, merged_link, unless_held, with_all}
 use Rattle.thes_graph.proofs.PivotLemmas.{same_or_not}
-use Rattle.thes_graph.proofs.NumberLemmas.{other_of}
 use Rattle.thes_graph.proofs.WeightLemmas.{Contains-none, Contains-head, Contains-later, Contains-cons_cases}
 use Rattle.thes_graph.proofs.SightLemmas.{becomes-ends, filter_map-from, filter_map-to}
 use Rattle.thes_graph.proofs.JudgeLemmas.{link_same}

@@ -1,4 +1,4 @@
-use Rattle.std.proofs.Common.{◌≡◌, ◌≢◌, ◌+◌, ◌≤◌, ◌<◌, ◌⊎◌, inl, inr, ℕ, zero, suc, List, [], ◌∷◌, ◌++◌, length, ap, sym, subst, ◌∙◌, arith, refl, Contains}
+use Rattle.std.proofs.Common.{◌≡◌, ◌⊎◌, inl, inr, ℕ, List, [], ◌∷◌, sym, subst, refl, Contains}
 use Rattle.thes_base.specs.declared.data.Link.{Link}
 use Rattle.thes_base.specs.declared.data.Direction.{Direction}
 use Rattle.thes_base.specs.declared.data.Direction.TheVariants.{Forward, Backward, Either, Never}
@@ -6,7 +6,6 @@ use Rattle.thes_base.specs.Links.{broader_way, related_way, apart_way, Leads, Pa
 use Rattle.thes_graph.specs.Steps.{turned, Steps, Reaches, Ties}
 use Rattle.thes_graph.specs.Local.{UpTo, Alike, NoCycleAt, NoS27At, NoS46At, IsGathered, IsNear}
 use Rattle.thes_graph.specs.declared.relation.Relation.TheVariants.{Broader, Narrower, Related, Exact, Apart}
-use Rattle.thes_graph.proofs.ReachLemmas.{Reaches-step}
 use Rattle.thes_graph.proofs.PivotLemmas.{Reaches-turn, Reaches-then_chain}
 use Rattle.thes_graph.proofs.WeightLemmas.{Contains-head, Contains-cons_cases, Contains-none}
 

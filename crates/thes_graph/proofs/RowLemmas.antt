@@ -1,5 +1,5 @@
 -- The row of a node: where a binary search ends, and what it then has.
-use Rattle.std.proofs.Common.{◌≡◌, ◌≢◌, ◌<◌, ◌≤◌, ◌⊎◌, inl, inr, ℕ, List, [], Bool, true, false, cond, Option, Some, None, Vec, length, Ordering, Less, Equal, Greater, refl, sym, ap, subst, ◌∙◌, Result, Ok, Err, arith}
+use Rattle.std.proofs.Common.{◌≡◌, ◌≢◌, ◌<◌, ◌≤◌, ◌⊎◌, inl, inr, ℕ, List, [], true, false, cond, Option, Some, None, Vec, length, Ordering, Less, Equal, Greater, refl, sym, ap, subst, ◌∙◌, Ok, Err, arith}
 use Rattle.std.specs.Option.{is_some}
 use Rattle.std.specs.Vec.{vec_len, vec_capacity}
 use Rattle.std.specs.List.{HoldsAt, insert, remove}

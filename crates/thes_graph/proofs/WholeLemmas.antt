@@ -1,5 +1,5 @@
 -- The check of all links, rule by rule.
-use Rattle.std.proofs.Common.{◌≡◌, ◌≢◌, ◌⊎◌, inl, inr, ◌+◌, ◌<◌, ◌≤◌, ℕ, List, [], ◌∷◌, ◌++◌, Bool, true, false, Contains, length, take, get_or, refl, sym, ap, subst, ◌∙◌, arith, below_more}
+use Rattle.std.proofs.Common.{◌≡◌, ◌≢◌, ◌⊎◌, inl, inr, ◌+◌, ◌<◌, ◌≤◌, ℕ, List, [], ◌∷◌, ◌++◌, Bool, true, false, Contains, length, take, get_or, refl, sym, subst, ◌∙◌, arith, below_more}
 use Rattle.std.specs.Bool.{MatchBool}
 use Rattle.std.proofs.lemmas.List.{take_more, get_or_default}
 use Rattle.std.proofs.lemmas.List.Elements.{Contains-append_left, Contains-push, Contains-push_cases}
@@ -8,17 +8,16 @@ use Rattle.thes_base.specs.declared.data.LinkKind.{LinkKind}
 use Rattle.thes_base.specs.declared.data.LinkKind.TheVariants.{Broader, Related, Exact, Close, Broad, Narrow, RelMatch, Member}
 use Rattle.thes_base.specs.declared.data.Direction.{Direction}
 use Rattle.thes_base.specs.declared.data.Direction.TheVariants.{Forward, Backward, Either, Never}
-use Rattle.thes_base.specs.Links.{Links, HeldIn, broader_way, related_way, exact_way, apart_way, Leads, Path, Chain, Joined, IsBroader, IsAbove, IsRelated, IsExact, IsApart, NoCycle, S27, S46}
+use Rattle.thes_base.specs.Links.{broader_way, related_way, exact_way, Leads, Path, Joined, IsBroader, IsAbove, IsApart, NoCycle, S27, S46}
 use Rattle.thes_graph.specs.declared.relation.Relation.TheVariants as relation
-use Rattle.thes_graph.specs.Reading.{HaveTwoEnds}
-use Rattle.thes_graph.specs.Steps.{Steps, Reaches, GrowsBy, Ties}
-use Rattle.thes_graph.specs.Local.{UpTo, Alike, NoCycleAt, NoS27At, NoS46At, IsGathered}
-use Rattle.thes_graph.specs.Whole.{AreAll, HasWay, IsSomeCycle, IsSomeS27, IsSomeS46}
+use Rattle.thes_graph.specs.Steps.{Reaches, GrowsBy, Ties}
+use Rattle.thes_graph.specs.Local.{UpTo, Alike, NoCycleAt, NoS46At, IsGathered}
+use Rattle.thes_graph.specs.Whole.{HasWay, IsSomeS27}
 use Rattle.std.specs.BTreeMap.{BTreeMap}
 use Rattle.thes_graph.specs.Levels.{level_of, Rises}
-use Rattle.thes_graph.proofs.PivotLemmas.{Reaches-then_chain, Chain-then_reach, Chain-one, exact_turns, Alike-turn, S46-witness}
+use Rattle.thes_graph.proofs.PivotLemmas.{Reaches-then_chain, Chain-then_reach, exact_turns}
 use Rattle.thes_graph.proofs.StepLemmas.{GrowsBy-then}
-use Rattle.thes_graph.proofs.ProbeLemmas.{cycle_found, cycle_none, s46_found, s46_none}
+use Rattle.thes_graph.proofs.ProbeLemmas.{cycle_found, cycle_none}
 
 never : (w : Direction) (a b x y : ℕ) → Leads w a b x y → w ≢ Never
 never w a b x y leads same = subst (λ (d : Direction). Leads d a b x y) same leads

@@ -4,7 +4,7 @@ use Rattle.std.specs.Ordering.{nat_cmp}
 use Rattle.std.specs.BTreeMap.{BTreeMap, get}
 use Rattle.thes_base.specs.declared.data.Link.{Link}
 use Rattle.thes_base.specs.declared.data.Direction.{Direction}
-use Rattle.thes_base.specs.declared.data.Direction.TheVariants.{Forward, Backward, Either, Never}
+use Rattle.thes_base.specs.declared.data.Direction.TheVariants.{Forward, Backward}
 use Rattle.thes_base.specs.Links.{broader_way, Leads}
 
 abbrev pub level_of : BTreeMap ℕ ℕ → ℕ → ℕ

@@ -1,5 +1,5 @@
 -- What a merge makes of the links at its source.
-use Rattle.std.specs.Prelude.{◌≡◌, ◌≢◌, ℕ, List, [], ◌∷◌, Contains, if◌then◌else◌, Option, None, Some, option_and_then}
+use Rattle.std.specs.Prelude.{◌≡◌, ℕ, List, [], ◌∷◌, Contains, if◌then◌else◌, Option, None, Some, option_and_then}
 use Rattle.std.specs.List.{filter_map}
 use Rattle.std.specs.FinSet.{insert, remove, contains}
 use Rattle.thes_base.specs.declared.data.Link.{Link}

@@ -1,5 +1,5 @@
 -- All links, and what breaks a rule somewhere in them.
-use Rattle.std.specs.Prelude.{◌≡◌, ◌≢◌, ℕ, List, Contains}
+use Rattle.std.specs.Prelude.{◌≢◌, ℕ, List, Contains}
 use Rattle.thes_base.specs.declared.data.Link.{Link}
 use Rattle.thes_base.specs.declared.data.Direction.TheVariants.{Never}
 use Rattle.thes_base.specs.Links.{Links, HeldIn, IsAbove, IsRelated, IsExact, IsApart}

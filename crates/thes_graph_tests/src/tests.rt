@@ -1,8 +1,5 @@
 //! The worked examples on links, and the answers for graphs from a fixed list of numbers beside those of a plain program, which is the
 //! definitions read off a list.
-use thes_graph::graph::Graph;
-use thes_graph::judge::{check_at, judge_add, judge_contract};
-use thes_graph::links::Links;
 use std::alloc::{AllocError, Global};
 use std::collections::BTreeSet;
 use std::process::Abort;
@@ -10,6 +7,9 @@ use std::test::Fail;
 use thes_base::data::{Link, LinkKind};
 use thes_base::fault::Refusal;
 use thes_base::number::ResNo;
+use thes_graph::graph::Graph;
+use thes_graph::judge::{check_at, judge_add, judge_contract};
+use thes_graph::links::Links;
 
 fn no(n: u32) -> ResNo {
     ResNo::new(n.max(1))

@@ -1,8 +1,6 @@
-use Rattle.std.proofs.Common.{◌≡◌, ◌+◌, ◌*◌, ◌≤◌, inr, length, arith, Contains, sym}
+use Rattle.std.proofs.Common.{◌+◌, ◌*◌, ◌≤◌, inr, length, arith, sym}
 use Rattle.thes_graph.specs.declared.sight.Sight.TheVariants.{With}
-use Rattle.thes_graph.specs.Sight.{WouldBe}
 use Rattle.thes_graph.specs.Local.{CoversNear}
-use Rattle.thes_graph.specs.Local.{IsFirstBrokenAt}
 use Rattle.thes_graph.proofs.JudgeLemmas.{IsFirstBroken-with, CoversNear-with}
 use Rattle.thes_graph.proofs.SetLemmas.{not_held_of}
 use Rattle.thes_graph.proofs.ContractLemmas.{IsFirstBroken-inserted}

@@ -1,11 +1,8 @@
-use Rattle.std.proofs.Common.{◌≡◌, ◌+◌, ◌*◌, ◌≤◌, ℕ, List, [], ◌∷◌, length, arith, ◌∙◌, Contains, rules}
-use Rattle.thes_base.specs.declared.data.Link.{Link}
-use Rattle.thes_graph.specs.declared.relation.Relation.TheVariants.{Broader, Narrower, Related, Exact, Apart}
-use Rattle.thes_graph.specs.Steps.{Ties}
-use Rattle.thes_graph.specs.Local.{NoCycleAt, NoS27At, NoS46At}
+use Rattle.std.proofs.Common.{◌+◌, ◌*◌, ◌≤◌, length, arith}
+use Rattle.thes_graph.specs.declared.relation.Relation.TheVariants.{Broader, Narrower, Exact}
+use Rattle.thes_graph.specs.Local.{NoCycleAt, NoS27At}
 use Rattle.thes_graph.specs.Local.{IsGathered}
-use Rattle.thes_graph.specs.Sight.{WouldBe, CoversAt}
-use Rattle.thes_graph.specs.Local.{CoversNear}
+use Rattle.thes_graph.specs.Sight.{WouldBe}
 use Rattle.thes_graph.proofs.ProbeLemmas.{cycle_found, cycle_none, s27_found, s27_none, s46_found, s46_none, near_up, near_down, near_same}
 use Rattle.thes_graph.proofs.judge.probe.Goals as goal
 

@@ -1,5 +1,4 @@
 use Rattle.std.proofs.Common.{arith}
-use Rattle.thes_base.specs.declared.data.Link.{Link}
 use Rattle.thes_graph.specs.Levels.{Rises}
 use Rattle.thes_graph.proofs.WholeLemmas.{holds_more, holds_all}
 use Rattle.thes_graph.proofs.levels.first_falling.Goals as goal

@@ -1,4 +1,4 @@
-use Rattle.std.proofs.Common.{rules, ◌≡◌, ◌+◌, ◌≤◌, ◌<◌, ℕ, List, length, take, get_or, ap, sym, subst, ◌∙◌, arith, ◌++◌, ◌∷◌, [], Option, Some, slice_get}
+use Rattle.std.proofs.Common.{ℕ, List, ap, sym, ◌∙◌, arith, ◌++◌, ◌∷◌, [], slice_get}
 use Rattle.thes_graph.proofs.WeightLemmas.{take_next}
 use Rattle.thes_base.specs.declared.data.Link.{Link}
 use Rattle.thes_graph.proofs.walk.fetch.Goals as goal

@@ -1,4 +1,4 @@
-use Rattle.std.proofs.Common.{◌≡◌, ◌+◌, ◌≤◌, ◌<◌, ℕ, List, length, arith, ◌∙◌, sum_by, Contains, refl, sym}
+use Rattle.std.proofs.Common.{◌+◌, ◌≤◌, ◌<◌, List, length, arith, ◌∙◌, sum_by, Contains, refl, sym}
 use Rattle.std.proofs.lemmas.Option.{slice_get_within, get_or_from_slice_get}
 use Rattle.thes_base.specs.declared.data.Link.{Link}
 use Rattle.thes_graph.specs.Steps.{GrowsBy, Steps}

@@ -1,4 +1,4 @@
-use Rattle.std.proofs.Common.{◌≡◌, arith}
+use Rattle.std.proofs.Common.{arith}
 use Rattle.thes_graph.specs.declared.sight.Sight.TheVariants.{AsHeld, With}
 use Rattle.thes_graph.proofs.ReadLemmas.{IsReadOf-plain, read_few}
 use Rattle.thes_graph.proofs.walk.read.Goals as goal

@@ -1,8 +1,7 @@
-use Rattle.std.proofs.Common.{◌≡◌, ◌≢◌, ◌+◌, ◌≤◌, ℕ, List, length, ap, sym, subst, ◌∙◌, arith, sum_by, length-append}
-use Rattle.thes_base.specs.declared.data.Link.{Link}
+use Rattle.std.proofs.Common.{◌≡◌, ℕ, subst, arith}
 use Rattle.thes_graph.specs.declared.sight.Sight.TheVariants.{Merged}
 use Rattle.thes_graph.specs.Reading.{IsRow}
-use Rattle.thes_graph.specs.Sight.{IsReadOf, CoversAt, touches}
+use Rattle.thes_graph.specs.Sight.{CoversAt}
 use Rattle.thes_graph.proofs.ReadLemmas.{IsReadOf-plain, read_few, place-at, place-stays, IsReadOf-target, length-target}
 use Rattle.thes_graph.proofs.NumberLemmas.{eq_other, ne_other, ne_same}
 use Rattle.thes_graph.proofs.walk.read_merged.Goals as goal

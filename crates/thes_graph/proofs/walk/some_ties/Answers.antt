@@ -1,4 +1,4 @@
-use Rattle.std.proofs.Common.{◌≡◌, ℕ, ◌<◌, length, get_or, below_more, arith, sym, subst, ◌∙◌, Contains}
+use Rattle.std.proofs.Common.{ℕ, get_or, below_more, arith, sym, subst, ◌∙◌}
 use Rattle.std.proofs.lemmas.List.{get_or_default}
 use Rattle.thes_graph.specs.Steps.{Ties}
 use Rattle.thes_base.specs.declared.data.Link.{Link}

@@ -1,4 +1,4 @@
-use Rattle.std.proofs.Common.{◌≡◌, ℕ, ◌∙◌, sym, subst, get_or}
+use Rattle.std.proofs.Common.{◌≡◌, ℕ, ◌∙◌, subst}
 use Rattle.std.proofs.lemmas.List.{get_or_default}
 use Rattle.thes_graph.specs.Steps.{GrowsBy}
 use Rattle.thes_graph.proofs.WholeLemmas.{GrowsBy-more}

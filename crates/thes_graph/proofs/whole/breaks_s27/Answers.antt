@@ -1,5 +1,4 @@
-use Rattle.std.proofs.Common.{◌≡◌, ◌+◌, ap, sym, ◌∙◌, arith}
-use Rattle.thes_base.specs.declared.data.Link.{Link}
+use Rattle.std.proofs.Common.{◌+◌, ap, sym, ◌∙◌, arith}
 use Rattle.thes_base.specs.Links.{HeldIn}
 use Rattle.thes_graph.proofs.WholeLemmas.{IsFree, HoldsBelow, holds_more, holds_all, s27_some, s27_all}
 use Rattle.thes_graph.proofs.whole.breaks_s27.Goals as goal

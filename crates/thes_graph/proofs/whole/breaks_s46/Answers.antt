@@ -1,7 +1,5 @@
-use Rattle.std.proofs.Common.{◌≡◌, ◌+◌, ℕ, List, Contains, ap, sym, ◌∙◌, arith}
-use Rattle.thes_base.specs.declared.data.Link.{Link}
+use Rattle.std.proofs.Common.{◌+◌, ℕ, List, Contains, ap, ◌∙◌, arith}
 use Rattle.thes_base.specs.Links.{HeldIn}
-use Rattle.thes_graph.specs.Local.{NoS46At}
 use Rattle.thes_graph.proofs.WholeLemmas.{HoldsBelow, IsDone, holds_more, holds_all, s46_all}
 use Rattle.thes_graph.proofs.whole.breaks_s46.Goals as goal
 use Rattle.thes_graph.proofs.whole.breaks_s46.Goals.{else-counts-via-then-counts+then-not-has+in_ok-breaks_s46_at+else-branch, else-counts-via-then-counts+else-not-has, else-counts-via-else-counts}

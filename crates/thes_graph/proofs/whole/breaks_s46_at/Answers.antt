@@ -1,7 +1,6 @@
-use Rattle.std.proofs.Common.{◌≡◌, ◌⊎◌, inl, inr, ℕ, List, ◌++◌, Contains, sym, subst, refl}
+use Rattle.std.proofs.Common.{inl, inr, refl}
 use Rattle.std.proofs.lemmas.List.Elements.{Contains-append_left}
 use Rattle.thes_base.specs.Links.{HeldIn}
-use Rattle.thes_graph.specs.Local.{NoS46At}
 use Rattle.thes_graph.proofs.PivotLemmas.{S46-witness}
 use Rattle.thes_graph.proofs.ProbeLemmas.{s46_found, s46_none}
 use Rattle.thes_graph.proofs.WholeLemmas.{class_free}

@@ -1,5 +1,4 @@
-use Rattle.std.proofs.Common.{◌≡◌, sym, ◌∙◌, arith}
-use Rattle.thes_base.specs.declared.data.Link.{Link}
+use Rattle.std.proofs.Common.{◌∙◌, arith}
 use Rattle.thes_base.specs.Links.{HeldIn}
 use Rattle.thes_graph.specs.Local.{NoCycleAt}
 use Rattle.thes_graph.proofs.WholeLemmas.{holds_more, holds_all, no_cycle_all}

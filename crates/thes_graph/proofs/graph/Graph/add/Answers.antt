@@ -1,10 +1,8 @@
 use Rattle.std.proofs.Common.{◌≡◌, ◌≢◌, ℕ, Bool, ap, sym, subst, ◌∙◌}
-use Rattle.std.specs.Ordering.{nat_cmp}
-use Rattle.std.specs.FinSet.{FinSet, insert, contains, from_list}
+use Rattle.std.specs.FinSet.{insert, from_list}
 use Rattle.thes_base.specs.declared.data.Link.{Link}
 use Rattle.thes_base.specs.Links.{Links, norm}
 use Rattle.thes_graph.specs.Net.{Net, is_marked}
-use Rattle.thes_graph.specs.Rows.{IsIndexed}
 use Rattle.thes_graph.proofs.SetLemmas.{insert_again}
 use Rattle.thes_graph.proofs.NormLemmas.{norm_again, norm_two}
 use Rattle.thes_graph.proofs.IndexLemmas.{IsIndexed-same, row_sorted, other_sorted, IsIndexed-added, from_list_with, with_computed}

@@ -1,8 +1,7 @@
-use Rattle.std.proofs.Common.{◌≡◌, ap, sym, ◌∙◌, take}
-use Rattle.thes_base.specs.declared.data.Link.{Link}
+use Rattle.std.proofs.Common.{ap, sym, ◌∙◌, take}
 use Rattle.thes_base.specs.Links.{Links, norm}
 use Rattle.thes_graph.specs.Net.{Net, is_marked}
-use Rattle.thes_graph.specs.Moved.{with_all, without_all}
+use Rattle.thes_graph.specs.Moved.{without_all}
 use Rattle.thes_graph.proofs.ChangeLemmas.{net_with, taken_back}
 use Rattle.thes_graph.proofs.MovedLemmas.{Contains-take}
 use Rattle.thes_graph.proofs.graph.Graph.add_all.Goals as goal

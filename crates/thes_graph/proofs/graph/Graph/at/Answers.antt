@@ -1,4 +1,4 @@
-use Rattle.std.proofs.Common.{ap, sym, ◌∙◌}
+use Rattle.std.proofs.Common.{ap, ◌∙◌}
 use Rattle.thes_graph.specs.Net.{Net, links_at}
 use Rattle.thes_graph.proofs.IndexLemmas.{row_is}
 use Rattle.thes_graph.proofs.graph.Graph.at.Goals as goal

@@ -1,4 +1,3 @@
-use Rattle.std.proofs.Common.{ℕ}
 use Rattle.std.specs.Ordering.{nat_cmp}
 use Rattle.thes_base.specs.declared.data.LinkKind.TheVariants.{Broader}
 use Rattle.thes_graph.proofs.ReaderLemmas.{listing_as, ok_as, forward_link, link_forward}

@@ -1,7 +1,5 @@
-use Rattle.std.proofs.Common.{◌≡◌, List, sym, subst, ap, ◌∙◌, rules}
-use Rattle.std.specs.FinSet.{from_list}
-use Rattle.thes_base.specs.declared.data.Link.{Link}
-use Rattle.thes_base.specs.Links.{Links, link_cmp}
+use Rattle.std.proofs.Common.{◌≡◌, sym, subst, ap, ◌∙◌, rules}
+use Rattle.thes_base.specs.Links.{Links}
 use Rattle.thes_graph.specs.Net.{Net, Walked}
 use Rattle.thes_graph.specs.Whole.{AreAll}
 use Rattle.thes_graph.proofs.IndexLemmas.{AreAll-keys}

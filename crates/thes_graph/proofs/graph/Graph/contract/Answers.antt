@@ -1,7 +1,6 @@
-use Rattle.std.proofs.Common.{◌≡◌, ap, sym, ◌∙◌}
+use Rattle.std.proofs.Common.{ap, ◌∙◌}
 use Rattle.thes_base.specs.Links.{Links, without_node}
 use Rattle.thes_graph.specs.Net.{Net}
-use Rattle.thes_graph.specs.Moved.{with_all}
 use Rattle.thes_graph.proofs.MovedLemmas.{AreNew-moved, merged_links}
 use Rattle.thes_graph.proofs.graph.Graph.contract.Goals as goal
 

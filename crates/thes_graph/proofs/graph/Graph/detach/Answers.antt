@@ -1,7 +1,6 @@
-use Rattle.std.proofs.Common.{◌≡◌, ◌≢◌, List, Bool, true, ap, sym, subst, ◌∙◌}
+use Rattle.std.proofs.Common.{true, ap, sym, ◌∙◌}
 use Rattle.std.specs.FinSet.{remove, from_list}
-use Rattle.thes_base.specs.declared.data.Link.{Link}
-use Rattle.thes_base.specs.Links.{Links, link_cmp, HeldIn}
+use Rattle.thes_base.specs.Links.{Links}
 use Rattle.thes_graph.specs.Net.{Net}
 use Rattle.thes_graph.proofs.SetLemmas.{remove_absent, not_held_of}
 use Rattle.thes_graph.proofs.IndexLemmas.{looked_up, row_sorted, other_sorted, IsIndexed-taken, from_list_without, without_computed}

@@ -1,5 +1,3 @@
-use Rattle.std.proofs.Common.{◌≡◌, length, take, ap, ◌∙◌}
-use Rattle.std.proofs.Math.Seq.{take-length}
 use Rattle.thes_graph.proofs.ChangeLemmas.{net_without}
 use Rattle.thes_graph.proofs.graph.Graph.detach_all.Goals as goal
 

@@ -1,7 +1,7 @@
 use Rattle.std.proofs.Common.{ap, sym, ◌∙◌}
 use Rattle.std.specs.Ordering.{nat_cmp}
 use Rattle.std.specs.Cmp.{nat_cmp_total}
-use Rattle.std.specs.FinSet.{contains, contains-from_list}
+use Rattle.std.specs.FinSet.{contains-from_list}
 use Rattle.thes_graph.specs.Net.{Net, is_marked}
 use Rattle.thes_graph.proofs.graph.Graph.is_outside.Goals as goal
 

@@ -1,4 +1,4 @@
-use Rattle.std.proofs.Common.{◌≡◌, ℕ, List, Option, Some, None, Contains, ap, sym, ◌∙◌}
+use Rattle.std.proofs.Common.{ℕ, Option, Some, None, Contains, ◌∙◌}
 use Rattle.std.specs.Option.{MatchOption}
 use Rattle.thes_base.specs.declared.data.Link.{Link}
 use Rattle.thes_base.specs.Links.{Links, HeldIn}

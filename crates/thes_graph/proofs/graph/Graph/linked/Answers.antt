@@ -2,7 +2,6 @@ use Rattle.std.proofs.Common.{◌≡◌, List, ℕ, ◌∷◌, [], ◌++◌, Som
 use Rattle.std.specs.Ordering.{nat_cmp}
 use Rattle.std.specs.List.{filter_map}
 use Rattle.std.proofs.Math.Seq.{take-length}
-use Rattle.thes_base.specs.declared.data.Link.{Link}
 use Rattle.thes_base.specs.Listing.{IsListing}
 use Rattle.thes_graph.specs.Net.{links_at}
 use Rattle.thes_graph.specs.Linked.{IsLinked, led_by}

@@ -1,8 +1,7 @@
-use Rattle.std.proofs.Common.{◌≡◌, ap, sym, subst, ◌∙◌}
+use Rattle.std.proofs.Common.{ap, subst, ◌∙◌}
 use Rattle.std.specs.Ordering.{nat_cmp}
 use Rattle.std.specs.FinSet.{FinSet, insert, from_list}
-use Rattle.thes_base.specs.declared.data.Link.{Link}
-use Rattle.thes_base.specs.Links.{Links, HeldIn}
+use Rattle.thes_base.specs.Links.{HeldIn}
 use Rattle.thes_graph.specs.Net.{Net}
 use Rattle.thes_graph.proofs.MarkLemmas.{from_list_marked, IsIndexed-marked}
 use Rattle.thes_graph.proofs.graph.Graph.mark_outside.Goals as goal

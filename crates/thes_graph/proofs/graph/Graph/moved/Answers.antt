@@ -1,5 +1,4 @@
-use Rattle.std.proofs.Common.{◌≡◌, List, ◌∷◌, [], ◌++◌, Option, Some, None, ap, sym, ◌∙◌, append-nil}
-use Rattle.thes_base.specs.declared.data.Link.{Link}
+use Rattle.std.proofs.Common.{◌∷◌, [], ◌++◌, Some, None, ap, sym, ◌∙◌, append-nil}
 use Rattle.thes_graph.specs.Moved.{merged_link}
 use Rattle.thes_graph.proofs.MovedLemmas.{filter_map_more}
 use Rattle.thes_graph.proofs.graph.Graph.moved.Goals as goal

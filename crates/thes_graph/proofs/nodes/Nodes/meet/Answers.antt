@@ -1,5 +1,4 @@
-use Rattle.std.proofs.Common.{◌≡◌, Bool, true, false, not, ap, sym, ◌∙◌, nat_eq, Contains}
-use Rattle.std.specs.List.{list_any}
+use Rattle.std.proofs.Common.{◌≡◌, Bool, true, false, not, sym, ◌∙◌}
 use Rattle.thes_graph.proofs.MetLemmas.{has_of_test, IsMet-push}
 use Rattle.thes_graph.proofs.StepLemmas.{GrowsBy-push, GrowsBy-there}
 use Rattle.thes_graph.proofs.nodes.Nodes.meet.Goals as goal
