@@ -5,6 +5,7 @@ ghost use Rattle.std.specs.FinSet as set;
 ghost use Rattle.std.specs.Option.{option_copied};
 ghost use Rattle.std.specs.Ordering.{nat_cmp};
 ghost use Rattle.thes_base.specs.declared.data.LinkKind.TheVariants as kinds;
+ghost use Rattle.thes_base.specs.Headline.{IsInOrder};
 ghost use Rattle.thes_base.specs.Labels.{IsTaken, preferred_in};
 ghost use Rattle.thes_base.specs.Links.{HeldIn, norm};
 ghost use Rattle.thes_base.specs.Listing.{IsListing};
@@ -32,9 +33,11 @@ pub struct Sizes {
 }
 
 impl Core {
-    /// Whether want of memory has left the state half changed. A spent core answers nothing more.
+    /// Whether want of memory has left the state half changed. A spent core answers nothing more. In any other each posting
+    /// that isn't withdrawn stands at exactly one live concept, the counts add up, and the triples meet the conditions.
     pub fn is_spent(&self) -> bool
-        ensures { result ≡ self.now.spent }
+        ensures value { result ≡ self.now.spent }
+        ensures in_order { result ≡ false → IsInOrder self.now.setting.base self.now.state }
     {
         self.spent
     }

@@ -1,5 +1,6 @@
 //! A core as a desk: its own state, in memory.
 ghost use Rattle.std.specs.Prelude.{◌≡◌, ◌⊎◌, ◌↔◌, true, false, IfOk, IfErr, OnOk, IfSome, IsErrOf};
+ghost use Rattle.thes_base.specs.Headline.{IsInOrder};
 ghost use Rattle.thes_base.specs.Pipe.{failed_of, ended_of, IsFresh, unread, written};
 ghost use Rattle.thes_exchange.specs.CoreDesk.{CoreServes, IsLed, IsViewed};
 ghost use Rattle.thes_exchange.specs.Script.{IsScript, IsStopped};
@@ -52,7 +53,9 @@ impl Desk for Core {
 }
 
 /// Answers each line of the input by a step of the machine, or by a view of its state. The requests among the lines lead the
-/// machine from the state before to the state after. Lines and their limits are those of `script`.
+/// machine from the state before to the state after. Whatever the lines are, each posting that isn't withdrawn then stands
+/// at exactly one live concept, the counts add up, and the triples meet the conditions, unless want of memory has left the
+/// core spent. Lines and their limits are those of `script`.
 pub fn core_script<R: Read, W: Write>(
     alloc: Global,
     reader: &mut Pipe<R>,
@@ -68,10 +71,14 @@ pub fn core_script<R: Read, W: Write>(
         IsStopped CoreServes fault input core.old core.new (written W.contents writer.old) (written W.contents writer.new))) }
     ensures led { IfSome (unread R.remaining reader.old) (λ input. IsLed core.old core.new) }
     ensures unspent { OnOk result (core.new.spent ≡ false) }
+    ensures in_order { core.new.spent ≡ false → IsInOrder core.new.setting.base core.new.state }
     ensures end { OnOk result (ended_of reader.new ≡ true) }
     ensures read { IsErrOf result PipeFault.Read ↔ (failed_of reader.new ≡ true) }
     ensures write { IsErrOf result PipeFault.Write ↔ (failed_of writer.new ≡ true) }
     ensures fault { (fault : Fault) → IsErrOf result (PipeFault.Fault fault) → (fault ≡ Fault.OutOfMemory) × ((core.new ≡ core.old) ⊎ (core.new.spent ≡ true)) }
 {
-    script(alloc, reader, writer, core)
+    let result = script(alloc, reader, writer, core);
+    // What the core keeps is known from here on.
+    let _ = core.is_spent();
+    result
 }
