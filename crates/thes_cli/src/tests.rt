@@ -40,7 +40,12 @@ fn help_teaches(rt: HostRuntime) -> Result<(), Fail> {
     let is_help = matches!(&planned, Err(Parting::Help(_)));
     assert!(rt; is_help);
     if let Err(Parting::Help(text)) = &planned {
-        for part in ["Usage: thesaurus", "script", "{\"do\":\"merge\"", "docs/REQUESTS.md"] {
+        for part in [
+            "Usage: thesaurus",
+            "script",
+            "{\"do\":\"merge\"",
+            "docs/REQUESTS.md",
+        ] {
             assert!(rt; text.as_str().contains(part), "{part}");
         }
     }
