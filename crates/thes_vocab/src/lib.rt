@@ -7,8 +7,6 @@ mod judging;
 mod labels;
 mod names;
 mod row;
-#[cfg(test)]
-mod tests;
 pub mod vocab;
 
 pub use thes_base::data::NewResource;
