@@ -139,6 +139,7 @@ impl Vocab {
             replaced,
         };
     }
+
     // Whether the target takes the label of another in a merge: a name that it lacks.
     fn takes(&self, target: ResNo, label: &Label) -> bool
         ensures { result ≡ takes self.now.labels target label.now }
