@@ -1,5 +1,5 @@
 -- When a label more, one less, or another name breaks a condition on labels.
-use Rattle.std.proofs.Common.{◌≡◌, ◌≢◌, ◌⊎◌, ◌≤◌, inl, inr, ℕ, ◌+◌, length, List, [], ◌∷◌, ◌++◌, refl, sym, ap, ◌∙◌, subst, Bool, true, false, not, ◌&&◌, ◌||◌, eqb, eqb-true, eq-eqb, Bor}
+use Rattle.std.proofs.Common.{◌≡◌, ◌≢◌, ◌⊎◌, ◌≤◌, inl, inr, ℕ, ◌+◌, length, List, [], ◌∷◌, ◌++◌, refl, sym, ap, ◌∙◌, subst, Bool, true, false, ◌||◌, eqb-true, eq-eqb, Bor}
 use Rattle.std.specs.Prelude.{Option, None, Some, find, option_map, if◌then◌else◌, ◌==◌}
 use Rattle.std.specs.Option.{MatchOption, is_some}
 use Rattle.std.specs.Bool.{MatchBool}

@@ -1,9 +1,8 @@
 -- What holds of every vocabulary is kept by each change.
-use Rattle.std.proofs.Common.{◌≡◌, ◌≢◌, ◌⊎◌, ◌<◌, ◌^◌, inl, inr, ℕ, zero, suc, get_or, ◌+◌, ◌-◌, length, List, [], ◌∷◌, ◌++◌, refl, sym, ap, ◌∙◌, subst, arith, Bool, true, false, ◌&&◌}
+use Rattle.std.proofs.Common.{◌≡◌, ◌≢◌, ◌⊎◌, ◌<◌, ◌^◌, inl, inr, ℕ, zero, suc, get_or, ◌+◌, ◌-◌, length, List, [], ◌∷◌, ◌++◌, refl, sym, ap, ◌∙◌, subst, arith, Bool, true, false}
 use Rattle.std.specs.Prelude.{Option, None, Some, slice_get, option_and_then}
 use Rattle.std.specs.Option.{MatchOption}
 use Rattle.std.specs.Ordering.{nat_cmp}
-use Rattle.std.specs.Cmp.{nat_cmp_total}
 use Rattle.std.specs.Cmp.Lexicographic.{slice_cmp}
 use Rattle.std.specs.FinSet as set
 use Rattle.std.specs.FinMap as dict
@@ -26,10 +25,10 @@ use Rattle.thes_base.specs.Refusals.{unless_scheme, unless_unique, unless_label,
 use Rattle.thes_base.proofs.RowLemmas.{passed_if, passed_unless}
 use Rattle.thes_base.proofs.LabelSets.{inserted_cases, inserted_kept, inserted_new}
 use Rattle.thes_base.proofs.LabelsKept.{labels_made, labels_push, labels_added, labels_dropped, labels_renamed, labels_dead, removed_cases, MayOwn}
-use Rattle.thes_base.proofs.ResourcesKept.{IsFit, resources_push, resources_push_outside, resources_dead}
+use Rattle.thes_base.proofs.ResourcesKept.{resources_push, resources_push_outside, resources_dead}
 use Rattle.thes_base.proofs.Uniqueness.{made_unique, taken_breaks, live_before}
-use Rattle.thes_base.proofs.NumberedLemmas.{push_cases, push_old, numbered_bound}
-use Rattle.thes_base.proofs.ResourceLemmas.{same_or_not, killed_at, one_resource, concept_of_live, live_of_live, scheme_push}
+use Rattle.thes_base.proofs.NumberedLemmas.{push_cases, numbered_bound}
+use Rattle.thes_base.proofs.ResourceLemmas.{same_or_not, one_resource, concept_of_live, live_of_live}
 use Rattle.thes_base.proofs.MergedLabels.{labels_merged}
 use Rattle.thes_vocab.specs.declared.names.Names.{Names}
 use Rattle.thes_vocab.specs.Vocabulary.{IsConceptIn, IsConceptOf, IsHolder, IsReplacement}

@@ -1,7 +1,7 @@
 -- What is found of a name after one is noted or forgotten.
 use Rattle.std.proofs.Common.{◌≡◌, ◌⊎◌, inl, inr, ℕ, List, [], refl, sym, ap, ◌∙◌, subst, Bool, true, false, Global}
 use Rattle.std.specs.Prelude.{Option, None, Some, option_and_then}
-use Rattle.std.specs.Ordering.{nat_cmp, eq_by_cmp, is_eq}
+use Rattle.std.specs.Ordering.{nat_cmp, is_eq}
 use Rattle.std.specs.declared.cmp.Ordering.{Ordering}
 use Rattle.std.specs.declared.cmp.Ordering.TheVariants.{Equal}
 use Rattle.std.specs.Cmp.{IsTotalOrder, nat_cmp_total, tied_itself, Equal-is}
@@ -11,8 +11,7 @@ use Rattle.std.specs.Option.{IsSome}
 use Rattle.std.specs.Map.{lookup}
 use Rattle.std.proofs.lemmas.Cmp.{nat_list_cmp_total}
 use Rattle.std.proofs.lemmas.Map.Lookups.{exact_unsigned, exact_bytes}
-use Rattle.thes_vocab.specs.declared.names.Names.{Names}
-use Rattle.thes_vocab.specs.Named.{ByText, ByTag, text_holder, tag_holder, holder_in, IsPut, AreSame, IsTagPut, AreSameTags}
+use Rattle.thes_vocab.specs.Named.{ByText, ByTag, text_holder, tag_holder, IsPut, AreSame, IsTagPut, AreSameTags}
 
 module _ {K : Type 0} (R : K → K → Ordering) (o : IsTotalOrder R) (exact : (x y : K) → R x y ≡ Equal → x ≡ y) where
   untied : (key q : K) → (q ≡ key → ⊥) → is_at (R key) q ≡ false

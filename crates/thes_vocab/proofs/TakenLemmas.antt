@@ -1,5 +1,5 @@
 -- The names that the target of a merge takes.
-use Rattle.std.proofs.Common.{◌≡◌, ◌≢◌, ◌⊎◌, inl, inr, ◌<◌, ◌≤◌, ℕ, zero, suc, ◌+◌, length, List, [], ◌∷◌, ◌++◌, refl, sym, ap, ◌∙◌, subst, arith, Bool, true, false, not, ◌&&◌, ◌||◌, cond, get_or, take, map, eqb-true, eq-eqb}
+use Rattle.std.proofs.Common.{◌≡◌, ◌⊎◌, inl, inr, ◌<◌, ℕ, zero, suc, ◌+◌, length, List, [], ◌∷◌, refl, sym, ap, ◌∙◌, subst, arith, Bool, true, false, not, ◌&&◌, ◌||◌, cond, get_or, take, map, eqb-true, eq-eqb}
 use Rattle.std.specs.Prelude.{filter, if◌then◌else◌, ◌==◌}
 use Rattle.std.specs.declared.cmp.Ordering.{Ordering}
 use Rattle.std.specs.declared.cmp.Ordering.TheVariants.{Less, Equal}
@@ -19,7 +19,7 @@ use Rattle.thes_base.specs.Machine.{owned}
 use Rattle.thes_base.proofs.LabelSets.{labels_total, labels_exact}
 use Rattle.thes_base.proofs.ResourceLemmas.{left_true, right_true, both_true}
 use Rattle.thes_vocab.specs.LabelData.{data_cmp, own_label, has_own, AreLabelsOf}
-use Rattle.thes_vocab.specs.Taken.{takes, takes_own, taken, gives, has_own_name}
+use Rattle.thes_vocab.specs.Taken.{takes, takes_own, taken, gives}
 use Rattle.thes_vocab.specs.Rows.{Owns, labels_in, row_of, IsMerged}
 use Rattle.thes_vocab.proofs.OwnLemmas.{data_total, tied, ties}
 use Rattle.thes_vocab.proofs.TableLemmas.{data_of, owned_tie, has_label, IsWritten, row_after}

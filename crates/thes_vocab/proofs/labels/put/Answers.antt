@@ -1,4 +1,4 @@
-use Rattle.std.proofs.Common.{◌≡◌, ◌∙◌, ap, sym, subst, Bool, ◌||◌, ℕ, List, []}
+use Rattle.std.proofs.Common.{◌∙◌, ap, sym, subst, ◌||◌, ℕ, List, []}
 use Rattle.std.specs.Prelude.{Option}
 use Rattle.std.specs.BTreeMap.{BTreeMap}
 use Rattle.thes_vocab.specs.Rows.{row_of, IsPut}

@@ -1,7 +1,6 @@
-use Rattle.std.proofs.Common.{◌≡◌, ◌∙◌, ap, sym, Bool, not, ◌&&◌, List, []}
+use Rattle.std.proofs.Common.{◌∙◌, ap, not, ◌&&◌, []}
 use Rattle.std.specs.Option.{unwrap_or}
 use Rattle.std.specs.Ordering.{eq_by_cmp}
-use Rattle.thes_base.specs.Data.{LabelData}
 use Rattle.thes_vocab.specs.LabelData.{own_label, has_own, data_cmp}
 use Rattle.thes_vocab.proofs.TableLemmas.{written, row_taken}
 use Rattle.thes_vocab.proofs.labels.take.Goals as goal

@@ -1,5 +1,5 @@
-use Rattle.std.proofs.Common.{◌≡◌, ap, sym, List, ℕ}
-use Rattle.std.specs.Prelude.{Option, None, option_and_then}
+use Rattle.std.proofs.Common.{ap, sym}
+use Rattle.std.specs.Prelude.{None, option_and_then}
 use Rattle.thes_vocab.specs.Named.{ByText, text_holder}
 use Rattle.thes_vocab.proofs.NameLemmas.{text_updated, tag_written, tag_put}
 use Rattle.thes_vocab.proofs.names.forget_tag.Goals as goal

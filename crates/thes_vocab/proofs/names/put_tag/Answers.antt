@@ -1,5 +1,5 @@
-use Rattle.std.proofs.Common.{◌≡◌, ◌∙◌, ap, sym, subst, List, ℕ}
-use Rattle.std.specs.Prelude.{Option, Some, None, option_and_then}
+use Rattle.std.proofs.Common.{◌∙◌, ap, sym, subst}
+use Rattle.std.specs.Prelude.{Some, option_and_then}
 use Rattle.thes_vocab.specs.Named.{ByText, ByTag, text_holder}
 use Rattle.thes_vocab.proofs.AnswerLemmas.{on_any_err}
 use Rattle.thes_vocab.proofs.NameLemmas.{IsTagSet, no_text, text_updated, tag_written, tag_updated, tag_put, tag_kept}

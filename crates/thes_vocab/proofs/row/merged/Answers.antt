@@ -1,4 +1,4 @@
-use Rattle.std.proofs.Common.{◌≡◌, ◌∙◌, ◌||◌, ◌<◌, length, sym, ap, subst, List, ℕ, get_or}
+use Rattle.std.proofs.Common.{◌∙◌, ◌||◌, ◌<◌, length, sym, ap, subst, List, get_or}
 use Rattle.std.specs.Ordering.{eq_by_cmp}
 use Rattle.thes_base.specs.Data.{LabelData}
 use Rattle.thes_vocab.specs.LabelData.{data_cmp, has_own}

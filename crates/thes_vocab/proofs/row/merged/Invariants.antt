@@ -1,4 +1,4 @@
-use Rattle.std.proofs.Common.{◌≡◌, ◌||◌, take, List}
+use Rattle.std.proofs.Common.{◌≡◌, ◌||◌, take}
 use Rattle.thes_base.specs.Data.{LabelData}
 use Rattle.thes_vocab.specs.LabelData.{has_own}
 use Rattle.thes_vocab.specs.Taken.{gives}

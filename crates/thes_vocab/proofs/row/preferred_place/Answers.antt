@@ -1,6 +1,4 @@
-use Rattle.std.proofs.Common.{rules, ◌≡◌, subst, sym, List, ℕ, []}
-use Rattle.std.specs.Prelude.{Result, Ok, Err}
-use Rattle.std.specs.Result.{MatchResult, result_ok}
+use Rattle.std.proofs.Common.{rules, subst, sym, []}
 use Rattle.std.specs.Option.{MatchOption}
 use Rattle.std.proofs.lemmas.Fn.{always_returns_same}
 use Rattle.thes_base.specs.Data.{LabelData}

@@ -1,4 +1,4 @@
-use Rattle.std.proofs.Common.{◌≡◌, ◌∙◌, ap, sym, ℕ, List}
+use Rattle.std.proofs.Common.{◌∙◌, ap, sym}
 use Rattle.std.specs.FinMap as dict
 use Rattle.thes_base.specs.Resources.{Iris}
 use Rattle.thes_vocab.proofs.IriLemmas.{got}

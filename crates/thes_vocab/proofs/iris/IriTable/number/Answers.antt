@@ -1,4 +1,4 @@
-use Rattle.std.proofs.Common.{◌≡◌, ◌∙◌, ◌≢◌, subst, ℕ, List}
+use Rattle.std.proofs.Common.{◌≡◌, ◌∙◌, ◌≢◌, subst, ℕ}
 use Rattle.std.specs.Prelude.{Some}
 use Rattle.std.specs.Option.{MatchOption}
 use Rattle.std.specs.FinMap as dict

@@ -1,6 +1,5 @@
-use Rattle.std.proofs.Common.{rules, ◌≡◌, ◌∙◌, ◌+◌, ap, sym, subst, cond, ℕ, Bool, List}
+use Rattle.std.proofs.Common.{rules, ◌≡◌, ◌∙◌, ◌+◌, ap, subst, cond, Bool}
 use Rattle.std.specs.FinSet as set
-use Rattle.thes_base.specs.Data.{LabelData}
 use Rattle.thes_base.specs.Machine.{owned}
 use Rattle.thes_vocab.specs.Rows.{AreRows}
 use Rattle.thes_vocab.proofs.AnswerLemmas.{on_any_err}

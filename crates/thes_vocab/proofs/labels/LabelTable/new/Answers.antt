@@ -1,6 +1,5 @@
-use Rattle.std.proofs.Common.{◌≡◌, ◌∙◌, ap, sym, List}
+use Rattle.std.proofs.Common.{◌∙◌, ap, sym}
 use Rattle.std.specs.FinSet as set
-use Rattle.thes_base.specs.Data.{LabelData}
 use Rattle.thes_base.specs.Labels.{label_cmp}
 use Rattle.thes_vocab.specs.Rows.{labels_in}
 use Rattle.thes_vocab.proofs.labels.LabelTable.new.Goals as goal

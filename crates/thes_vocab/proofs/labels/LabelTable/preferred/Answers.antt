@@ -1,4 +1,4 @@
-use Rattle.std.proofs.Common.{◌≡◌, ◌∙◌, sym, List, ℕ, Bor}
+use Rattle.std.proofs.Common.{◌∙◌, sym}
 use Rattle.thes_base.specs.declared.data.LabelKind.TheVariants.{Pref}
 use Rattle.thes_vocab.specs.LabelData.{own_label}
 use Rattle.thes_vocab.proofs.TableLemmas.{preferred_owned, none_preferred}

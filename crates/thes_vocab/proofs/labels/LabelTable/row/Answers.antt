@@ -1,7 +1,5 @@
-use Rattle.std.proofs.Common.{◌≡◌, subst, List}
-use Rattle.std.specs.Prelude.{Option}
+use Rattle.std.proofs.Common.{subst}
 use Rattle.std.specs.Option.{MatchOption, option_copied}
-use Rattle.thes_base.specs.Data.{LabelData}
 use Rattle.thes_base.specs.Labels.{Labels}
 use Rattle.thes_vocab.specs.Rows.{Owns, OwnsNone}
 use Rattle.thes_vocab.proofs.TableLemmas.{row_owns}

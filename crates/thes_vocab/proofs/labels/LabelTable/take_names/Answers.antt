@@ -1,4 +1,4 @@
-use Rattle.std.proofs.Common.{rules, ◌≡◌, ◌∙◌, ◌+◌, sym, ap, subst, List, ℕ}
+use Rattle.std.proofs.Common.{rules, ◌≡◌, ◌∙◌, ◌+◌, sym, ap, subst}
 use Rattle.std.specs.FinSet as set
 use Rattle.thes_base.specs.Labels.{Labels}
 use Rattle.thes_base.specs.Changes.{taken_labels}

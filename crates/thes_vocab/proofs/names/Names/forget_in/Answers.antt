@@ -1,4 +1,4 @@
-use Rattle.std.proofs.Common.{◌≡◌, ap, sym, List, ℕ}
+use Rattle.std.proofs.Common.{ap, sym}
 use Rattle.std.specs.Prelude.{None, option_and_then}
 use Rattle.thes_vocab.specs.Named.{ByTag, tag_holder}
 use Rattle.thes_vocab.proofs.NameLemmas.{scheme_written, scheme_put}

@@ -1,5 +1,4 @@
 use Rattle.std.proofs.Common.{◌∙◌, ap}
-use Rattle.thes_base.specs.Data.{LabelData}
 use Rattle.thes_vocab.specs.LabelData.{own_label, has_own}
 use Rattle.thes_vocab.proofs.OwnLemmas.{found_is}
 use Rattle.thes_vocab.proofs.row.Row.contains.Goals as goal

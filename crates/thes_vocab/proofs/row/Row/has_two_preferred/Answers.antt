@@ -1,4 +1,4 @@
-use Rattle.std.proofs.Common.{rules, ◌≡◌, ◌∙◌, ◌≤◌, ap, sym, subst, List, arith, length, IsTrue}
+use Rattle.std.proofs.Common.{rules, ◌≡◌, ◌≤◌, sym, subst, length, IsTrue}
 use Rattle.std.specs.Prelude.{◌↔◌}
 use Rattle.thes_base.specs.declared.data.LabelKind.TheVariants.{Pref}
 use Rattle.thes_vocab.specs.LabelData.{HasTwo}

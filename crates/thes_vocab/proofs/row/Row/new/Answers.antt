@@ -1,6 +1,6 @@
 use Rattle.std.specs.List.Sorted.{IsStrictlySortedBy}
 use Rattle.thes_vocab.specs.LabelData.{data_cmp}
-use Rattle.std.proofs.Common.{[], ◌≡◌, sym, subst, List}
+use Rattle.std.proofs.Common.{sym, subst}
 use Rattle.thes_vocab.proofs.row.Row.new.Goals as goal
 
 pub invariant_of-result : goal.invariant_of-result

@@ -1,4 +1,4 @@
-use Rattle.std.proofs.Common.{◌≡◌, ◌∙◌, ap, sym, subst, List, get_or}
+use Rattle.std.proofs.Common.{◌∙◌, ap, sym, subst}
 use Rattle.thes_base.specs.Data.{LabelData, text_of}
 use Rattle.thes_vocab.specs.LabelData.{HasPreferred}
 use Rattle.thes_vocab.specs.Places.{IsPreferredAt}

@@ -1,6 +1,5 @@
-use Rattle.std.proofs.Common.{◌≡◌, ◌∙◌, ap, sym, subst, Bool, not, ◌&&◌, List}
+use Rattle.std.proofs.Common.{◌∙◌, ap, sym, subst, not, ◌&&◌}
 use Rattle.std.specs.Ordering.{eq_by_cmp}
-use Rattle.thes_base.specs.Data.{LabelData}
 use Rattle.thes_vocab.specs.LabelData.{own_label, has_own, data_cmp}
 use Rattle.thes_vocab.specs.Places.{StandsAt, FitsAt}
 use Rattle.thes_vocab.proofs.OwnLemmas.{has_at, lacks_at, sorted_remove, has_remove, has_gone}

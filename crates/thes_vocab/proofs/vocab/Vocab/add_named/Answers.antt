@@ -1,11 +1,8 @@
-use Rattle.std.proofs.Common.{rules, ◌≡◌, ◌≢◌, ◌∙◌, ◌+◌, ◌<◌, ◌^◌, ◌++◌, ◌∷◌, [], length, sym, ap, subst, List, ℕ}
-use Rattle.std.specs.Prelude.{Option, None, Some}
+use Rattle.std.proofs.Common.{rules, ◌≡◌, ◌∙◌, ◌+◌, ◌<◌, ◌^◌, ◌++◌, ◌∷◌, [], length, sym, ap, subst, List}
+use Rattle.std.specs.Prelude.{Some}
 use Rattle.std.specs.FinSet as set
 use Rattle.thes_base.specs.declared.data.Resource.{Resource}
-use Rattle.thes_base.specs.Data.{LabelData}
 use Rattle.thes_base.specs.Labels.{Labels}
-use Rattle.thes_base.specs.Machine.{owned}
-use Rattle.thes_base.specs.Rows.{accepted}
 use Rattle.thes_base.specs.declared.data.LabelKind.TheVariants.{Pref}
 use Rattle.thes_base.specs.Changes.{label}
 use Rattle.thes_vocab.specs.Vocabulary.{Vocabulary}

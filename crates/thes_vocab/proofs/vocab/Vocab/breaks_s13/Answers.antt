@@ -1,4 +1,4 @@
-use Rattle.std.proofs.Common.{rules, ◌≡◌, ◌≢◌, ◌∙◌, sym, ap, subst, inl, inr, List, ℕ, Bool, true, false}
+use Rattle.std.proofs.Common.{rules, ◌≡◌, ◌≢◌, ◌∙◌, sym, ap, subst, inl, inr}
 use Rattle.thes_base.specs.declared.data.LabelKind.TheVariants.{Scope}
 use Rattle.thes_base.specs.Data.{LabelData}
 use Rattle.thes_base.specs.Labels.{S13, is_name}

@@ -1,6 +1,5 @@
-use Rattle.std.proofs.Common.{rules, ◌≡◌, ◌≢◌, ◌∙◌, sym, ap, subst, inl, inr, List, ℕ, Bool, true, false}
-use Rattle.std.specs.Prelude.{Option, Some}
-use Rattle.std.specs.Option.{MatchOption, is_some}
+use Rattle.std.proofs.Common.{rules, ◌≡◌, ◌≢◌, ap, subst, inl, List, ℕ}
+use Rattle.std.specs.Option.{MatchOption}
 use Rattle.thes_base.specs.declared.data.LabelKind.TheVariants.{Pref}
 use Rattle.thes_base.specs.Data.{LabelData}
 use Rattle.thes_base.specs.Labels.{Labels, S14, HasLabel}

@@ -1,8 +1,7 @@
-use Rattle.std.proofs.Common.{rules, ◌≡◌, ◌∙◌, ap, sym, subst, List, ℕ, true}
-use Rattle.std.specs.Prelude.{Option, Some}
+use Rattle.std.proofs.Common.{rules, ◌≡◌, ◌∙◌, ap, sym, subst, List, true}
+use Rattle.std.specs.Prelude.{Some}
 use Rattle.thes_base.specs.declared.data.Resource.{Resource}
 use Rattle.thes_base.specs.Resources.{IsScheme, numbered, is_scheme_kind}
-use Rattle.thes_base.specs.Labels.{IsTaken}
 use Rattle.thes_base.specs.Legal.{LegalLabels}
 use Rattle.thes_vocab.specs.Vocabulary.{Vocabulary}
 use Rattle.thes_vocab.proofs.JudgingLemmas.{row_taken, row_free, holder_taken, no_holder}

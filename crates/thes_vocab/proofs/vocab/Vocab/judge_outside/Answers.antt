@@ -1,4 +1,4 @@
-use Rattle.std.proofs.Common.{◌≡◌, ◌∙◌, ap, sym, subst, inl, refl, List, ℕ, drop, ◌++◌}
+use Rattle.std.proofs.Common.{◌∙◌, ap, subst, inl, refl, List, ℕ, drop}
 use Rattle.thes_base.specs.Resources.{BeginsWith}
 use Rattle.thes_vocab.specs.Vocabulary.{Vocabulary}
 use Rattle.thes_vocab.proofs.vocab.Vocab.judge_outside.Goals as goal

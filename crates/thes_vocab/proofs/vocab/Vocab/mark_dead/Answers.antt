@@ -1,7 +1,6 @@
-use Rattle.std.proofs.Common.{◌≡◌, ◌∙◌, ◌-◌, sym, ap, subst, List, ℕ, get_or, set}
-use Rattle.std.specs.Prelude.{Some}
+use Rattle.std.proofs.Common.{◌∙◌, ◌-◌, sym, ap, subst, List, get_or, set}
 use Rattle.thes_base.specs.declared.data.Resource.{Resource}
-use Rattle.thes_base.specs.Resources.{numbered, IsLiveConcept}
+use Rattle.thes_base.specs.Resources.{IsLiveConcept}
 use Rattle.thes_base.specs.Changes.{dead}
 use Rattle.thes_base.proofs.ResourceLemmas.{killed_at}
 use Rattle.thes_vocab.specs.Vocabulary.{Vocabulary, IsReplacement, with_dead}

@@ -1,6 +1,4 @@
-use Rattle.std.proofs.Common.{◌≡◌, sym, subst, List, [], ℕ}
-use Rattle.std.specs.FinSet as set
-use Rattle.std.specs.FinMap as dict
+use Rattle.std.proofs.Common.{sym, subst, List}
 use Rattle.thes_base.specs.declared.data.Resource.{Resource}
 use Rattle.thes_base.specs.Resources.{Iris}
 use Rattle.thes_base.specs.Labels.{Labels}

@@ -1,6 +1,6 @@
-use Rattle.std.proofs.Common.{◌≡◌, ◌∙◌, ap, List, ℕ}
+use Rattle.std.proofs.Common.{◌∙◌, ap}
 use Rattle.std.specs.Option.{option_copied}
-use Rattle.thes_base.specs.Labels.{Labels, preferred_in}
+use Rattle.thes_base.specs.Labels.{preferred_in}
 use Rattle.thes_vocab.specs.Vocabulary.{Vocabulary}
 use Rattle.thes_vocab.proofs.JudgingLemmas.{preferred_is}
 use Rattle.thes_vocab.proofs.AnswerLemmas.{in_front}

@@ -6,7 +6,7 @@ use Rattle.thes_base.specs.Resources.{CanOwn}
 use Rattle.thes_base.specs.Labels.{Labels, HasLabel}
 use Rattle.thes_base.specs.Legal.{LegalLabels}
 use Rattle.thes_base.specs.Rows.{accepted}
-use Rattle.thes_base.specs.Changes.{labels_relabelled, renamed}
+use Rattle.thes_base.specs.Changes.{labels_relabelled}
 use Rattle.thes_base.specs.Refusals.{unless_relabelled}
 use Rattle.thes_vocab.specs.Vocabulary.{Vocabulary, with_labels}
 use Rattle.thes_vocab.specs.Named.{IsNoted}

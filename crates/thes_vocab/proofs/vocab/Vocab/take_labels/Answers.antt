@@ -1,4 +1,4 @@
-use Rattle.std.proofs.Common.{◌≡◌, sym, subst, List, ℕ}
+use Rattle.std.proofs.Common.{sym, subst}
 use Rattle.thes_base.specs.Labels.{Labels}
 use Rattle.thes_base.specs.Resources.{IsLiveConcept}
 use Rattle.thes_vocab.specs.Vocabulary.{Vocabulary}

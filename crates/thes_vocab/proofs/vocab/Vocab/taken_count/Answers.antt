@@ -1,4 +1,4 @@
-use Rattle.std.proofs.Common.{◌≡◌, ◌∙◌, ◌+◌, length, sym, ap, subst, List, ℕ, take}
+use Rattle.std.proofs.Common.{◌≡◌, ◌∙◌, ◌+◌, length, ap, subst, List, take}
 use Rattle.std.specs.Prelude.{filter}
 use Rattle.std.specs.FinSet as set
 use Rattle.std.proofs.lemmas.List.{take_all}

@@ -1,6 +1,5 @@
-use Rattle.std.proofs.Common.{◌≡◌, ◌≤◌, take, length, List}
+use Rattle.std.proofs.Common.{◌≡◌, ◌≤◌, take, length}
 use Rattle.std.specs.Prelude.{filter}
-use Rattle.thes_base.specs.Data.{LabelData}
 use Rattle.thes_vocab.specs.Taken.{takes}
 use Rattle.thes_vocab.proofs.vocab.Vocab.taken_count.Given as goal
 
