@@ -10,6 +10,7 @@ use Rattle.std.specs.List.{list_any}
 use Rattle.std.specs.FinSet as set
 use Rattle.std.proofs.lemmas.Cmp.{nat_list_cmp_total}
 use Rattle.std.proofs.lemmas.Map.Lookups.{exact_bytes}
+use Rattle.std.proofs.lemmas.Bool.{or_cases, or_left, or_right, true≢false}
 use Rattle.thes_base.specs.declared.data.Resource.{Resource}
 use Rattle.thes_base.specs.declared.data.LabelKind.{LabelKind}
 use Rattle.thes_base.specs.declared.data.LabelKind.TheVariants.{Pref, Alt, Hidden, Scope}
@@ -39,27 +40,12 @@ tied x y e = labels_exact x y ((Equal-is (label_cmp x y)).0 e)
 ties : (x y : Label) → x ≡ y → eq_by_cmp label_cmp x y ≡ true
 ties x y e = ap (λ z. eq_by_cmp label_cmp x z) (sym e) ∙ ap is_eq (tied_itself labels_total x)
 
-clash : (b : Bool) → b ≡ true → b ≡ false → ⊥
-clash b e f = cc
-
 pub same_label : (x y : Label) → (x ≡ y) ⊎ (x ≢ y)
 same_label x y = go (eq_by_cmp label_cmp x y) refl
   where
     go : (b : Bool) → eq_by_cmp label_cmp x y ≡ b → (x ≡ y) ⊎ (x ≢ y)
     go true e = inl (tied x y e)
-    go false e = inr (λ same. clash _ (ties x y same) e)
-
-or_cases : (a b : Bool) → (a || b) ≡ true → (a ≡ true) ⊎ (b ≡ true)
-or_cases true b e = inl refl
-or_cases false b e = inr e
-
-or_left : (a b : Bool) → a ≡ true → (a || b) ≡ true
-or_left true b e = refl
-or_left false b e = absurd (cc)
-
-or_right : (a b : Bool) → b ≡ true → (a || b) ≡ true
-or_right true b e = refl
-or_right false b e = e
+    go false e = inr (λ same. true≢false (sym (ties x y same) ∙ e))
 
 -- The preferred label in a language.
 
@@ -79,7 +65,7 @@ none_step p l ls e = go (p l) refl
 find_none : (p : Label → Bool) (ls : List Label) → find p ls ≡ None → (q : Label) → p q ≡ true → list_any (eq_by_cmp label_cmp q) ls ≡ true → ⊥
 find_none p [] e q hit held = cc
 find_none p (l ∷ ls) e q hit held = elim (or_cases _ _ held) [
-  | inl same ↦ clash (p l) (ap p (sym (tied q l same)) ∙ hit) (none_step p l ls e).0
+  | inl same ↦ true≢false (sym (ap p (sym (tied q l same)) ∙ hit) ∙ (none_step p l ls e).0)
   | inr later ↦ find_none p ls (none_step p l ls e).1 q hit later
 ]
 
@@ -161,14 +147,14 @@ module _ (labels : Labels) (l : Label) where
   breaks_s13 new name has s13 =
       let other = named_by labels l.owner l.tag l.text has in
       let same = s13 l.owner l.kind other.0 l.tag l.text name other.1 (inserted_new labels l) (inserted_kept labels l _ other.2) in
-      clash _ (subst (λ k. HasLabel labels l.owner k l.tag l.text) (sym same) other.2) new
+      true≢false (sym (subst (λ k. HasLabel labels l.owner k l.tag l.text) (sym same) other.2) ∙ new)
 
   pub keeps_s13 : S13 labels → (is_name l.kind ≡ false) ⊎ (has_name labels l.owner l.tag l.text ≡ false) → S13 more
   keeps_s13 s13 apart owner j k tag text nj nk hj hk = go (inserted_cases labels l _ hj) (inserted_cases labels l _ hk)
     where
       never : (k : LabelKind) (n : LabelKind) → is_name n ≡ true → is_name k ≡ true → label owner n tag text ≡ l → HasLabel labels owner k tag text → (is_name l.kind ≡ false) ⊎ (has_name labels l.owner l.tag l.text ≡ false) → ⊥
-      never k n nn nk is held (inl note) = clash (is_name l.kind) (ap (λ (x : Label). is_name x.kind) (sym is) ∙ nn) note
-      never k n nn nk is held (inr free) = clash _ (ap (λ (x : Label). has_name labels x.owner x.tag x.text) (sym is) ∙ name_of labels owner k tag text nk held) free
+      never k n nn nk is held (inl note) = true≢false (sym (ap (λ (x : Label). is_name x.kind) (sym is) ∙ nn) ∙ note)
+      never k n nn nk is held (inr free) = true≢false (sym (ap (λ (x : Label). has_name labels x.owner x.tag x.text) (sym is) ∙ name_of labels owner k tag text nk held) ∙ free)
 
       go : (label owner j tag text ≡ l) ⊎ HasLabel labels owner j tag text → (label owner k tag text ≡ l) ⊎ HasLabel labels owner k tag text → j ≡ k
       go (inl a) (inl b) = ap (λ (x : Label). x.kind) a ∙ sym (ap (λ (x : Label). x.kind) b)
@@ -180,7 +166,7 @@ module _ (labels : Labels) (l : Label) where
   breaks_s14 new is text has s14 =
       let held : HasLabel more l.owner Pref l.tag l.text = subst (λ k. HasLabel more l.owner k l.tag l.text) is (inserted_new labels l) in
       let same = s14 l.owner l.tag l.text text held (inserted_kept labels l _ has) in
-      clash _ (subst (λ (p : LabelKind × List ℕ). HasLabel labels l.owner p.0 l.tag p.1) (λ i. (sym is i, sym same i)) has) new
+      true≢false (sym (subst (λ (p : LabelKind × List ℕ). HasLabel labels l.owner p.0 l.tag p.1) (λ i. (sym is i, sym same i)) has) ∙ new)
 
   pub keeps_s14 : S14 labels → (l.kind ≢ Pref) ⊎ ((text : List ℕ) → HasLabel labels l.owner Pref l.tag text → ⊥) → S14 more
   keeps_s14 s14 apart owner tag x y hx hy = go (inserted_cases labels l _ hx) (inserted_cases labels l _ hy)
@@ -363,8 +349,8 @@ pub relabelled_is : (labels : Labels) (owner : ℕ) (tag text old : List ℕ) (k
 relabelled_is labels owner tag text old keep s14 has =
     ap (λ (o : Option (List ℕ)). elim o [ None ↦ labels | Some x ↦ renamed owner tag text keep x labels ]) (sym (preferred_is labels owner tag s14 (Some old) has))
 
-pub row_without_name : (rs : List Resource) (labels after : Labels) (owner : ℕ) (tag : List ℕ) → ((text : List ℕ) → HasLabel labels owner Pref tag text → ⊥) → unless_relabelled labels rs after owner tag accepted (Some no.NoSuchLabel)
-row_without_name rs labels after owner tag none = inl (λ (text, has). none text has, refl)
+pub row_without_name : (rs : List Resource) (labels next : Labels) (owner : ℕ) (tag : List ℕ) → ((text : List ℕ) → HasLabel labels owner Pref tag text → ⊥) → unless_relabelled labels rs next owner tag accepted (Some no.NoSuchLabel)
+row_without_name rs labels next owner tag none = inl (λ (text, has). none text has, refl)
 
 module _ (rs : List Resource) (labels : Labels) (owner : ℕ) (tag text old : List ℕ) (keep : Bool) (legal : LegalLabels rs labels) (has : HasLabel labels owner Pref tag old) where
   abbrev RowOf : Option Refusal → Type 0

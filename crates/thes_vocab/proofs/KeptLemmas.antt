@@ -8,6 +8,7 @@ use Rattle.std.specs.FinSet as set
 use Rattle.std.specs.FinMap as dict
 use Rattle.std.proofs.lemmas.Cmp.{nat_list_cmp_total}
 use Rattle.std.proofs.lemmas.Map.Lookups.{exact_bytes}
+use Rattle.std.proofs.lemmas.Bool.{true≢false}
 use Rattle.thes_base.specs.declared.data.Resource.{Resource}
 use Rattle.thes_base.specs.declared.data.ResourceKind.{ResourceKind}
 use Rattle.thes_base.specs.declared.data.ResourceKind.TheVariants as kinds
@@ -463,10 +464,7 @@ kept_empty base names = record {
         never f = cc
 
     no_label : (l : Label) → set.contains (set.empty {R = label_cmp}) l ≡ true → ⊥
-    no_label l held = clash _ held (set.contains-empty label_cmp l)
-      where
-        clash : (b : Bool) → b ≡ true → b ≡ false → ⊥
-        clash b e f = cc
+    no_label l held = true≢false (sym held ∙ set.contains-empty label_cmp l)
 
     no_owner : (n : ℕ) → CanOwn [] n → ⊥
     no_owner n (inl o) = none n o.0 o.1

@@ -12,6 +12,7 @@ use Rattle.std.specs.List.Sorted.{IsStrictlySortedBy, IsBinarySearchResult, IsSe
 use Rattle.std.proofs.lemmas.Cmp.{then_total, on_total, nat_list_cmp_total}
 use Rattle.std.proofs.lemmas.List.{take-append-drop}
 use Rattle.std.proofs.lemmas.List.Folds.{list_any-append, list_any_at}
+use Rattle.std.proofs.lemmas.Bool.{or_cases}
 use Rattle.thes_base.specs.declared.data.LabelKind.{LabelKind}
 use Rattle.thes_base.specs.declared.data.LabelKind.TheVariants.{Pref, Alt, Hidden, Scope}
 use Rattle.thes_base.specs.Data.{LabelData}
@@ -64,10 +65,6 @@ searched own l (Err i) sorted bound found =
       below = each_front (λ x. data_cmp x l ≡ Less) own i (λ k d b. parts.0 k d (omega arith) b) bound;
       above = each_back (λ x. data_cmp l x ≡ Less) own i (λ k d a b. turned _ l (parts.1 k d a b));
     }
-
-or_cases : (a b : Bool) → (a || b) ≡ true → (a ≡ true) ⊎ (b ≡ true)
-or_cases true b e = inl refl
-or_cases false b e = inr e
 
 or_true : (a : Bool) → (a || true) ≡ true
 or_true true = refl

@@ -49,11 +49,11 @@ owned_tie q owner l =
     ∙ ap (λ b. b && is_eq (slice_cmp nat_cmp q.text l.text)) (then_eq (nat_cmp (label_kind_no q.kind) (label_kind_no l.kind)) (slice_cmp nat_cmp q.tag l.tag)))
     )
 
-and_or : (a b c : Bool) → ((a && b) || (a && c)) ≡ (a && (b || c))
+pub and_or : (a b c : Bool) → ((a && b) || (a && c)) ≡ (a && (b || c))
 and_or true b c = refl
 and_or false b c = refl
 
-and_false : (a : Bool) → (a && false) ≡ false
+pub and_false : (a : Bool) → (a && false) ≡ false
 and_false true = refl
 and_false false = refl
 
@@ -256,12 +256,9 @@ counted_one rows count owner l is has = go count refl
 
 -- Another name in place of the old one, step by step.
 
-or_false : (a : Bool) → (a || false) ≡ a
+pub or_false : (a : Bool) → (a || false) ≡ a
 or_false true = refl
 or_false false = refl
-
-clash : (b : Bool) → b ≡ true → b ≡ false → ⊥
-clash b e f = cc
 
 module _ (labels : Labels) where
   -- a label that is taken back

@@ -10,6 +10,7 @@ use Rattle.std.specs.List.Sorted.{IsStrictlySortedBy}
 use Rattle.std.proofs.lemmas.Map.Lookups.{exact_unsigned}
 use Rattle.std.specs.BTreeMap.{BTreeMap, IsOrdered}
 use Rattle.std.specs.FinSet as set
+use Rattle.std.proofs.lemmas.Bool.{or_cases, or_left, or_right, true≢false}
 use Rattle.thes_base.specs.declared.data.LabelKind.{LabelKind}
 use Rattle.thes_base.specs.declared.data.LabelKind.TheVariants.{Pref, Alt, Hidden, Scope}
 use Rattle.thes_base.specs.Data.{LabelData}
@@ -22,39 +23,12 @@ use Rattle.thes_vocab.specs.LabelData.{data_cmp, own_label, has_own, AreLabelsOf
 use Rattle.thes_vocab.specs.Taken.{takes, takes_own, taken, gives}
 use Rattle.thes_vocab.specs.Rows.{Owns, labels_in, row_of, IsMerged}
 use Rattle.thes_vocab.proofs.OwnLemmas.{data_total, tied, ties}
-use Rattle.thes_vocab.proofs.TableLemmas.{data_of, owned_tie, has_label, IsWritten, row_after}
+use Rattle.thes_vocab.proofs.TableLemmas.{data_of, owned_tie, has_label, IsWritten, row_after, or_false, and_or, and_false}
 use Rattle.thes_vocab.proofs.JudgingLemmas.{name_of}
-
-clash : (b : Bool) → b ≡ true → b ≡ false → ⊥
-clash b e f = cc
-
-or_cases : (a b : Bool) → (a || b) ≡ true → (a ≡ true) ⊎ (b ≡ true)
-or_cases true b e = inl refl
-or_cases false b e = inr e
-
-or_left : (a b : Bool) → a ≡ true → (a || b) ≡ true
-or_left true b e = refl
-or_left false b e = absurd (cc)
-
-or_right : (a b : Bool) → b ≡ true → (a || b) ≡ true
-or_right true b e = refl
-or_right false b e = e
-
-or_false : (a : Bool) → (a || false) ≡ a
-or_false true = refl
-or_false false = refl
 
 or_group : (a b c : Bool) → (a || (b || c)) ≡ ((a || b) || c)
 or_group true b c = refl
 or_group false b c = refl
-
-and_or : (a b c : Bool) → ((a && b) || (a && c)) ≡ (a && (b || c))
-and_or true b c = refl
-and_or false b c = refl
-
-and_false : (a : Bool) → (a && false) ≡ false
-and_false true = refl
-and_false false = refl
 
 and_swap : (a b c : Bool) → (a && (b && c)) ≡ (b && (a && c))
 and_swap true true c = refl
@@ -264,7 +238,7 @@ module _ (labels : Labels) (source target : ℕ) (s13 : S13 labels) where
   fresh d picks held =
       let name = left_true (is_name d.kind) _ picks in
       let free = not_true _ (right_true (is_name d.kind) (not (has_name labels target d.tag d.text)) picks) in
-      clash _ (name_of labels target (taken_kind d.kind) d.tag d.text (name_taken d.kind name) held) free
+      true≢false (sym (name_of labels target (taken_kind d.kind) d.tag d.text (name_taken d.kind name) held) ∙ free)
 
   -- two that become one are one
   same_taken : (c d : LabelData) → takes labels target c ≡ true → takes labels target d ≡ true → set.contains labels (owned source c) ≡ true → set.contains labels (owned source d) ≡ true → as_taken c ≡ as_taken d → c ≡ d
