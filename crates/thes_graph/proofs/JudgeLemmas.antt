@@ -1,3 +1,4 @@
+-- From what the three walks find to the answer of the judging calls.
 use Rattle.std.proofs.Common.{◌≡◌, ◌≢◌, ◌+◌, ◌⊎◌, inl, inr, ℕ, List, ◌∷◌, ◌++◌, length, ap, sym, subst, ◌∙◌, arith, refl, Contains, Option, length-append}
 use Rattle.std.proofs.lemmas.List.Elements.{Contains-append_left, Contains-append_right, Contains-append_cases}
 use Rattle.thes_base.specs.declared.data.Link.{Link}

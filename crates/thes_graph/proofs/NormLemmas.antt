@@ -1,3 +1,4 @@
+-- A link and the same link in norm order say the same.
 use Rattle.std.proofs.Common.{◌≡◌, ◌≢◌, ◌⊎◌, inl, inr, ℕ, Option, Some, None, refl, sym, subst, ap, ◌∙◌, Bool, true, false, ◌&&◌, ◌||◌, nat_lt, if◌then◌else◌, arith}
 use Rattle.std.proofs.lemmas.Bool.Decides.{nat_tests}
 use Rattle.thes_base.specs.declared.data.Link.{Link}

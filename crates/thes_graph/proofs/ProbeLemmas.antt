@@ -1,3 +1,4 @@
+-- What a walk from the pivot finds, for each of the three rules.
 use Rattle.std.proofs.Common.{◌≡◌, ◌⊎◌, inl, inr, ℕ, List, [], ◌∷◌, sym, subst, refl, Contains}
 use Rattle.thes_base.specs.declared.data.Link.{Link}
 use Rattle.thes_base.specs.declared.data.Direction.{Direction}
@@ -6,6 +7,7 @@ use Rattle.thes_base.specs.Links.{broader_way, related_way, apart_way, Leads, Pa
 use Rattle.thes_graph.specs.Steps.{turned, Steps, Reaches, Ties}
 use Rattle.thes_graph.specs.Local.{UpTo, Alike, NoCycleAt, NoS27At, NoS46At, IsGathered, IsNear}
 use Rattle.thes_graph.specs.declared.relation.Relation.TheVariants.{Broader, Narrower, Related, Exact, Apart}
+use Rattle.thes_graph.proofs.StepLemmas.{Leads-first}
 use Rattle.thes_graph.proofs.PivotLemmas.{Reaches-turn, Reaches-then_chain}
 use Rattle.thes_graph.proofs.WeightLemmas.{Contains-head, Contains-cons_cases, Contains-none}
 
@@ -19,13 +21,6 @@ module _ (S : ℕ → ℕ → Type 0) where
       front : (y : ℕ) → Reaches S m y → Chain S x y
       front y (inl same) = subst (λ (w : ℕ). Chain S x w) same ([], path.0)
       front y (inr (ns, more)) = (m ∷ ns, (path.0, more))
-
-Leads-first : (d : Direction) (a b x y : ℕ) → Leads d a b x y → (a ≡ x) ⊎ (b ≡ x)
-Leads-first Forward a b x y (e, f) = inl e
-Leads-first Backward a b x y (e, f) = inr e
-Leads-first Either a b x y (inl (e, f)) = inl e
-Leads-first Either a b x y (inr (e, f)) = inr e
-Leads-first Never a b x y h = absurd h
 
 Leads-second : (d : Direction) (a b x y : ℕ) → Leads d a b x y → (a ≡ y) ⊎ (b ≡ y)
 Leads-second Forward a b x y (e, f) = inr f

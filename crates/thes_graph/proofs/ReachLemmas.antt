@@ -1,3 +1,4 @@
+-- The nodes that a walk met are those that the relation reaches.
 use Rattle.std.proofs.Common.{◌≡◌, ℕ, zero, suc, ◌+◌, ◌<◌, ◌≤◌, inl, inr, List, [], ◌∷◌, ◌++◌, length, get_or, Contains, nat_eq, refl, sym, subst, ◌∙◌, arith, below_more}
 use Rattle.std.specs.List.{IsDistinct}
 use Rattle.std.proofs.lemmas.List.{get_or_append_left, get_or_default}

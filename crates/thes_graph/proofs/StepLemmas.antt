@@ -1,3 +1,4 @@
+-- The next nodes of a walk: what one link adds to the list of nodes met.
 use Rattle.std.proofs.Common.{◌≡◌, ℕ, ◌+◌, ◌<◌, ◌⊎◌, inl, inr, List, [], ◌∷◌, ◌++◌, length, take, get_or, Contains, nat_eq, false, Some, None, refl, sym, ap, subst, ◌∙◌, append_assoc, append-nil, arith}
 use Rattle.std.specs.List.{list_any}
 use Rattle.std.proofs.lemmas.Cmp.{nat_eq_equiv}
@@ -121,3 +122,11 @@ module _ (relation : Relation) (links : List Link) (k : ℕ) (d : Link) (x : ℕ
     where
       None_not_Some : {a : ℕ} → None ≡ Some a → ⊥
       None_not_Some e = cc
+
+-- the first of two that a link leads is one of its ends
+pub Leads-first : (d : Direction) (a b x y : ℕ) → Leads d a b x y → (a ≡ x) ⊎ (b ≡ x)
+Leads-first Forward a b x y (e, f) = inl e
+Leads-first Backward a b x y (e, f) = inr e
+Leads-first Either a b x y (inl (e, f)) = inl e
+Leads-first Either a b x y (inr (e, f)) = inr e
+Leads-first Never a b x y h = absurd h

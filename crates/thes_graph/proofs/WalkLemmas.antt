@@ -1,18 +1,18 @@
-use Rattle.std.proofs.Common.{◌≡◌, ◌+◌, ◌*◌, ◌≤◌, ◌<◌, ◌⊎◌, inl, inr, ℕ, List, [], ◌∷◌, ◌++◌, length, take, get_or, ap, sym, subst, ◌∙◌, arith, Contains, sum_by, below_more, length-append}
+-- A walk from beginning to end: its nodes and its visits.
+use Rattle.std.proofs.Common.{◌≡◌, ◌+◌, ◌*◌, ◌≤◌, ◌<◌, inl, inr, ℕ, List, [], ◌∷◌, ◌++◌, length, take, get_or, ap, sym, subst, ◌∙◌, arith, Contains, sum_by, below_more, length-append}
 use Rattle.std.proofs.lemmas.List.{take_more, take-append-le, get_or_append_left, get_or_default}
 use Rattle.std.proofs.lemmas.List.Elements.{Contains-append_left, Contains-append_right, Contains-append_cases, Contains-get_or}
 use Rattle.std.proofs.lemmas.List.Sums.{sum_by_push}
 use Rattle.std.proofs.Math.Seq.{take-length}
 use Rattle.thes_base.specs.declared.data.Link.{Link}
-use Rattle.thes_base.specs.declared.data.Direction.{Direction}
-use Rattle.thes_base.specs.declared.data.Direction.TheVariants.{Forward, Backward, Either, Never}
-use Rattle.thes_base.specs.Links.{Links, Leads}
+use Rattle.thes_base.specs.Links.{Links}
 use Rattle.thes_graph.specs.declared.relation.Relation.{Relation}
 use Rattle.thes_graph.specs.declared.sight.Sight.{Sight}
 use Rattle.thes_graph.specs.Reading.{EndsAt}
 use Rattle.thes_graph.specs.Steps.{way_of, Steps, GrowsBy}
 use Rattle.thes_graph.specs.Sight.{WouldBe, touches, IsReadOf, CoversAt, shown}
 use Rattle.thes_graph.specs.Local.{IsGathered}
+use Rattle.thes_graph.proofs.StepLemmas.{Leads-first}
 use Rattle.thes_graph.proofs.ReachLemmas.{IsClosedBelow, IsClosedBelow-start, IsClosedBelow-more, IsClosedBelow-end}
 use Rattle.thes_graph.proofs.SightLemmas.{shown-sound, shown-complete}
 use Rattle.thes_graph.proofs.CountLemmas.{met_twice}
@@ -24,14 +24,6 @@ pub record IsWalked (sight : Sight) (held : Links) (relation : Relation) (start 
   pub complete : (l : Link) → WouldBe sight held l → (k : ℕ) → k < i → EndsAt (get_or nodes k 0) l → Contains links l
   pub cost : (ns : List Link) → ((k : ℕ) → k < i → CoversAt sight held (get_or nodes k 0) ns) → count ≤ from + sum_by (λ n. sum_by (touches sight n) ns) (take i nodes)
   pub within : i ≤ length nodes
-
--- the first of two that a link leads is one of its ends
-Leads-first : (d : Direction) (a b x y : ℕ) → Leads d a b x y → (a ≡ x) ⊎ (b ≡ x)
-Leads-first Forward a b x y (e, f) = inl e
-Leads-first Backward a b x y (e, f) = inr e
-Leads-first Either a b x y (inl (e, f)) = inl e
-Leads-first Either a b x y (inr (e, f)) = inr e
-Leads-first Never a b x y h = absurd h
 
 module _ (sight : Sight) (held : Links) (relation : Relation) (start : ℕ) where
   pub IsWalked-start : (from : ℕ) → IsWalked sight held relation start (start ∷ []) [] 0 from from
