@@ -1,16 +1,13 @@
 //! Readers and writers that fail in mid-stream, at each of their calls in turn.
 ghost use Rattle.std.specs.Prelude.{Some};
 
-use crate::run::{new_core, outcome};
+use crate::run::{Store, outcome};
 use std::alloc::Global;
 use std::io;
 use std::io::{ErrorKind, Read, Write};
 use std::test::Fail;
 use thes_base::data::Limits;
 use thes_base::fault::PipeFault;
-use thes_base::pipe::Pipe;
-use thes_core::Core;
-use thes_exchange::core_desk::core_script;
 
 // Requests of which each changes what the views below show.
 static REQUESTS: &str = r#"{"do":"scheme","tag":"en","text":"Animals"}
@@ -93,18 +90,18 @@ impl Write for Filling {
 
 // What the views show after the first so many requests.
 fn views_after(alloc: Global, count: usize) -> Result<String, Fail> {
-    let mut core = new_core(alloc, Limits::default())?;
+    let mut store = Store::new(alloc, Limits::default())?;
     let mut requests = String::new(alloc);
     for line in REQUESTS.lines().take(count) {
         requests.push_str(line)?;
         requests.push('\n')?;
     }
-    let _ = outcome(alloc, &mut core, requests.as_bytes())?;
-    views_of(alloc, &mut core)
+    let _ = outcome(alloc, &mut store, requests.as_bytes())?;
+    views_of(alloc, &mut store)
 }
 
-fn views_of(alloc: Global, core: &mut Core) -> Result<String, Fail> {
-    let (views, _) = outcome(alloc, core, VIEWS.as_bytes())?;
+fn views_of(alloc: Global, store: &mut Store) -> Result<String, Fail> {
+    let (views, _) = outcome(alloc, store, VIEWS.as_bytes())?;
     Ok(views)
 }
 
@@ -112,18 +109,18 @@ fn views_of(alloc: Global, core: &mut Core) -> Result<String, Fail> {
 #[test]
 fn a_reader_may_break_at_each_call(rt: HostRuntime) -> Result<(), Fail> {
     let alloc = rt.alloc();
-    let mut core = new_core(alloc, Limits::default())?;
-    let (whole, _) = outcome(alloc, &mut core, REQUESTS.as_bytes())?;
+    let mut store = Store::new(alloc, Limits::default())?;
+    let (whole, _) = outcome(alloc, &mut store, REQUESTS.as_bytes())?;
     let mut is_whole = false;
     for calls in 0..1000 {
-        let mut core = new_core(alloc, Limits::default())?;
+        let mut store = Store::new(alloc, Limits::default())?;
         let device = Breaking {
             bytes: REQUESTS.as_bytes(),
             calls,
         };
-        let (written, ended) = outcome(alloc, &mut core, device)?;
+        let (written, ended) = outcome(alloc, &mut store, device)?;
         assert!(rt; whole.as_str().starts_with(written.as_str()), "{calls}");
-        let views = views_of(alloc, &mut core)?;
+        let views = views_of(alloc, &mut store)?;
         let answered = written.as_str().lines().count();
         assert_eq!(rt;
             views.as_str(),
@@ -145,19 +142,18 @@ fn a_reader_may_break_at_each_call(rt: HostRuntime) -> Result<(), Fail> {
 #[test]
 fn a_writer_may_break_at_each_call(rt: HostRuntime) -> Result<(), Fail> {
     let alloc = rt.alloc();
-    let mut core = new_core(alloc, Limits::default())?;
-    let (whole, _) = outcome(alloc, &mut core, REQUESTS.as_bytes())?;
+    let mut store = Store::new(alloc, Limits::default())?;
+    let (whole, _) = outcome(alloc, &mut store, REQUESTS.as_bytes())?;
     let mut is_whole = false;
     for calls in 0..1000 {
-        let mut core = new_core(alloc, Limits::default())?;
-        let mut reader = Pipe::new(REQUESTS.as_bytes());
-        let mut writer = Pipe::new(Filling {
+        let mut store = Store::new(alloc, Limits::default())?;
+        let device = Filling {
             bytes: Vec::new(alloc),
             calls,
             is_full: calls % 4 < 2,
-        });
-        let ended = core_script(alloc, &mut reader, &mut writer, &mut core);
-        let written = String::from_utf8(writer.into_device().bytes)?;
+        };
+        let (device, ended) = store.answer(alloc, REQUESTS.as_bytes(), device);
+        let written = String::from_utf8(device.bytes)?;
         assert!(rt; whole.as_str().starts_with(written.as_str()), "{calls}");
         if ended.is_ok() {
             assert_eq!(rt; written.as_str(), whole.as_str());
@@ -172,7 +168,7 @@ fn a_writer_may_break_at_each_call(rt: HostRuntime) -> Result<(), Fail> {
         } else {
             answered
         };
-        let views = views_of(alloc, &mut core)?;
+        let views = views_of(alloc, &mut store)?;
         assert_eq!(rt;
             views.as_str(),
             views_after(alloc, performed)?.as_str(),

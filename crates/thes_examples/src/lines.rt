@@ -1,5 +1,5 @@
 //! How a script is cut into lines, and how long it may be.
-use crate::run::{new_core, outcome};
+use crate::run::{Store, outcome};
 use std::alloc::{AllocError, Global};
 use std::process::Abort;
 use std::test::Fail;
@@ -41,8 +41,8 @@ static CUTS: [Case; 16] = [
 fn a_script_is_cut_into_lines(rt: HostRuntime) -> Result<(), Fail> {
     let alloc = rt.alloc();
     for (script, written) in &CUTS {
-        let mut core = new_core(alloc, Limits::default())?;
-        let (text, ended) = outcome(alloc, &mut core, *script)?;
+        let mut store = Store::new(alloc, Limits::default())?;
+        let (text, ended) = outcome(alloc, &mut store, *script)?;
         assert_eq!(rt; text.as_str(), *written, "{script:?}");
         let refused = written.contains("bad");
         assert_eq!(rt;
@@ -74,8 +74,8 @@ fn expect(
     written: &str,
     ended: Result<Ended, PipeFault>,
 ) -> Result<(), Fail> {
-    let mut core = new_core(alloc, Limits::default())?;
-    let (text, outcome) = outcome(alloc, &mut core, script.as_bytes())?;
+    let mut store = Store::new(alloc, Limits::default())?;
+    let (text, outcome) = outcome(alloc, &mut store, script.as_bytes())?;
     assert_eq!(rt; text.as_str(), written);
     assert_eq!(rt; outcome, ended);
     Ok(())

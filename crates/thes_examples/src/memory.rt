@@ -2,7 +2,7 @@
 //! at the first request for memory, at the second, and so on. Run as it is, it meets none.
 ghost use Rattle.std.specs.Prelude.{◌≤◌};
 
-use crate::run::{BASE, answers_to};
+use crate::run::{Store, answers_to};
 use std::alloc::Global;
 use std::io::Write;
 use std::process::Abort;
@@ -10,10 +10,6 @@ use std::test::Fail;
 use std::{io, str};
 use thes_base::data::Limits;
 use thes_base::fault::{Fault, PipeFault};
-use thes_base::pipe::Pipe;
-use thes_base::text::Base;
-use thes_core::Core;
-use thes_exchange::core_desk::core_script;
 
 static REQUESTS: &str = r#"{"do":"scheme","tag":"en","text":"Animals"}
 {"do":"concept","scheme":1,"tag":"en","text":"Cats"}
@@ -121,17 +117,14 @@ fn compare(rt: &impl Abort, alloc: Global, written: &str) -> Result<(), Fail> {
 #[test]
 fn want_of_memory_is_answered_as_such(rt: HostRuntime) -> Result<(), Fail> {
     let alloc = rt.alloc();
-    let Ok(base) = Base::read(alloc, BASE) else {
+    let Ok(mut store) = Store::new(alloc, Limits::default()) else {
         return Ok(());
     };
-    let mut core = Core::new(alloc, base, Limits::default());
-    let mut reader = Pipe::new(REQUESTS.as_bytes());
-    let mut writer = Pipe::new(Page {
+    let page = Page {
         bytes: [0; 4096],
         filled: 0,
-    });
-    let ended = core_script(alloc, &mut reader, &mut writer, &mut core);
-    let page = writer.into_device();
+    };
+    let (page, ended) = store.answer(alloc, REQUESTS.as_bytes(), page);
     let written = str::from_utf8(&page.bytes[..page.filled])?;
     match ended {
         // Memory was refused before the first line, or within a request that leaves the store closed.

@@ -1,13 +1,13 @@
 //! How an example is run: its requests go through the engine as one script, over pipes in memory.
 use std::alloc::Global;
-use std::io::Read;
+use std::io::{Read, Write};
 use std::process::Abort;
 use std::test::Fail;
 use thes_base::data::Limits;
-use thes_base::fault::{Fault, PipeFault};
+use thes_base::fault::{Fault, PipeFault, ReadStop};
 use thes_base::pipe::Pipe;
 use thes_base::text::Base;
-use thes_core::Core;
+use thes_core::{Answer, Command, Core};
 use thes_exchange::core_desk::core_script;
 use thes_exchange::script::Ended;
 
@@ -37,10 +37,44 @@ pub static START: [Exchange; 4] = [
     ),
 ];
 
-/// An empty store under the base of the examples.
-pub fn new_core(alloc: Global, limits: Limits) -> Result<Core, Fail> {
-    let base = Base::read(alloc, BASE)?;
-    Ok(Core::new(alloc, base, limits))
+/// A store, of which the tests see what scripts are answered.
+#[derive(Drop)]
+pub struct Store {
+    core: Core,
+}
+
+impl Store {
+    /// An empty store under the base of the examples.
+    pub fn new(alloc: Global, limits: Limits) -> Result<Store, ReadStop> {
+        let base = Base::read(alloc, BASE)?;
+        Ok(Store {
+            core: Core::new(alloc, base, limits),
+        })
+    }
+
+    /// Runs a script. It answers the writer and how the script ended. A store that want of memory has closed answers nothing.
+    pub fn answer<R: Read + Drop, W: Write>(
+        &mut self,
+        alloc: Global,
+        requests: R,
+        answers: W,
+    ) -> (W, Result<Ended, PipeFault>) {
+        if self.core.is_spent() {
+            return (answers, Err(PipeFault::Fault(Fault::OutOfMemory)));
+        }
+        let mut reader = Pipe::new(requests);
+        let mut writer = Pipe::new(answers);
+        let ended = core_script(alloc, &mut reader, &mut writer, &mut self.core);
+        (writer.into_device(), ended)
+    }
+
+    /// Performs requests of a list, and adds their answers.
+    pub fn run(&mut self, commands: &[Command], answers: &mut Vec<Answer>) -> Result<(), Fault> {
+        if self.core.is_spent() {
+            return Err(Fault::OutOfMemory);
+        }
+        self.core.run(commands, answers)
+    }
 }
 
 // The requests of both tables, each ended by a newline.
@@ -70,28 +104,20 @@ fn is_refused(table: &[Exchange]) -> bool {
         || answer.starts_with(r#"{"bad""#))
 }
 
-/// What is written for a script in this store, and how it ended. A store that want of memory has closed answers nothing.
+/// What is written for a script in this store, and how it ended.
 pub fn outcome<R: Read + Drop>(
     alloc: Global,
-    core: &mut Core,
+    store: &mut Store,
     requests: R,
 ) -> Result<(String, Result<Ended, PipeFault>), Fail> {
-    if core.is_spent() {
-        return Ok((
-            String::new(alloc),
-            Err(PipeFault::Fault(Fault::OutOfMemory)),
-        ));
-    }
-    let mut reader = Pipe::new(requests);
-    let mut writer = Pipe::new(Vec::new(alloc));
-    let ended = core_script(alloc, &mut reader, &mut writer, core);
-    Ok((String::from_utf8(writer.into_device())?, ended))
+    let (written, ended) = store.answer(alloc, requests, Vec::new(alloc));
+    Ok((String::from_utf8(written)?, ended))
 }
 
 /// What is written for a script that comes to its end in a new store, and how it ended.
 pub fn answers_to(alloc: Global, limits: Limits, requests: &[u8]) -> Result<(String, Ended), Fail> {
-    let mut core = new_core(alloc, limits)?;
-    let (written, ended) = outcome(alloc, &mut core, requests)?;
+    let mut store = Store::new(alloc, limits)?;
+    let (written, ended) = outcome(alloc, &mut store, requests)?;
     Ok((written, ended?))
 }
 
