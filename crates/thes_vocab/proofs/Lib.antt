@@ -3,6 +3,7 @@ mod OwnLemmas
 mod TableLemmas
 mod AnswerLemmas
 mod NameLemmas
+mod ListedLemmas
 mod IriLemmas
 mod JudgingLemmas
 mod KeptLemmas

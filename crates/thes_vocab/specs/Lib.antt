@@ -6,5 +6,6 @@ pub mod Places
 pub mod Taken
 pub mod Rows
 pub mod Named
+pub mod Listed
 pub mod Numbered
 pub mod Kept

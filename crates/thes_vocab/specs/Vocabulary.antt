@@ -1,5 +1,5 @@
 -- What contracts see of a vocabulary: its resources, the IRIs of its outside concepts, and its labels.
-use Rattle.std.specs.Prelude.{◌≡◌, ◌≢◌, ◌&&◌, true, ℕ, List, [], None, Some, Option}
+use Rattle.std.specs.Prelude.{◌≡◌, ◌≢◌, ◌&&◌, true, ℕ, List, [], None, Some, Option, if◌then◌else◌}
 use Rattle.std.specs.FinMap as dict
 use Rattle.std.specs.FinSet as set
 use Rattle.thes_base.specs.declared.data.Resource.{Resource}
@@ -47,6 +47,10 @@ IsReplacement resources n (Some m) = (m ≢ n) × IsLiveConcept resources m × (
 -- a live concept of the scheme
 abbrev pub IsConceptIn : ℕ → Resource → Type 0
 IsConceptIn scheme r = ((is_concept_kind r.kind && r.live) ≡ true) × (r.scheme ≡ Some scheme)
+
+-- its scheme
+abbrev pub concept_scheme : Resource → Option ℕ
+concept_scheme r = if is_concept_kind r.kind && r.live then r.scheme else None
 
 -- number n is one
 abbrev pub IsConceptOf : List Resource → ℕ → ℕ → Type 0

@@ -132,6 +132,7 @@ impl Vocab {
     {
         let place = n.get() as usize - 1;
         let resource = self.resources[place];
+        self.concepts.remove(resource.scheme, n);
         self.resources[place] = Resource {
             kind: resource.kind,
             scheme: resource.scheme,
@@ -158,10 +159,12 @@ impl Vocab {
     {
         let n = ResNo::new(self.resources.len() as u32 + 1);
         self.resources.try_reserve(1)?;
+        self.concepts.reserve(&resource)?;
         let scheme = scheme_if_concept(&resource);
         self.names.put(scheme, &tag, &text, n)?;
         let value = LabelValue::Pref(text);
         self.labels.insert(n, Label { tag, value })?;
+        self.concepts.push(&resource, n);
         self.resources.push(resource).unwrap();
         Ok(n)
     }

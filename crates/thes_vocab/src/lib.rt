@@ -2,6 +2,7 @@
 #![tactic(auto)]
 
 mod changing;
+mod concepts;
 mod iris;
 mod judging;
 mod labels;

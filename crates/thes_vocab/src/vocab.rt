@@ -2,11 +2,14 @@
 ghost use Rattle.std.specs.Prelude.{◌≡◌, ◌<◌, ◌^◌, ◌↔◌, IsTrue, ℕ, length, None, Some, option_copied, MatchOption};
 ghost use Rattle.std.specs.FinMap as dict;
 ghost use Rattle.std.specs.FinSet as set;
+ghost use Rattle.std.specs.Ordering.{nat_cmp};
+ghost use Rattle.thes_base.specs.Listing.{IsListing};
 ghost use Rattle.thes_base.specs.Resources.{numbered, IsLive};
 ghost use Rattle.thes_base.specs.Labels.{preferred_in, IsTaken};
 ghost use Rattle.thes_vocab.specs.LabelData.{AreLabelsOf};
-ghost use Rattle.thes_vocab.specs.Vocabulary.{empty_vocabulary, IsConceptOf, IsConceptIn, IsHolder};
+ghost use Rattle.thes_vocab.specs.Vocabulary.{empty_vocabulary, concept_scheme, IsConceptOf, IsConceptIn, IsHolder};
 
+use crate::concepts::Concepts;
 use crate::iris::IriTable;
 use crate::labels::LabelTable;
 use crate::names::Names;
@@ -29,6 +32,8 @@ pub struct Vocab {
     pub(crate) labels: LabelTable,
     // Where the holder of a preferred label is found.
     pub(crate) names: Names,
+    // The live concepts of each scheme.
+    pub(crate) concepts: Concepts,
 }
 
 impl Model for Vocab {
@@ -46,7 +51,7 @@ impl Model for Vocab {
 
     ghost view = { λ a. record { base = a.base; resources = a.resources.items; iris = a.iris; labels = a.labels } };
 
-    ghost invariant = { λ a. IsKept a.base a.resources.items a.iris a.labels a.names };
+    ghost invariant = { λ a. IsKept a.base a.resources.items a.iris a.labels a.names a.concepts };
 }
 
 impl Vocab {
@@ -61,6 +66,7 @@ impl Vocab {
             iris: IriTable::new(alloc),
             labels: LabelTable::new(alloc),
             names: Names::new(alloc),
+            concepts: Concepts::new(alloc),
         }
     }
 
@@ -76,6 +82,13 @@ impl Vocab {
         ensures { IsTrue result ↔ IsLive self.now.resources n }
     {
         self.resource(n).is_some_and(|r| r.live)
+    }
+
+    /// The numbers of the scheme's live concepts, rising. Where the number is no scheme's there are none.
+    pub fn live_of(&self, scheme: ResNo) -> &[ResNo]
+        ensures { IsListing nat_cmp (IsConceptOf self.now.resources scheme) result.now }
+    {
+        self.concepts.of_scheme(scheme)
     }
 
     /// How many resources there are.
@@ -157,7 +170,8 @@ pub(crate) fn concept_scheme(resources: &[Resource], n: ResNo) -> Option<ResNo>
 
 // The scheme of a resource that is a live concept.
 pub(crate) fn scheme_if_concept(resource: &Resource) -> Option<ResNo>
-    ensures { MatchOption result ((scheme : ℕ) → IsConceptIn scheme resource.now → ⊥) (λ scheme. IsConceptIn scheme resource.now) }
+    ensures value { result ≡ concept_scheme resource.now }
+    ensures scheme { MatchOption result ((scheme : ℕ) → IsConceptIn scheme resource.now → ⊥) (λ scheme. IsConceptIn scheme resource.now) }
 {
     if resource.kind != ResourceKind::Concept || !resource.live {
         return None;

@@ -21,8 +21,8 @@ invariant_of-self-in_err-insert c =
     let at = subst (λ (rs : List Resource). IsSchemeOf rs c.args.owner scheme) c.as_slice.ensures.value c.concept_scheme-scheme.ensures in
     let can = subst (λ (v : Vocabulary). CanOwn v.resources c.args.owner) (sym c.self.view_is) c.requires.owner.can in
     let row = subst (λ (v : Vocabulary). unless_label v.labels v.resources (set.insert v.labels l) l accepted None) (sym c.self.view_is) c.requires.allowed in
-    let kept = kept_noted inside.base inside.resources.items inside.iris inside.labels inside.names c.put_label.new.self c.self.invariant c.args.owner scheme at c.args.label.now can row c.in_ok-put_label.ensures.ok in
-    subst (λ (labels : Labels). IsKept inside.base inside.resources.items inside.iris labels c.put_label.new.self) (sym c.in_err-insert.ensures.err) kept
+    let kept = kept_noted inside.base inside.resources.items inside.iris inside.labels inside.names c.put_label.new.self inside.concepts c.self.invariant c.args.owner scheme at c.args.label.now can row c.in_ok-put_label.ensures.ok in
+    subst (λ (labels : Labels). IsKept inside.base inside.resources.items inside.iris labels c.put_label.new.self inside.concepts) (sym c.in_err-insert.ensures.err) kept
 
 pub invariant_of-self-2 : goal.invariant_of-self-2
 invariant_of-self-2 c =
@@ -32,6 +32,6 @@ invariant_of-self-2 c =
     let at = subst (λ (rs : List Resource). IsSchemeOf rs c.args.owner scheme) c.as_slice.ensures.value c.concept_scheme-scheme.ensures in
     let can = subst (λ (v : Vocabulary). CanOwn v.resources c.args.owner) (sym c.self.view_is) c.requires.owner.can in
     let row = subst (λ (v : Vocabulary). unless_label v.labels v.resources (set.insert v.labels l) l accepted None) (sym c.self.view_is) c.requires.allowed in
-    let kept = kept_added inside.base inside.resources.items inside.iris inside.labels inside.names c.put_label.new.self c.self.invariant c.args.owner scheme at c.args.label.now can row c.in_ok-put_label.ensures.ok in
+    let kept = kept_added inside.base inside.resources.items inside.iris inside.labels inside.names c.put_label.new.self inside.concepts c.self.invariant c.args.owner scheme at c.args.label.now can row c.in_ok-put_label.ensures.ok in
     let labels = c.in_ok-insert.ensures.ok ∙ ap (λ (d : LabelData). set.insert inside.labels (owned c.args.owner d)) c.in_ok-copy.ensures in
-    subst (λ (labels : Labels). IsKept inside.base inside.resources.items inside.iris labels c.put_label.new.self) (sym labels) kept
+    subst (λ (labels : Labels). IsKept inside.base inside.resources.items inside.iris labels c.put_label.new.self inside.concepts) (sym labels) kept

@@ -16,8 +16,8 @@ invariant_of-self-2 c =
     let few = subst (λ (v : Vocabulary). length v.resources + 1 < 2 ^ 32) (sym c.self.view_is) c.requires.room in
     let foreign = subst (λ (v : Vocabulary). BeginsWith c.args.iri v.base → ⊥) (sym c.self.view_is) c.requires.foreign in
     let free = subst (λ (v : Vocabulary). (n : ℕ) → dict.get v.iris n ≢ Some c.args.iri) (sym c.self.view_is) c.requires.free in
-    let kept = kept_outside inside.base rs inside.iris inside.labels inside.names c.args.iri c.self.invariant few foreign free in
+    let kept = kept_outside inside.base rs inside.iris inside.labels inside.names inside.concepts c.args.iri c.self.invariant few foreign free in
     let n : c.new-n.result ≡ length rs + 1 = search rules in
     let items : c.push.new.self.items ≡ rs ++ outside_resource ∷ [] = search rules in
     let iris = c.in_ok-insert.ensures.ok ∙ ap (λ k. dict.insert inside.iris k c.args.iri) n in
-    subst (λ (p : List Resource × Iris). IsKept inside.base p.0 p.1 inside.labels inside.names) (λ i. (sym items i, sym iris i)) kept
+    subst (λ (p : List Resource × Iris). IsKept inside.base p.0 p.1 inside.labels inside.names inside.concepts) (λ i. (sym items i, sym iris i)) kept

@@ -20,7 +20,7 @@ invariant_of-self c =
     let scheme = c.concept_scheme-scheme.result in
     let at = subst (λ (rs : List Resource). IsSchemeOf rs c.args.owner scheme) c.as_slice.ensures.value c.concept_scheme-scheme.ensures in
     let row = subst (λ (v : Vocabulary). unless_dropped v.labels l accepted None) (sym c.self.view_is) c.requires.allowed in
-    let kept = kept_dropped inside.base inside.resources.items inside.iris inside.labels inside.names c.forget_label.new.self c.self.invariant c.args.owner scheme at c.args.label.now row c.forget_label.ensures in
+    let kept = kept_dropped inside.base inside.resources.items inside.iris inside.labels inside.names c.forget_label.new.self inside.concepts c.self.invariant c.args.owner scheme at c.args.label.now row c.forget_label.ensures in
     let tag = ap (λ (d : LabelData). d.tag) c.label.view_is in
     let labels = c.remove.ensures ∙ (λ i. set.remove inside.labels (label c.args.owner (c.kind.ensures i) (tag i) (c.text.ensures i))) in
-    subst (λ (labels : Labels). IsKept inside.base inside.resources.items inside.iris labels c.forget_label.new.self) (sym labels) kept
+    subst (λ (labels : Labels). IsKept inside.base inside.resources.items inside.iris labels c.forget_label.new.self inside.concepts) (sym labels) kept

@@ -8,4 +8,4 @@ use Rattle.thes_vocab.proofs.vocab.Vocab.new.Goals as goal
 
 pub invariant_of-result : goal.invariant_of-result
 invariant_of-result c =
-    subst (λ (p : List Resource × (Iris × Labels)). IsKept c.args.base p.0 p.1.0 p.1.1 c.new-4.result) (λ i. (sym c.new.ensures.items i, (sym c.new-2.ensures i, sym c.new-3.ensures i))) (kept_empty c.args.base c.new-4.result)
+    subst (λ (p : List Resource × (Iris × Labels)). IsKept c.args.base p.0 p.1.0 p.1.1 c.new-4.result c.new-5.result) (λ i. (sym c.new.ensures.items i, (sym c.new-2.ensures i, sym c.new-3.ensures i))) (kept_empty c.args.base c.new-4.result c.new-5.result c.new-5.ensures)

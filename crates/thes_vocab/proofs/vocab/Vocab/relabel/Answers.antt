@@ -31,8 +31,8 @@ invariant_of-self-in_err-rename c =
     let scheme = c.concept_scheme-scheme.result in
     let at = subst (λ (xs : List Resource). IsSchemeOf xs c.args.owner scheme) c.as_slice.ensures.value c.concept_scheme-scheme.ensures in
     let row = subst (λ (v : Vocabulary). unless_relabelled v.labels v.resources (labels_relabelled c.args.owner c.args.tag.now c.args.text.now c.args.keep v.labels) c.args.owner c.args.tag.now accepted None) (sym c.self.view_is) c.requires.allowed in
-    let kept = kept_name_noted inside.base rs inside.iris inside.labels inside.names c.put.new.self c.self.invariant c.args.owner scheme at c.args.tag.now c.args.text.now old c.args.keep c.in_ok-old.ensures row c.in_ok-put.ensures.ok in
-    subst (λ (labels : Labels). IsKept inside.base rs inside.iris labels c.put.new.self) (sym c.in_err-rename.ensures.err) kept
+    let kept = kept_name_noted inside.base rs inside.iris inside.labels inside.names c.put.new.self inside.concepts c.self.invariant c.args.owner scheme at c.args.tag.now c.args.text.now old c.args.keep c.in_ok-old.ensures row c.in_ok-put.ensures.ok in
+    subst (λ (labels : Labels). IsKept inside.base rs inside.iris labels c.put.new.self inside.concepts) (sym c.in_err-rename.ensures.err) kept
 
 pub invariant_of-self-2 : goal.invariant_of-self-2
 invariant_of-self-2 c =
@@ -46,8 +46,8 @@ invariant_of-self-2 c =
     let gone = subst (λ (o : Option ℕ). IsNoted c.put.new.self c.forget.new.self o c.args.tag.now old None) (one_scheme_of rs c.args.owner c.concept_scheme-scheme-2.result scheme again at) c.forget.ensures in
     let differ : old ≢ c.args.text.now = search rules in
     let can = subst (λ (v : Vocabulary). CanOwn v.resources c.args.owner) (sym c.self.view_is) c.requires.owner.can in
-    let kept = kept_renamed inside.base rs inside.iris inside.labels inside.names c.put.new.self c.self.invariant c.args.owner scheme at c.args.tag.now c.args.text.now old c.args.keep c.in_ok-old.ensures row c.in_ok-put.ensures.ok can differ c.forget.new.self gone in
-    subst (λ (labels : Labels). IsKept inside.base rs inside.iris labels c.forget.new.self) (sym c.in_ok-rename.ensures.ok) kept
+    let kept = kept_renamed inside.base rs inside.iris inside.labels inside.names c.put.new.self inside.concepts c.self.invariant c.args.owner scheme at c.args.tag.now c.args.text.now old c.args.keep c.in_ok-old.ensures row c.in_ok-put.ensures.ok can differ c.forget.new.self gone in
+    subst (λ (labels : Labels). IsKept inside.base rs inside.iris labels c.forget.new.self inside.concepts) (sym c.in_ok-rename.ensures.ok) kept
 
 pub returns-clause-ok : goal.returns-clause-ok
 returns-clause-ok c =

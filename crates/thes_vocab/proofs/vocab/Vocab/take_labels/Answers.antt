@@ -10,4 +10,4 @@ pub invariant_of-self-2 : goal.invariant_of-self-2
 invariant_of-self-2 c =
     let inside = c.self.inside in
     let live = subst (λ (v : Vocabulary). IsLiveConcept v.resources c.args.target) (sym c.self.view_is) c.requires in
-    subst (λ (labels : Labels). IsKept inside.base inside.resources.items inside.iris labels inside.names) (sym c.in_ok-take_names.ensures.ok) (kept_merged inside.base inside.resources.items inside.iris inside.labels inside.names c.args.source c.args.target c.self.invariant live)
+    subst (λ (labels : Labels). IsKept inside.base inside.resources.items inside.iris labels inside.names inside.concepts) (sym c.in_ok-take_names.ensures.ok) (kept_merged inside.base inside.resources.items inside.iris inside.labels inside.names inside.concepts c.args.source c.args.target c.self.invariant live)
