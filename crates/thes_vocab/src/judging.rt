@@ -7,7 +7,7 @@ ghost use Rattle.thes_base.specs.Labels.{S13, S14, UniquePreferred};
 ghost use Rattle.std.specs.Bool.{MatchBool};
 ghost use Rattle.thes_base.specs.Machine.{owned};
 ghost use Rattle.thes_base.specs.Changes.{labels_relabelled};
-ghost use Rattle.thes_base.specs.Refusals.{unless_foreign, unless_label, unless_dropped, unless_relabelled};
+ghost use Rattle.thes_base.specs.Refusals.{unless_scheme, unless_foreign, unless_label, unless_dropped, unless_relabelled};
 ghost use Rattle.thes_vocab.specs.Vocabulary.{IsLiveOwner};
 ghost use Rattle.thes_vocab.specs.Requests.{unless_new};
 ghost use Rattle.thes_vocab.specs.Rivals.{HasRival};
@@ -26,9 +26,7 @@ impl Vocab {
         match new {
             NewResource::Scheme(_, _) => None,
             NewResource::Concept(scheme, tag, text) => self.judge_concept(*scheme, tag, text),
-            NewResource::Collection(scheme, tag, text) => {
-                self.judge_collection(*scheme, tag, text)
-            }
+            NewResource::Collection(scheme, _, _) => self.judge_collection(*scheme),
             NewResource::Outside(iri) => self.judge_outside(iri),
         }
     }
@@ -48,8 +46,8 @@ impl Vocab {
         None
     }
 
-    fn judge_collection(&self, scheme: ResNo, _tag: &Tag, _text: &Text) -> Option<Refusal>
-        ensures { unless_new self.now (new_resource.Collection scheme _tag.now _text.now) accepted result }
+    fn judge_collection(&self, scheme: ResNo) -> Option<Refusal>
+        ensures { unless_scheme self.now.resources scheme accepted result }
     {
         let Some(resource) = resource_at(self.resources.as_slice(), scheme) else {
             return Some(Refusal::UnknownResource);
