@@ -178,15 +178,6 @@ served_start serves input old before = record {
   end = refl;
 }
 
--- a fact of the known bytes, carried on
-pub known_map : {A : Type 0} (o : Option A) (P Q : A → Type 0) → ((a : A) → P a → Q a) → IfSome o P → IfSome o Q
-known_map None P Q f h = tt
-known_map (Some a) P Q f h = f a h
-
-pub known_all : {A : Type 0} (o : Option A) (P : A → Type 0) → ((a : A) → P a) → IfSome o P
-known_all None P f = tt
-known_all (Some a) P f = f a
-
 pub served_begin : {S : Type 0} (serves : Serving S) (known : Option (List ℕ)) (held : List ℕ) (count : ℕ) (old : S) (before : Option (List ℕ)) (ended : Ended)
     → held ≡ [] → count ≡ 0 → ended ≡ nothing_noted → IfSome known (λ input. Served serves input (left held known) count old old before before ended)
 served_begin serves None held count old before ended h c e = tt

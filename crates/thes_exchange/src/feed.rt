@@ -42,6 +42,7 @@ const LINE_LIMIT: u32 = 1_048_576;
 const BUFFER_SIZE: usize = 4096;
 
 impl Feed {
+    /// An empty buffer.
     pub fn new(alloc: Global) -> Result<Feed, AllocError>
         ensures { IfOk result (λ feed. feed ≡ []) }
     {

@@ -21,6 +21,7 @@ pub struct Lines {
 }
 
 impl Lines {
+    /// No line yet.
     pub fn new(alloc: Global) -> Result<Lines, AllocError>
         ensures { IfOk result (λ lines. (lines.feed ≡ []) × (lines.count ≡ 0)) }
     {
