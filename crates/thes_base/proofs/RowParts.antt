@@ -10,7 +10,7 @@ use Rattle.thes_base.specs.declared.data.History.{History}
 use Rattle.thes_base.specs.declared.fault.Refusal.{Refusal}
 use Rattle.thes_base.specs.declared.fault.Refusal.TheVariants as no
 use Rattle.thes_base.specs.Rows.{Row, refused_if, refused_unless, accepted}
-use Rattle.thes_base.specs.Resources.{Iris, BeginsWith, IsScheme}
+use Rattle.thes_base.specs.Resources.{Iris, IsScheme}
 use Rattle.thes_base.specs.Labels.{Label, Labels}
 use Rattle.thes_base.specs.Refusals.{unless_unique, unless_known, unless_scheme, unless_foreign, unless_owner, unless_label, unless_dropped, unless_relabelled, unless_ends, unless_live_concept, unless_pair, unless_listed}
 
