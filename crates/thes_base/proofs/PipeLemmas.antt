@@ -1,11 +1,10 @@
 -- What reads and writes, one after another, do to the bytes that are known.
 use Rattle.std.proofs.Common.{◌≡◌, ◌∙◌, sym, ap, ℕ, ◌+◌, ◌≤◌, List, ◌++◌, length, take, drop, append-nil, take_all, le_refl, append_assoc, Option, Some, None, arith, ◌-◌, length-drop, length-append, []}
 use Rattle.std.proofs.Math.Seq.{take-add, take-append-add}
-use Rattle.std.specs.Io.KnownBytes.{Appends, Keeps, Consumes}
+use Rattle.std.specs.Io.KnownBytes.{Appends, Consumes}
 use Rattle.thes_base.specs.declared.fault.PipeFault.{PipeFault}
 use Rattle.thes_base.specs.declared.fault.PipeFault.TheVariants.{Read, Write, TooLong, Fault}
 use Rattle.thes_base.specs.Pipe.{AppendsFront, AppendsUntil}
-use Rattle.std.proofs.lemmas.List.{take-append-le}
 use Rattle.std.proofs.lemmas.Grind.{common_steps}
 
 -- two writes, one after the other
@@ -29,17 +28,6 @@ within_rest s i n h f = let k : length (drop i s) ≡ length s - i = length-drop
 pub front_of_rest : (a b : Option (List ℕ)) (s : List ℕ) (i n : ℕ) → Appends a b (take n (take (length s - i) (drop i s))) → Appends a b (take n (drop i s))
 front_of_rest a b s i n f = rw rest_is at f
 
-pub keeps_appends : (a b : Option (List ℕ)) → Keeps a b → Appends a b []
-keeps_appends None b k = tt
-keeps_appends (Some v) None k = absurd k
-keeps_appends (Some v) (Some w) k = k ∙ sym (append-nil v)
-
-pub appends_keeps : (a b c : Option (List ℕ)) (xs : List ℕ) → Appends a b xs → Keeps b c → Appends a c xs
-appends_keeps None b c xs f k = tt
-appends_keeps (Some v) None c xs f k = absurd f
-appends_keeps (Some v) (Some w) None xs f k = absurd k
-appends_keeps (Some v) (Some w) (Some z) xs f k = k ∙ f
-
 -- a front of the second text, after the whole of the first
 pub appends_front_then : (a b c : Option (List ℕ)) (xs ys : List ℕ) → Appends a b xs → AppendsFront b c ys → AppendsFront a c (xs ++ ys)
 appends_front_then a b c xs ys f s = record {
@@ -47,18 +35,6 @@ appends_front_then a b c xs ys f s = record {
   within = let h = s.within in rw (length-append xs ys) (omega (arith, h));
   front = rw (take-append-add xs ys s.count) (appends_then a b c xs (take s.count ys) f s.front);
 }
-
--- a front of the first text alone
-pub front_of_longer : (a b : Option (List ℕ)) (xs ys : List ℕ) → AppendsFront a b xs → AppendsFront a b (xs ++ ys)
-front_of_longer a b xs ys f = record {
-  count = f.count;
-  within = let h = f.within in rw (length-append xs ys) (omega (arith, h));
-  front = let h = f.within in rw (take-append-le f.count xs ys h) f.front;
-}
-
--- nothing was written
-pub front_of_nothing : (a b : Option (List ℕ)) (xs : List ℕ) → Keeps a b → AppendsFront a b xs
-front_of_nothing a b xs k = record { count = 0; within = omega arith; front = keeps_appends a b k }
 
 -- two reads, one after the other
 pub consumes_then : (a b c : Option (List ℕ)) (xs ys : List ℕ) → Consumes a b xs → Consumes b c ys → Consumes a c (xs ++ ys)

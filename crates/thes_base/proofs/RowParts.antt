@@ -10,9 +10,9 @@ use Rattle.thes_base.specs.declared.data.History.{History}
 use Rattle.thes_base.specs.declared.fault.Refusal.{Refusal}
 use Rattle.thes_base.specs.declared.fault.Refusal.TheVariants as no
 use Rattle.thes_base.specs.Rows.{Row, refused_if, refused_unless, accepted}
-use Rattle.thes_base.specs.Resources.{Iris, BeginsWith, IsScheme}
+use Rattle.thes_base.specs.Resources.{Iris, IsScheme}
 use Rattle.thes_base.specs.Labels.{Label, Labels}
-use Rattle.thes_base.specs.Refusals.{unless_unique, unless_known, unless_scheme, unless_foreign, unless_owner, unless_label, unless_dropped, unless_relabelled, unless_ends, unless_live_concept, unless_pair, unless_listed, unless_standing}
+use Rattle.thes_base.specs.Refusals.{unless_unique, unless_known, unless_scheme, unless_foreign, unless_owner, unless_label, unless_dropped, unless_relabelled, unless_ends, unless_live_concept, unless_pair, unless_listed}
 
 -- a part of a row, as what it makes of the row's rest
 pub record IsPart (part : Row → Row) : Type 1 where
@@ -107,6 +107,3 @@ pair_part resources source target = then_unless _ _ _ (then_unless _ _ _ (then_u
 
 pub listed_part : (histories : List History) (source : ℕ) (postings : List ℕ) → IsPart (unless_listed histories source postings)
 listed_part histories source postings = then_unless _ _ _ (then_unless _ _ _ (then_unless _ _ _ (then_unless _ _ (λ rest. rest) nothing)))
-
-pub standing_part : (histories : List History) (posting : ℕ) → IsPart (unless_standing histories posting)
-standing_part histories posting = then_unless _ _ _ (then_unless _ _ (λ rest. rest) nothing)

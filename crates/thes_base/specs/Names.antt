@@ -8,6 +8,8 @@ use Rattle.thes_base.specs.declared.fault.Table.{Table}
 use Rattle.thes_base.specs.declared.fault.Table.TheVariants.{Meta, Resource, Outside, Label, Link, Posting, Move}
 use Rattle.thes_base.specs.declared.fault.Fault as outer
 use Rattle.thes_base.specs.declared.fault.Fault.TheVariants.{OutOfMemory, Store, BadStore, NewerStore}
+use Rattle.thes_base.specs.declared.fault.ReadStop.{ReadStop}
+use Rattle.thes_base.specs.declared.fault.ReadStop.TheVariants as stops
 use Rattle.thes_base.specs.declared.fault.PipeFault.{PipeFault}
 use Rattle.thes_base.specs.declared.fault.PipeFault.TheVariants.{Read, Write, TooLong, Fault}
 
@@ -78,6 +80,11 @@ fault_text OutOfMemory = (fault_code OutOfMemory).name
 fault_text Store = (fault_code Store).name
 fault_text (BadStore table) = codes "BadStore " ++ table_name table
 fault_text NewerStore = (fault_code NewerStore).name
+
+-- why a text was not read, as it is printed
+abbrev pub stop_text : ReadStop → List ℕ
+stop_text (stops.Form fault) = (form_code fault).name
+stop_text stops.OutOfMemory = (fault_code OutOfMemory).name
 
 abbrev pub pipe_text : PipeFault → List ℕ
 pipe_text Read = (pipe_code Read).name

@@ -17,7 +17,11 @@ failed_of p = p.failed
 abbrev pub ended_of : {T : Type 0} → Pipe T → Bool
 ended_of p = p.ended
 
--- nothing was noted yet
+-- a read or a write was one too many for the budget of a call, and so was not made
+abbrev pub denied_of : {T : Type 0} → Pipe T → Bool
+denied_of p = p.denied
+
+-- nothing was noted of the device yet
 abbrev pub IsFresh : {T : Type 0} → Pipe T → Type 0
 IsFresh p = (failed_of p ≡ false) × (ended_of p ≡ false)
 

@@ -3,7 +3,7 @@ ghost use Rattle.std.specs.Prelude.{◌≡◌, ◌≢◌, ◌+◌, ◌<◌, ◌�
 ghost use Rattle.std.specs.Io.{ReadsAtMost, WritesAtMost};
 ghost use Rattle.std.specs.Io.KnownBytes.{ReadConsumes, WriteAppends, Appends};
 ghost use Rattle.std.specs.IoError.{error_kind};
-ghost use Rattle.thes_base.specs.Pipe.{device_of, failed_of, ended_of, IsFresh, unread, written, AppendsFront, AppendsUntil};
+ghost use Rattle.thes_base.specs.Pipe.{device_of, failed_of, ended_of, denied_of, IsFresh, unread, written, AppendsFront, AppendsUntil};
 
 use crate::fault::PipeFault;
 use std::io;
@@ -36,12 +36,13 @@ impl Budget {
     }
 }
 
-/// A reader or writer, whether it failed, and whether the end of its input was seen.
+/// A reader or writer, whether it failed, whether the end of its input was seen, and whether it was denied a read or a write.
 #[derive(Drop)]
 pub struct Pipe<T> {
     device: T,
     failed: bool,
     ended: bool,
+    denied: bool,
 }
 
 /// Why a pipe gave up.
@@ -90,11 +91,13 @@ impl<T> Pipe<T> {
     pub fn new(device: T) -> Pipe<T>
         ensures device { device_of result ≡ device }
         ensures fresh { IsFresh result }
+        ensures denied { denied_of result ≡ false }
     {
         Pipe {
             device,
             failed: false,
             ended: false,
+            denied: false,
         }
     }
 
@@ -110,6 +113,13 @@ impl<T> Pipe<T> {
         ensures { result ≡ ended_of self.now }
     {
         self.ended
+    }
+
+    /// Whether a read or a write was one too many for the budget of a call, and so wasn't made.
+    pub fn denied(&self) -> bool
+        ensures { result ≡ denied_of self.now }
+    {
+        self.denied
     }
 
     /// The reader or writer back.
@@ -134,6 +144,7 @@ impl<R: Read> Pipe<R> {
         ensures not_ended { OnErr result (ended_of self.new ≡ ended_of self.old) }
         ensures failed { IfErr result (λ e. IsTrue (failed_of self.new) ↔ (IsTrue (failed_of self.old) ⊎ (error_kind e ≢ ErrorKind.Interrupted))) }
         ensures not_failed { OnOk result (failed_of self.new ≡ failed_of self.old) }
+        ensures denied { denied_of self.new ≡ denied_of self.old }
         ensures counted { budget.new + 1 ≡ budget.old }
     {
         budget.left -= 1;
@@ -155,6 +166,7 @@ impl<R: Read> Pipe<R> {
         ensures ended { IfOk result (λ n. IsTrue (ended_of self.new) ↔ (n ≡ 0)) }
         ensures not_ended { OnErr result (ended_of self.new ≡ false) }
         ensures failed { IsErrOf result Stop.Failed ↔ (failed_of self.new ≡ true) }
+        ensures denied { IsTrue (denied_of self.new) ↔ (IsTrue (denied_of self.old) ⊎ IsErrOf result Stop.TooLong) }
         ensures too_long { IsErrOf result Stop.TooLong → budget.new ≡ 0 }
         ensures spent { OnOk result (budget.new < budget.old) }
         ensures never_more { budget.new ≤ budget.old }
@@ -169,6 +181,7 @@ impl<R: Read> Pipe<R> {
                 }
             }
         }
+        self.denied = true;
         Err(Stop::TooLong)
     }
 }
@@ -185,6 +198,7 @@ impl<W: Write> Pipe<W> {
         ensures stuck { IfOk result (λ n. IsTrue (failed_of self.new) ↔ (IsTrue (failed_of self.old) ⊎ (n ≡ 0))) }
         ensures failed { IfErr result (λ e. IsTrue (failed_of self.new) ↔ (IsTrue (failed_of self.old) ⊎ (error_kind e ≢ ErrorKind.Interrupted))) }
         ensures ended { ended_of self.new ≡ ended_of self.old }
+        ensures denied { denied_of self.new ≡ denied_of self.old }
         ensures counted { budget.new + 1 ≡ budget.old }
     {
         budget.left -= 1;
@@ -204,12 +218,14 @@ impl<W: Write> Pipe<W> {
         ensures err { OnErr result (AppendsFront (written W.contents self.old) (written W.contents self.new) bytes.now) }
         ensures ended { ended_of self.new ≡ ended_of self.old }
         ensures failed { IsErrOf result Stop.Failed ↔ (failed_of self.new ≡ true) }
+        ensures denied { IsTrue (denied_of self.new) ↔ (IsTrue (denied_of self.old) ⊎ IsErrOf result Stop.TooLong) }
         ensures too_long { IsErrOf result Stop.TooLong → budget.new ≡ 0 }
         ensures never_more { budget.new ≤ budget.old }
     {
         let mut at = 0;
         while at < bytes.len() {
             if budget.left == 0 {
+                self.denied = true;
                 return Err(Stop::TooLong);
             }
             match self.write_once(budget, &bytes[at..]) {

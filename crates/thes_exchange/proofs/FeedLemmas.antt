@@ -1,5 +1,5 @@
 -- Lines within bytes.
-use Rattle.std.proofs.Common.{◌≡◌, ◌+◌, ◌∙◌, ap, ℕ, List, [], ◌∷◌, ◌++◌, ◌==◌, Bool, true, false, cond, refl, length, length-append, Option, None, Some}
+use Rattle.std.proofs.Common.{◌≡◌, ◌+◌, ◌∙◌, ap, ℕ, List, [], ◌∷◌, ◌++◌, ◌==◌, Bool, true, false, cond, refl, length, length-append, Option}
 use Rattle.std.specs.Io.KnownBytes.{Consumes}
 use Rattle.thes_base.proofs.PipeLemmas.{consumes_then}
 use Rattle.thes_exchange.specs.Feed.{has_newline}
@@ -15,10 +15,6 @@ pub record TakesFront (old new : Option (List ℕ)) (line : List ℕ) (held : Bo
   pub one : has_newline raw ≡ false
   pub count : length raw ≡ taken
   pub kept : held ≡ true → line ≡ raw
-
-pub front_none : (old : Option (List ℕ)) (line : List ℕ) (held : Bool) → line ≡ [] → TakesFront old old line held 0
-front_none None line held e = record { raw = []; bytes = tt; one = refl; count = refl; kept = λ _. e }
-front_none (Some xs) line held e = record { raw = []; bytes = refl; one = refl; count = refl; kept = λ _. e }
 
 pub front_more : (old mid new : Option (List ℕ)) (line line' : List ℕ) (held held' : Bool) (taken b : ℕ)
     → TakesFront old mid line held taken → Consumes mid new (b ∷ []) → (b == 10) ≡ false → (held' ≡ true → (held ≡ true) × (line' ≡ line ++ b ∷ []))

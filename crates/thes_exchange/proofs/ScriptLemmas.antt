@@ -1,20 +1,21 @@
 -- A script, a line further.
-use Rattle.std.proofs.Common.{◌≡◌, ◌∙◌, sym, ap, refl, subst, ℕ, ◌+◌, ◌<◌, ◌≤◌, List, [], ◌∷◌, ◌++◌, length, length-append, append_assoc, append-nil, Bool, Option, Some, None, arith, IfSome}
+use Rattle.std.proofs.Common.{◌≡◌, ◌∙◌, sym, ap, refl, subst, ℕ, ◌+◌, take, ◌<◌, ◌≤◌, List, [], ◌∷◌, ◌++◌, length, length-append, append_assoc, append-nil, Bool, Option, Some, None, arith, IfSome}
 use Rattle.std.proofs.lemmas.Grind.{flat_map-append, fold-append}
-use Rattle.std.proofs.lemmas.List.Elements.{All-push, All-nil}
-use Rattle.std.proofs.Math.Seq.{take-append_seam}
+use Rattle.std.proofs.lemmas.List.Elements.{All-push, All-nil, All-head, All-tail}
+use Rattle.std.proofs.Math.Seq.{take-append_seam, take-append-add}
+use Rattle.std.specs.List.{All}
 use Rattle.std.specs.Str.Lines.{lines}
 use Rattle.std.specs.Io.KnownBytes.{Keeps, IsAtEnd}
 use Rattle.thes_base.specs.Pipe.{AppendsUntil}
 use Rattle.thes_base.proofs.PipeLemmas.{appends_then, appends_none, appends_until, until_then}
-use Rattle.thes_exchange.specs.Feed.{left, line_text, line_limit, TakesLine}
+use Rattle.thes_exchange.specs.Feed.{left, line_text, line_limit, TakesLine, IsTooLong}
 use Rattle.thes_exchange.specs.Serving.{Serving}
-use Rattle.thes_exchange.specs.Script.{StepLine, RunLines, AreAllowed, lines_limit, whole_lines, line_of, script_text, noted, nothing_noted, IsScript, IsStopped}
+use Rattle.thes_exchange.specs.Script.{StepLine, RunLines, AreAllowed, lines_limit, whole_lines, line_of, script_text, noted, nothing_noted, IsScript, IsStopped, IsCutOff}
 use Rattle.thes_exchange.specs.Served.{ServesLine, StopsAtLine, Ran, Served}
 use Rattle.thes_exchange.specs.declared.serve.Outcome.{Outcome}
 use Rattle.thes_exchange.specs.declared.script.Ended.{Ended}
 use Rattle.thes_base.specs.declared.fault.PipeFault.{PipeFault}
-use Rattle.thes_exchange.proofs.LineLemmas.{leaves}
+use Rattle.thes_exchange.proofs.LineLemmas.{leaves, long_first}
 
 run_more : {S : Type 0} (serves : Serving S) (old : S) (done : List (List ℕ)) (outcomes : List (Option Outcome)) (mid new : S) (line : List ℕ) (o : Option Outcome)
     → RunLines serves old done outcomes mid → StepLine serves mid line o new → RunLines serves old (done ++ line ∷ []) (outcomes ++ o ∷ []) new
@@ -95,6 +96,45 @@ served_cut fault {before = before} {after = after} {after' = after'} s few k v =
     ran_stopped fault (ran_more v.outcome s.ran few k v.step)
     (rw (flat_map-append line_of s.outcomes (v.outcome ∷ []), append-nil (line_of v.outcome)) (until_then fault before after after' (script_text s.outcomes) (line_of v.outcome) s.text v.text))
 
+-- the line after those answered is beyond the limits
+cut_off : {S : Type 0} {serves : Serving S} {input : List ℕ} {rest : Option (List ℕ)} {count : ℕ} {old new : S} {before after : Option (List ℕ)} {ended : Ended}
+    → (s : Served serves input rest count old new before after ended) (line : List ℕ) (more : List (List ℕ)) → whole_lines s.ran.left ≡ line ∷ more → ¬ AreAllowed (s.ran.whole ++ line ∷ [])
+    → IsCutOff serves input old new before after
+cut_off {S} {serves} {input} {rest} {count} s line more first beyond =
+    let r = s.ran in
+    let all : whole_lines input ≡ r.whole ++ line ∷ more = r.all_whole ∙ ap (λ x. r.whole ++ x) first in
+    let next : take (count + 1) (whole_lines input) ≡ r.whole ++ line ∷ [] =
+    ap (λ n. take (n + 1) (whole_lines input)) (sym r.whole_count) ∙ (ap (λ x. take (length r.whole + 1) x) all ∙ take-append-add r.whole (line ∷ more) 1) in record {
+      count = count;
+      allowed = rw (r.all_whole, ← r.whole_count, take-append_seam r.whole (whole_lines r.left)) r.allowed;
+      beyond = λ a. beyond (subst (λ (w : List (List ℕ)). AreAllowed w) next a);
+      outcomes = s.outcomes;
+      run = rw (r.all, ← r.done_count, take-append_seam r.done (lines r.left)) r.run;
+      text = s.text;
+    }
+
+last_holds : {X : Type 0} (P : X → Type 0) (xs : List X) (x : X) → All P (xs ++ x ∷ []) → P x
+last_holds P [] x h = All-head P x [] h
+last_holds P (y ∷ xs) x h = last_holds P xs x (All-tail P y (xs ++ x ∷ []) h)
+
+-- the next line is too long
+pub served_long : {S : Type 0} {serves : Serving S} {input : List ℕ} {rest : Option (List ℕ)} {count : ℕ} {old new : S} {before after : Option (List ℕ)} {ended : Ended}
+    → Served serves input rest count old new before after ended → IsTooLong rest → IsCutOff serves input old new before after
+served_long s t =
+    let r = s.ran in
+    let first = long_first r.left (rw r.is_left at t) in
+    cut_off s first.line first.more first.wholes
+    (λ a. let short = last_holds (λ line. length line ≤ line_limit) r.whole first.line a.short in let long = first.long in omega (arith, short, long))
+
+-- the next line is one too many
+pub served_full : {S : Type 0} {serves : Serving S} {input : List ℕ} {rest rest' : Option (List ℕ)} {count : ℕ} {old new : S} {before after : Option (List ℕ)} {ended : Ended} {raw : List ℕ} {e : Bool}
+    → Served serves input rest count old new before after ended → count ≡ lines_limit → TakesLine rest rest' raw e → IsCutOff serves input old new before after
+served_full {rest' = rest'} {raw = raw} {e = e} s full k =
+    let r = s.ran in
+    let after = leaves r.left rest' raw e (rw r.is_left at k) in
+    cut_off s raw (whole_lines after.rest) after.wholes
+    (λ a. let few = a.few in let more = length-append r.whole (raw ∷ []) in let c = r.whole_count in omega (arith, few, more, c, full))
+
 -- a line was taken out, and nothing more came
 pub served_kept : {S : Type 0} {serves : Serving S} {input : List ℕ} {rest rest' : Option (List ℕ)} {count : ℕ} {old new : S} {before after : Option (List ℕ)} {ended : Ended}
     → Served serves input rest count old new before after ended → Keeps rest rest' → Served serves input rest' count old new before after ended
@@ -137,15 +177,6 @@ served_start serves input old before = record {
   text = appends_none before;
   end = refl;
 }
-
--- a fact of the known bytes, carried on
-pub known_map : {A : Type 0} (o : Option A) (P Q : A → Type 0) → ((a : A) → P a → Q a) → IfSome o P → IfSome o Q
-known_map None P Q f h = tt
-known_map (Some a) P Q f h = f a h
-
-pub known_all : {A : Type 0} (o : Option A) (P : A → Type 0) → ((a : A) → P a) → IfSome o P
-known_all None P f = tt
-known_all (Some a) P f = f a
 
 pub served_begin : {S : Type 0} (serves : Serving S) (known : Option (List ℕ)) (held : List ℕ) (count : ℕ) (old : S) (before : Option (List ℕ)) (ended : Ended)
     → held ≡ [] → count ≡ 0 → ended ≡ nothing_noted → IfSome known (λ input. Served serves input (left held known) count old old before before ended)

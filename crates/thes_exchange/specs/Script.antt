@@ -1,5 +1,5 @@
 -- Scripts: a request on each line, answered by a line before the next is read.
-use Rattle.std.specs.Prelude.{◌≡◌, ◌⊎◌, ◌≤◌, ℕ, ◌==◌, ◌||◌, Bool, true, false, if◌then◌else◌, List, [], ◌∷◌, length, take, flat_map, fold, Option, Some, None}
+use Rattle.std.specs.Prelude.{◌≡◌, ◌⊎◌, ◌+◌, ◌≤◌, ℕ, ◌==◌, ◌||◌, Bool, true, false, if◌then◌else◌, List, [], ◌∷◌, length, take, flat_map, fold, Option, Some, None}
 use Rattle.std.specs.List.{list_all, slice_split, All}
 use Rattle.std.specs.Str.Lines.{lines}
 use Rattle.std.specs.Io.KnownBytes.{Appends}
@@ -86,6 +86,16 @@ pub record IsScript {S : Type 0} (serves : Serving S) (input : List ℕ) (old ne
   pub run : RunLines serves old (lines input) outcomes new
   pub text : Appends before after (script_text outcomes)
   pub end : ended ≡ ended_with outcomes
+
+-- The first lines were answered and just that was written. The line after them is longer than a line may be, or one too many,
+-- and isn't performed.
+pub record IsCutOff {S : Type 0} (serves : Serving S) (input : List ℕ) (old new : S) (before after : Option (List ℕ)) : Type 0 where
+  pub count : ℕ
+  pub allowed : AreAllowed (take count (whole_lines input))
+  pub beyond : ¬ AreAllowed (take (count + 1) (whole_lines input))
+  pub outcomes : List (Option Outcome)
+  pub run : RunLines serves old (take count (lines input)) outcomes new
+  pub text : Appends before after (script_text outcomes)
 
 -- the first lines were answered, all of them within the limits
 pub record IsStopped {S : Type 0} (serves : Serving S) (fault : PipeFault) (input : List ℕ) (old new : S) (before after : Option (List ℕ)) : Type 0 where

@@ -1,9 +1,9 @@
 //! A core as a desk: its own state, in memory.
 ghost use Rattle.std.specs.Prelude.{◌≡◌, ◌⊎◌, ◌↔◌, true, false, IfOk, IfErr, OnOk, IfSome, IsErrOf};
 ghost use Rattle.thes_base.specs.Headline.{IsInOrder};
-ghost use Rattle.thes_base.specs.Pipe.{failed_of, ended_of, IsFresh, unread, written};
+ghost use Rattle.thes_base.specs.Pipe.{failed_of, ended_of, denied_of, IsFresh, unread, written};
 ghost use Rattle.thes_exchange.specs.CoreDesk.{CoreServes, IsLed, IsViewed};
-ghost use Rattle.thes_exchange.specs.Script.{IsScript, IsStopped};
+ghost use Rattle.thes_exchange.specs.Script.{IsScript, IsStopped, IsCutOff};
 
 use crate::desk::{Desk, ViewLine, Viewed};
 use crate::request::Query;
@@ -69,6 +69,8 @@ pub fn core_script<R: Read, W: Write>(
         IsScript CoreServes input core.old core.new (written W.contents writer.old) (written W.contents writer.new) ended)) }
     ensures stopped { IfErr result (λ fault. IfSome (unread R.remaining reader.old) (λ input.
         IsStopped CoreServes fault input core.old core.new (written W.contents writer.old) (written W.contents writer.new))) }
+    ensures too_long { IsErrOf result PipeFault.TooLong → (denied_of reader.new ≡ true) ⊎ ((denied_of writer.new ≡ true) ⊎ IfSome (unread R.remaining reader.old) (λ input.
+        IsCutOff CoreServes input core.old core.new (written W.contents writer.old) (written W.contents writer.new))) }
     ensures led { IfSome (unread R.remaining reader.old) (λ input. IsLed core.old core.new) }
     ensures unspent { OnOk result (core.new.spent ≡ false) }
     ensures in_order { core.new.spent ≡ false → IsInOrder core.new.setting.base core.new.state }

@@ -2,7 +2,7 @@
 ghost use Rattle.std.specs.Prelude.{◌≡◌, ◌≢◌, ◌≤◌, ◌<◌, ◌⊎◌, ℕ, Bool, List, [], ◌∷◌, ◌++◌, length, true, false, IfOk, IfErr, OnOk, OnErr, IsErrOf, Option, IsTrue, MatchOption, ◌↔◌};
 ghost use Rattle.std.specs.Io.KnownBytes.{Consumes, Keeps, IsAtEnd};
 ghost use Rattle.std.specs.Str.Lines.{strip_carriage_return};
-ghost use Rattle.thes_base.specs.Pipe.{failed_of, ended_of, IsFresh, unread};
+ghost use Rattle.thes_base.specs.Pipe.{failed_of, ended_of, denied_of, IsFresh, unread};
 ghost use Rattle.thes_exchange.specs.Feed.{left, TakesByte, TakesLine, IsTooLong, line_text};
 
 use std::alloc::{AllocError, Global};
@@ -42,6 +42,7 @@ const LINE_LIMIT: u32 = 1_048_576;
 const BUFFER_SIZE: usize = 4096;
 
 impl Feed {
+    /// An empty buffer.
     pub fn new(alloc: Global) -> Result<Feed, AllocError>
         ensures { IfOk result (λ feed. feed ≡ []) }
     {
@@ -63,7 +64,7 @@ impl Feed {
         ensures byte { IfOk result (λ found. TakesByte found (left self.old (unread R.remaining reader.old)) (left self.new (unread R.remaining reader.new)) (ended_of reader.new)) }
         ensures err { OnErr result (Keeps (left self.old (unread R.remaining reader.old)) (left self.new (unread R.remaining reader.new)) × (ended_of reader.new ≡ false)) }
         ensures failed { IsErrOf result Stop.Failed ↔ (failed_of reader.new ≡ true) }
-        ensures too_long { IsErrOf result Stop.TooLong → budget.new ≡ 0 }
+        ensures too_long { IsErrOf result Stop.TooLong → denied_of reader.new ≡ true }
     {
         if self.at == self.filled && !self.refill(reader, budget)? {
             return Ok(None);
@@ -85,7 +86,7 @@ impl Feed {
         ensures end { IfOk result (λ found. (found ≡ Found.End) → Keeps (left self.old (unread R.remaining reader.old)) (left self.new (unread R.remaining reader.new))
             × IsAtEnd (left self.new (unread R.remaining reader.new)) × (ended_of reader.new ≡ true)) }
         ensures failed { IsErrOf result Stop.Failed ↔ (failed_of reader.new ≡ true) }
-        ensures too_long { IsErrOf result Stop.TooLong → (budget.new ≡ 0) ⊎ IsTooLong (left self.old (unread R.remaining reader.old)) }
+        ensures too_long { IsErrOf result Stop.TooLong → (denied_of reader.new ≡ true) ⊎ IsTooLong (left self.old (unread R.remaining reader.old)) }
     {
         line.clear();
         let mut held = true;
@@ -120,7 +121,7 @@ impl Feed {
         ensures end { IfOk result (λ more. more ≡ false → (self.new ≡ []) × IsAtEnd (left self.new (unread R.remaining reader.new)) × (ended_of reader.new ≡ true)) }
         ensures err { OnErr result (ended_of reader.new ≡ false) }
         ensures failed { IsErrOf result Stop.Failed ↔ (failed_of reader.new ≡ true) }
-        ensures too_long { IsErrOf result Stop.TooLong → budget.new ≡ 0 }
+        ensures too_long { IsErrOf result Stop.TooLong → denied_of reader.new ≡ true }
     {
         self.at = 0;
         self.filled = 0;

@@ -1,7 +1,7 @@
 //! The lines of a script, within its limits.
 ghost use Rattle.std.specs.Prelude.{◌≡◌, ◌≢◌, ◌≤◌, ◌⊎◌, ◌+◌, List, ℕ, [], IfOk, OnOk, IsErrOf, ◌↔◌, true, false};
 ghost use Rattle.std.specs.Io.KnownBytes.{Keeps, IsAtEnd};
-ghost use Rattle.thes_base.specs.Pipe.{failed_of, ended_of, IsFresh, unread};
+ghost use Rattle.thes_base.specs.Pipe.{failed_of, ended_of, denied_of, IsFresh, unread};
 ghost use Rattle.thes_exchange.specs.Feed.{left, TakesLine, IsTooLong, line_text};
 ghost use Rattle.thes_exchange.specs.Script.{lines_limit};
 
@@ -21,6 +21,7 @@ pub struct Lines {
 }
 
 impl Lines {
+    /// No line yet.
     pub fn new(alloc: Global) -> Result<Lines, AllocError>
         ensures { IfOk result (λ lines. (lines.feed ≡ []) × (lines.count ≡ 0)) }
     {
@@ -49,7 +50,7 @@ impl Lines {
         ensures end { IfOk result (λ found. (found ≡ Found.End) → Keeps (left self.old.feed (unread R.remaining reader.old)) (left self.new.feed (unread R.remaining reader.new))
             × IsAtEnd (left self.new.feed (unread R.remaining reader.new)) × (ended_of reader.new ≡ true) × (self.new.count ≡ self.old.count)) }
         ensures failed { IsErrOf result Stop.Failed ↔ (failed_of reader.new ≡ true) }
-        ensures too_long { IsErrOf result Stop.TooLong → (budget.new ≡ 0) ⊎ (IsTooLong (left self.old.feed (unread R.remaining reader.old))
+        ensures too_long { IsErrOf result Stop.TooLong → (denied_of reader.new ≡ true) ⊎ (IsTooLong (left self.old.feed (unread R.remaining reader.old))
             ⊎ ((self.old.count ≡ lines_limit) × (raw : List ℕ) × TakesLine (left self.old.feed (unread R.remaining reader.old)) (left self.new.feed (unread R.remaining reader.new)) raw (ended_of reader.new))) }
     {
         let found = self.feed.take_line(reader, budget, &mut self.line)?;

@@ -1,9 +1,9 @@
 //! Scripts: a request on each line, answered by a line before the next is read.
 ghost use Rattle.std.specs.Prelude.{◌≡◌, ◌≢◌, ◌⊎◌, ◌+◌, ◌<◌, ◌≤◌, true, false, List, ℕ, Option, Some, IfOk, IfErr, OnOk, OnErr, IfSome, IsErrOf, ◌↔◌, IsTrue};
 ghost use Rattle.std.specs.Io.KnownBytes.{Appends, Keeps, IsAtEnd};
-ghost use Rattle.thes_base.specs.Pipe.{failed_of, ended_of, IsFresh, unread, written};
+ghost use Rattle.thes_base.specs.Pipe.{failed_of, ended_of, denied_of, IsFresh, unread, written};
 ghost use Rattle.thes_exchange.specs.Feed.{left};
-ghost use Rattle.thes_exchange.specs.Script.{lines_limit, is_blank, StepLine, noted_outcome, nothing_noted, IsScript, IsStopped};
+ghost use Rattle.thes_exchange.specs.Script.{lines_limit, is_blank, StepLine, noted_outcome, nothing_noted, IsScript, IsStopped, IsCutOff};
 ghost use Rattle.thes_exchange.specs.Serving.{Serves};
 ghost use Rattle.thes_exchange.specs.Served.{ServesLine, StopsAtLine, Served};
 
@@ -100,7 +100,7 @@ fn serve_line<W: Write, D: Desk>(
         → StopsAtLine (Serves D.performs D.shows) fault text desk.old desk.new (written W.contents writer.old) (written W.contents writer.new)) }
     ensures read { ¬ IsErrOf result PipeFault.Read }
     ensures write { IsErrOf result PipeFault.Write ↔ (failed_of writer.new ≡ true) }
-    ensures too_long { IsErrOf result PipeFault.TooLong → budget.new ≡ 0 }
+    ensures too_long { IsErrOf result PipeFault.TooLong → denied_of writer.new ≡ true }
     ensures closed { (fault : Fault) → IsErrOf result (PipeFault.Fault fault) → (fault ≡ Fault.OutOfMemory) × (D.is_open desk.new ≡ false) }
 {
     if is_skipped(line, found) {
@@ -141,6 +141,9 @@ fn turn<R: Read, W: Write, D: Desk>(
     ensures stopped { IfErr result (λ fault. (input : List ℕ) (start : D) (before : Option (List ℕ))
         → Served (Serves D.performs D.shows) input (left lines.old.feed (unread R.remaining reader.old)) lines.old.count start desk.old before (written W.contents writer.old) ended.old
         → IsStopped (Serves D.performs D.shows) fault input start desk.new before (written W.contents writer.new)) }
+    ensures too_long { IsErrOf result PipeFault.TooLong → (denied_of reader.new ≡ true) ⊎ ((denied_of writer.new ≡ true) ⊎ ((input : List ℕ) (start : D) (before : Option (List ℕ))
+        → Served (Serves D.performs D.shows) input (left lines.old.feed (unread R.remaining reader.old)) lines.old.count start desk.old before (written W.contents writer.old) ended.old
+        → IsCutOff (Serves D.performs D.shows) input start desk.new before (written W.contents writer.new))) }
     ensures read { IsErrOf result PipeFault.Read ↔ (failed_of reader.new ≡ true) }
     ensures write { IsErrOf result PipeFault.Write ↔ (failed_of writer.new ≡ true) }
     ensures closed { (fault : Fault) → IsErrOf result (PipeFault.Fault fault) → (fault ≡ Fault.OutOfMemory) × (D.is_open desk.new ≡ false) }
@@ -158,7 +161,8 @@ fn turn<R: Read, W: Write, D: Desk>(
 
 /// Answers each line of the input.
 ///
-/// A line holds at most 1,048,576 bytes, and a script at most 1,000,000 lines, blank ones counted.
+/// A line holds at most 1,048,576 bytes, and a script at most 1,000,000 lines, blank ones counted. `TooLong` is answered only
+/// where the input goes past that, and then the lines before were answered; or where a pipe was denied a read or a write.
 pub fn script<R: Read, W: Write, D: Desk>(
     alloc: Global,
     reader: &mut Pipe<R>,
@@ -174,6 +178,8 @@ pub fn script<R: Read, W: Write, D: Desk>(
     ensures open { OnOk result (D.is_open desk.new ≡ true) }
     ensures stopped { IfErr result (λ fault. IfSome (unread R.remaining reader.old) (λ input.
         IsStopped (Serves D.performs D.shows) fault input desk.old desk.new (written W.contents writer.old) (written W.contents writer.new))) }
+    ensures too_long { IsErrOf result PipeFault.TooLong → (denied_of reader.new ≡ true) ⊎ ((denied_of writer.new ≡ true) ⊎ IfSome (unread R.remaining reader.old) (λ input.
+        IsCutOff (Serves D.performs D.shows) input desk.old desk.new (written W.contents writer.old) (written W.contents writer.new))) }
     ensures read { IsErrOf result PipeFault.Read ↔ (failed_of reader.new ≡ true) }
     ensures write { IsErrOf result PipeFault.Write ↔ (failed_of writer.new ≡ true) }
     ensures fault { (fault : Fault) → IsErrOf result (PipeFault.Fault fault) → (fault ≡ Fault.OutOfMemory) × ((desk.new ≡ desk.old) ⊎ (D.is_open desk.new ≡ false)) }

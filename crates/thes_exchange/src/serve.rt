@@ -1,7 +1,7 @@
 //! One line: what it asks for, and what it is answered with.
 ghost use Rattle.std.specs.Prelude.{◌≡◌, ◌≤◌, ◌↔◌, ℕ, List, true, false, OnOk, OnErr, IsErrOf};
 ghost use Rattle.std.specs.Io.KnownBytes.{Appends};
-ghost use Rattle.thes_base.specs.Pipe.{failed_of, ended_of, written, AppendsFront};
+ghost use Rattle.thes_base.specs.Pipe.{failed_of, ended_of, denied_of, written, AppendsFront};
 ghost use Rattle.thes_exchange.specs.Readings.{Reaches};
 ghost use Rattle.thes_exchange.specs.Requests.{request_of};
 ghost use Rattle.thes_exchange.specs.Serving.{Serves, outcome_text};
@@ -67,7 +67,7 @@ impl Outcome {
         ensures err { OnErr result (AppendsFront (written W.contents writer.old) (written W.contents writer.new) (outcome_text self.now)) }
         ensures ended { ended_of writer.new ≡ ended_of writer.old }
         ensures failed { IsErrOf result Stop.Failed ↔ (failed_of writer.new ≡ true) }
-        ensures too_long { IsErrOf result Stop.TooLong → budget.new ≡ 0 }
+        ensures too_long { IsErrOf result Stop.TooLong → denied_of writer.new ≡ true }
         ensures never_more { budget.new ≤ budget.old }
     {
         match self {

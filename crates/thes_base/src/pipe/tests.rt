@@ -127,3 +127,25 @@ fn a_stuck_writer_is_noted(rt: HostRuntime) -> Result<(), Fail> {
     assert_eq!(rt; writer.into_device().bytes.as_slice(), b"ab".as_slice());
     Ok(())
 }
+
+#[test]
+fn a_budget_used_up_is_noted(rt: HostRuntime) -> Result<(), Fail> {
+    let mut reader = Pipe::new(Halting {
+        bytes: b"abc",
+        calls: 20,
+    });
+    let mut budget = Budget { left: 1 };
+    let mut buffer = [0; 4];
+    assert_eq!(rt; reader.read(&mut budget, &mut buffer), Err(Stop::TooLong));
+    assert!(rt; reader.denied() && !reader.failed() && !reader.ended());
+    let mut writer = Pipe::new(Filling {
+        bytes: Vec::new(rt.alloc()),
+        room: 9,
+        is_interrupted: false,
+    });
+    let mut budget = Budget { left: 3 };
+    assert_eq!(rt; writer.write_all(&mut budget, b"abc"), Err(Stop::TooLong));
+    assert!(rt; writer.denied() && !writer.failed());
+    assert_eq!(rt; writer.into_device().bytes.as_slice(), b"a".as_slice());
+    Ok(())
+}

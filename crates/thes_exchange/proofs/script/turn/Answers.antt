@@ -1,14 +1,22 @@
-use Rattle.std.proofs.Common.{rules, ◌≡◌, ◌≢◌, ◌<◌, arith}
+use Rattle.std.proofs.Common.{rules, ◌≡◌, ◌≢◌, ◌<◌, arith, inl, inr}
 use Rattle.std.proofs.lemmas.Result.{err_from_is_err_and}
 use Rattle.thes_base.specs.Pipe.{unread}
 use Rattle.thes_exchange.specs.Feed.{left}
 use Rattle.thes_exchange.specs.Script.{lines_limit}
 use Rattle.thes_exchange.specs.declared.feed.Found.TheVariants.{End}
-use Rattle.thes_exchange.proofs.ScriptLemmas.{served_more, served_stopped, served_cut, served_kept}
+use Rattle.thes_exchange.proofs.ScriptLemmas.{served_more, served_stopped, served_cut, served_kept, served_long, served_full}
 use Rattle.thes_exchange.proofs.script.turn.Goals as goal
 
 pub returns-in-Err-clause-stopped : goal.returns-in-Err-clause-stopped
 returns-in-Err-clause-stopped g c = λ input start before s. served_stopped _ s
+
+pub returns-in-Err-clause-too_long : goal.returns-in-Err-clause-too_long
+returns-in-Err-clause-too_long g c = λ h.
+    elim (c.in-Err.ensures.too_long (search rules)) [
+      | inl denied ↦ inl denied
+      | inr (inl long) ↦ inr (inr (λ input start before s. served_long s long))
+      | inr (inr full) ↦ inr (inr (λ input start before s. served_full s full.0 full.2))
+    ]
 
 pub returns-then-eq-clause-ok : goal.returns-then-eq-clause-ok
 returns-then-eq-clause-ok g c =
