@@ -23,4 +23,5 @@ mod MovedLemmas
 mod MappingLemmas
 mod ReaderLemmas
 mod WholeLemmas
+mod ClimbLemmas
 pub mod AnswerLemmas

@@ -10,14 +10,11 @@ use Rattle.thes_base.specs.declared.data.Direction.{Direction}
 use Rattle.thes_base.specs.declared.data.Direction.TheVariants.{Forward, Backward, Either, Never}
 use Rattle.thes_base.specs.Links.{broader_way, related_way, exact_way, Leads, Path, Joined, IsBroader, IsAbove, IsApart, NoCycle, S27, S46}
 use Rattle.thes_graph.specs.declared.relation.Relation.TheVariants as relation
-use Rattle.thes_graph.specs.Steps.{Reaches, GrowsBy, Ties}
+use Rattle.thes_graph.specs.Steps.{Reaches, GrowsBy}
 use Rattle.thes_graph.specs.Local.{UpTo, Alike, NoCycleAt, NoS46At, IsGathered}
 use Rattle.thes_graph.specs.Whole.{HasWay, IsSomeS27}
-use Rattle.std.specs.BTreeMap.{BTreeMap}
-use Rattle.thes_graph.specs.Levels.{level_of, Rises}
 use Rattle.thes_graph.proofs.PivotLemmas.{Reaches-then_chain, Chain-then_reach, exact_turns}
 use Rattle.thes_graph.proofs.StepLemmas.{GrowsBy-then}
-use Rattle.thes_graph.proofs.ProbeLemmas.{cycle_found, cycle_none}
 
 never : (w : Direction) (a b x y : ℕ) → Leads w a b x y → w ≢ Never
 never w a b x y leads same = subst (λ (d : Direction). Leads d a b x y) same leads
@@ -35,12 +32,6 @@ module _ {S : ℕ → ℕ → Type 0} where
   reach_join x y z (inr c) r = inr (Chain-then_reach S x y z c r)
 
 -- what single tests say
-
-pub cycle_tested : (Would : Link → Type 0) (p : ℕ) (up : List ℕ) (links : List Link) → IsGathered Would relation.Broader p up links → (b : Bool)
-    → MatchBool b ((l : Link) × Contains links l × Ties relation.Broader l up (p ∷ [])) ((l : Link) → Contains links l → Ties relation.Broader l up (p ∷ []) → ⊥)
-    → MatchBool b (IsAbove Would p p) (IsAbove Would p p → ⊥)
-cycle_tested Would p up links above true found = cycle_found Would p up links above found
-cycle_tested Would p up links above false none = cycle_none Would p up links above none
 
 pub up_tested : (Would : Link → Type 0) (x y : ℕ) (up : List ℕ) (links : List Link) → IsGathered Would relation.Broader x up links → (b : Bool)
     → MatchBool b (Contains up y) (Contains up y → ⊥) → MatchBool b (UpTo Would x y) (UpTo Would x y → ⊥)
@@ -147,17 +138,3 @@ module _ (Held : Link → Type 0) where
       go : (x y : ℕ) (ms : List ℕ) → Path (Joined Held exact_way) x ms y → IsApart Held x y → ⊥
       go x y [] one apart = first x y y one.0 one.1 one.2 (inl refl) apart
       go x y (m ∷ ms) path apart = first x m y path.0.0 path.0.1 path.0.2 (inr (ms, path.1)) apart
-
--- where levels rise along each link there is no cycle
-pub no_cycle_levels : (levels : BTreeMap ℕ ℕ) (Held : Link → Type 0) → ((l : Link) → Held l → Rises levels l) → NoCycle Held
-no_cycle_levels levels Held rises = record { none = λ x (ms, path). let lower : level_of levels x < level_of levels x = falls x ms x path in absurd (omega arith) }
-  where
-    step : (x y : ℕ) → IsBroader Held x y → level_of levels y < level_of levels x
-    step x y (l, held, leads) = rises l held x y leads
-
-    falls : (x : ℕ) (ms : List ℕ) (y : ℕ) → Path (IsBroader Held) x ms y → level_of levels y < level_of levels x
-    falls x [] y one = step x y one
-    falls x (m ∷ ms) y path =
-        let first : level_of levels m < level_of levels x = step x m path.0 in
-        let rest : level_of levels y < level_of levels m = falls m ms y path.1 in
-        omega arith

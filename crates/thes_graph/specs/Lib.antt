@@ -6,7 +6,7 @@ pub mod Judge
 pub mod Met
 pub mod Net
 pub mod Rows
-pub mod Levels
+pub mod Climb
 pub mod Linked
 pub mod Mapped
 pub mod Moved

@@ -1,9 +1,9 @@
 //! Links between concepts: what is held, and whether one more link or a merge keeps the rules.
 #![tactic(auto)]
 
+pub mod climb;
 pub mod graph;
 pub mod judge;
-pub mod levels;
 pub mod linked;
 pub mod links;
 pub mod mapped;

@@ -70,7 +70,8 @@ impl Nodes {
 
     /// Notes that a node was met.
     pub fn meet(&mut self, n: ResNo) -> Result<(), AllocError>
-        ensures { OnOk result (GrowsBy self.old self.new (λ m. n ≡ m)) }
+        ensures grows { OnOk result (GrowsBy self.old self.new (λ m. n ≡ m)) }
+        ensures small { length self.new < 2 ^ 63 }
     {
         self.list.reserve(1)?;
         if self.met.insert(n)? {

@@ -34,8 +34,8 @@ fn take_steps(
     Ok(())
 }
 
-// The links at the node.
-fn fetch<L: Links>(alloc: Global, links: &mut L, node: ResNo) -> Result<Vec<Link>, AllocError>
+/// The links at the node.
+pub fn fetch<L: Links>(alloc: Global, links: &mut L, node: ResNo) -> Result<Vec<Link>, AllocError>
     ensures held { L.held links.new ≡ L.held links.old }
     ensures outside { L.outside links.new ≡ L.outside links.old }
     ensures rows { L.links_of links.new ≡ L.links_of links.old }

@@ -1,13 +1,13 @@
-//! The check of all links: cycles by one pass over them, exact classes each once, and what is above related concepts.
+//! The check of all links: cycles by one climb from each node, exact classes each once, and what is above related concepts.
 ghost use Rattle.std.specs.Prelude.{◌≡◌, ◌⊎◌, ℕ, true, Contains, Ok, IfOk, OnOk, MatchBool};
 ghost use Rattle.thes_base.specs.declared.data.Link.{Link};
-ghost use Rattle.thes_base.specs.Links.{HeldIn, IsAbove, IsRelated, IsExact, IsApart, NoCycle, S27, S46, IsFirstBroken};
+ghost use Rattle.thes_base.specs.Links.{HeldIn, NoCycle, S27, S46, IsFirstBroken};
 ghost use Rattle.thes_graph.specs.Reading.{HaveTwoEnds};
 ghost use Rattle.thes_graph.specs.Steps.{GrowsBy};
 ghost use Rattle.thes_graph.specs.Local.{UpTo, NoS46At};
 ghost use Rattle.thes_graph.specs.Whole.{AreAll, HasWay, IsSomeCycle, IsSomeS27, IsSomeS46};
 
-use crate::levels::{climb, find_levels, first_falling};
+use crate::climb::climb;
 use crate::links::Links;
 use crate::nodes::Nodes;
 use crate::relation::{Relation, way};
@@ -18,54 +18,19 @@ use thes_base::data::{Direction, Link};
 use thes_base::fault::Refusal;
 use thes_base::number::ResNo;
 
-// Whether a chain of broader links leads from the node back to it.
-fn is_on_cycle<L: Links>(alloc: Global, links: &mut L, n: ResNo) -> Result<bool, AllocError>
-    ensures held { L.held links.new ≡ L.held links.old }
-    ensures cycle { IfOk result (λ found. MatchBool found (IsAbove (HeldIn (L.held links.old)) n n) (IsAbove (HeldIn (L.held links.old)) n n → ⊥)) }
-{
-    let up = gather(alloc, links, &Sight::AsHeld, n, Relation::Broader)?;
-    let here = Nodes::only(alloc, n)?;
-    let found = some_ties(Relation::Broader, &up.links, &up.nodes, &here);
-    Ok(found)
-}
-
-// Whether a chain of broader links leads from some node back to it, asked at each link.
-fn has_cycle_by_walks<L: Links>(
-    alloc: Global,
-    links: &mut L,
-    all: &[Link],
-) -> Result<bool, AllocError>
-    requires { AreAll (L.held links.old) all.now }
-    ensures held { L.held links.new ≡ L.held links.old }
-    ensures cycle { IfOk result (λ found. MatchBool found (IsSomeCycle (HeldIn (L.held links.old))) (NoCycle (HeldIn (L.held links.old)))) }
-{
-    for link in all {
-        if is_on_cycle(alloc, links, link.a)? {
-            return Ok(true);
-        }
-    }
-    Ok(false)
-}
-
-// Whether a chain of broader links leads from some node back to it. Where there are levels that rise along each link there is no
-// such chain, and else climbing among the nodes without a level ends on one; so each link is asked by walks only if neither serves.
+// Whether a chain of broader links leads from some node back to it.
 fn has_cycle<L: Links>(alloc: Global, links: &mut L, all: &[Link]) -> Result<bool, AllocError>
     requires { AreAll (L.held links.old) all.now }
     ensures held { L.held links.new ≡ L.held links.old }
     ensures cycle { IfOk result (λ found. MatchBool found (IsSomeCycle (HeldIn (L.held links.old))) (NoCycle (HeldIn (L.held links.old)))) }
 {
-    let levels = find_levels(alloc, links, all)?;
-    match first_falling(&levels, all) {
-        None => return Ok(false),
-        Some(low) => {
-            let suspect = climb(links, &levels, low, all.len());
-            if is_on_cycle(alloc, links, suspect)? {
-                return Ok(true);
-            }
+    let mut done = Nodes::none(alloc);
+    for link in all {
+        if !done.has(link.a) && climb(alloc, links, link.a, &mut done)? {
+            return Ok(true);
         }
     }
-    let found = has_cycle_by_walks(alloc, links, all)?;
-    Ok(found)
+    Ok(false)
 }
 
 // Whether the second node is the first one or above it.

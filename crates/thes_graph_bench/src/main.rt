@@ -1,7 +1,11 @@
 //! Makes a graph of broader links and checks it whole, which `bench/graph` times.
-//! Words: `ladder` or `tree`, how many nodes, and how wide.
+//! Words: `ladder` or `tree`, how many nodes, and how wide. Or, for `tests/count-requests`: `requests`, how many further nodes, and
+//! `judged` if a link is to be judged.
 #![tactic(auto)]
 
+mod requests;
+
+use crate::requests::left_after;
 use std::alloc::{AllocError, Global};
 use std::process::ExitCode;
 use std::rt::Env;
@@ -60,13 +64,8 @@ fn number(words: &[String], place: usize) -> u32 {
 }
 
 // The first rule that the graph of these words breaks.
-fn broken<R: Env + Alloc<A = Global>>(rt: &R) -> Result<Option<Refusal>, AllocError> {
-    let alloc = rt.alloc();
-    let Ok(args) = std::env::args(rt) else {
-        return Err(AllocError);
-    };
-    let words: Vec<String> = args.collect(alloc)?;
-    let (nodes, width) = (number(words.as_slice(), 2), number(words.as_slice(), 3));
+fn broken(alloc: Global, words: &[String]) -> Result<Option<Refusal>, AllocError> {
+    let (nodes, width) = (number(words, 2), number(words, 3));
     let mut graph = Graph::new(alloc);
     match words.get(1) {
         Some(shape) if shape.as_str() == "tree" => tree(&mut graph, nodes, width)?,
@@ -75,10 +74,41 @@ fn broken<R: Env + Alloc<A = Global>>(rt: &R) -> Result<Option<Refusal>, AllocEr
     graph.check_whole(alloc)
 }
 
-fn main(rt: HostRuntime) -> ExitCode {
-    match broken(&rt) {
-        Ok(None) => ExitCode::from(0),
-        Ok(Some(_)) => ExitCode::from(1),
-        Err(_) => ExitCode::from(3),
+// Whether this word stands at the place.
+fn has_word(words: &[String], place: usize, wanted: &str) -> bool {
+    match words.get(place) {
+        Some(word) => word.as_str() == wanted,
+        None => false,
     }
+}
+
+// Prints how many requests for memory are left, or answers 1 where something speaks against the link.
+fn print_left<R: Print + Alloc<A = Global>>(rt: &R, words: &[String]) -> Result<u8, AllocError> {
+    match left_after(rt.alloc(), number(words, 2), has_word(words, 3, "judged"))? {
+        Some(left) => {
+            let _ = println!(rt; "{left}");
+            Ok(0)
+        }
+        None => Ok(1),
+    }
+}
+
+// Does what the words ask for, and answers the exit status.
+fn obey<R: Env + Print + Alloc<A = Global>>(rt: &R) -> Result<u8, AllocError> {
+    let alloc = rt.alloc();
+    let Ok(args) = std::env::args(rt) else {
+        return Err(AllocError);
+    };
+    let words: Vec<String> = args.collect(alloc)?;
+    if has_word(words.as_slice(), 1, "requests") {
+        return print_left(rt, words.as_slice());
+    }
+    match broken(alloc, words.as_slice())? {
+        None => Ok(0),
+        Some(_) => Ok(1),
+    }
+}
+
+fn main(rt: HostRuntime) -> ExitCode {
+    ExitCode::from(obey(&rt).unwrap_or(3))
 }

@@ -7,8 +7,8 @@ pub invariant_of-self-in-Continue-branch-3 : goal.invariant_of-self-in-Continue-
 invariant_of-self-in-Continue-branch-3 c =
     rw (c.in_ok-push.ensures.items, c.reserve.ensures.items) (IsMet-push c.self.inside.list.items c.self.inside.met c.insert.new.self c.args.n c.self.invariant c.in_ok-insert.ensures.updates.0)
 
-pub returns-in_ok-push : goal.returns-in_ok-push
-returns-in_ok-push c =
+pub returns-in_ok-push-clause-grows : goal.returns-in_ok-push-clause-grows
+returns-in_ok-push-clause-grows c =
     rw (c.in_ok-push.ensures.items, c.reserve.ensures.items, ← c.self.view_is)
     (GrowsBy-push c.self.inside.list.items c.args.n (sym (c.self.invariant c.args.n) ∙ off _ (sym c.in_ok-insert.ensures.added ∙ c.if-branch.true)))
   where
@@ -16,8 +16,8 @@ returns-in_ok-push c =
     off true e = cc
     off false e = cc
 
-pub returns-else-branch : goal.returns-else-branch
-returns-else-branch c =
+pub returns-else-branch-clause-grows : goal.returns-else-branch-clause-grows
+returns-else-branch-clause-grows c =
     rw (c.reserve.ensures.items, ← c.self.view_is)
     (GrowsBy-there c.self.inside.list.items c.args.n (has_of_test _ _ (sym (c.self.invariant c.args.n) ∙ on _ (sym c.in_ok-insert.ensures.added ∙ c.if-branch.false))))
   where

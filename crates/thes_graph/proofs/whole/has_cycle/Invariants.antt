@@ -1,11 +1,12 @@
-use Rattle.std.proofs.Common.{◌≡◌}
+use Rattle.std.proofs.Common.{◌≡◌, ℕ, Contains}
 use Rattle.thes_base.specs.Links.{HeldIn}
 use Rattle.thes_graph.specs.Local.{NoCycleAt}
 use Rattle.thes_graph.proofs.WholeLemmas.{HoldsBelow}
-use Rattle.thes_graph.proofs.whole.has_cycle_by_walks.Given as goal
+use Rattle.thes_graph.proofs.whole.has_cycle.Given as goal
 
 abbrev pub invariant-loop-link : goal.invariant-loop-link
 invariant-loop-link g l = record {
   held : g.L.Links.held l.links ≡ g.L.Links.held l.fn.links;
-  none : HoldsBelow (λ m. NoCycleAt (HeldIn (g.L.Links.held l.fn.links)) m.a) l.all l.link-index;
+  free : (n : ℕ) → Contains l.done n → NoCycleAt (HeldIn (g.L.Links.held l.fn.links)) n;
+  done : HoldsBelow (λ m. Contains l.done m.a) l.all l.link-index;
 }

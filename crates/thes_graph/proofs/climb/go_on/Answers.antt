@@ -1,0 +1,58 @@
+use Rattle.std.proofs.Common.{◌≡◌, ◌-◌, ◌++◌, ◌∷◌, [], take, refl, ap, ◌∙◌, arith}
+use Rattle.thes_base.specs.Links.{HeldIn}
+use Rattle.thes_graph.proofs.ClimbLemmas.{GrowsBy-keeps, GrowsBy-longer, IsClimb-done, IsClimb-fewer, IsSomeCycle-met, IsClimb-more, to_do-done, to_do-fewer, to_do-more, none_above, last_above, all_but_last, done_or_left, left_above, fewer_left}
+use Rattle.thes_graph.proofs.climb.go_on.Goals as goal
+
+pub returns-in_default-clause-found : goal.returns-in_default-clause-found
+returns-in_default-clause-found g c =
+    IsClimb-done (HeldIn (g.L.Links.held c.args.links.now)) c.args.met.now c.args.done.now c.args.way.now.items c.args.last c.requires c.meet.new.self
+    (none_above c.args.last.above.items c.copied.result (c.copied.ensures ∙ rw c.deref.ensures.value at c.last.ensures.value) c.in_default.not-Some)
+    c.in_ok-meet.ensures.grows
+
+pub returns-in_default-clause-less : goal.returns-in_default-clause-less
+returns-in_default-clause-less g c _ = to_do-done c.args.met.now c.args.way.now.items c.args.last
+
+pub returns-then-has-clause-found : goal.returns-then-has-clause-found
+returns-then-has-clause-found g c =
+    rw c.in_ok-push.ensures.items
+    (IsClimb-fewer (HeldIn (g.L.Links.held c.args.links.now)) c.args.met.now c.args.done.now c.args.way.now.items c.args.last c.requires _ refl
+    (done_or_left c.args.last.above.items c.pop.new.self.items c.in-Some.high all c.args.done.now (rw c.if-has.true at c.has.ensures))
+    (left_above c.args.last.above.items c.pop.new.self.items c.in-Some.high all))
+  where
+    all : c.args.last.above.items ≡ c.pop.new.self.items ++ c.in-Some.high ∷ []
+    all =
+        all_but_last c.args.last.above.items c.pop.new.self.items c.in-Some.high (c.in-Some.ensures ∙ rw c.deref.ensures.value at c.last.ensures.value)
+        (c.pop.ensures.rest ∙ ap (λ n. take (n - 1) c.args.last.above.items) c.args.last.above.ok.0)
+
+pub returns-then-has-clause-less : goal.returns-then-has-clause-less
+returns-then-has-clause-less g c _ =
+    rw c.in_ok-push.ensures.items (to_do-fewer c.args.met.now c.args.way.now.items c.args.last _ (fewer_left c.args.last.above.items c.pop.new.self.items c.in-Some.high all))
+  where
+    all : c.args.last.above.items ≡ c.pop.new.self.items ++ c.in-Some.high ∷ []
+    all =
+        all_but_last c.args.last.above.items c.pop.new.self.items c.in-Some.high (c.in-Some.ensures ∙ rw c.deref.ensures.value at c.last.ensures.value)
+        (c.pop.ensures.rest ∙ ap (λ n. take (n - 1) c.args.last.above.items) c.args.last.above.ok.0)
+
+pub returns-then-has-2-clause-found : goal.returns-then-has-2-clause-found
+returns-then-has-2-clause-found g c =
+    IsSomeCycle-met (HeldIn (g.L.Links.held c.args.links.now)) c.args.met.now c.args.done.now c.args.way.now.items c.args.last c.requires c.in-Some.high
+    (last_above c.args.last.above.items c.in-Some.high (c.in-Some.ensures ∙ rw c.deref.ensures.value at c.last.ensures.value))
+    (rw c.if-has-2.true at c.has-2.ensures) (rw c.if-has.false at c.has.ensures)
+
+pub returns-clause-met : goal.returns-clause-met
+returns-clause-met g c = GrowsBy-keeps c.args.met.now c.meet-2.new.self (λ n. c.in-Some.high ≡ n) c.in_ok-meet-2.ensures.grows
+
+pub returns-clause-found : goal.returns-clause-found
+returns-clause-found g c =
+    rw (c.in_ok-push-3.ensures.items, c.in_ok-push-2.ensures.items)
+    (IsClimb-more (HeldIn (g.L.Links.held c.args.links.now)) c.args.met.now c.args.done.now c.args.way.now.items c.args.last c.requires c.meet-2.new.self c.in_ok-next.next
+    (rw c.in_ok-next.ensures.node (last_above c.args.last.above.items c.in-Some.high (c.in-Some.ensures ∙ rw c.deref.ensures.value at c.last.ensures.value)))
+    (rw c.in_ok-next.ensures.node c.in_ok-meet-2.ensures.grows)
+    (rw c.in_ok-next.ensures.node c.in_ok-next.ensures.above))
+
+pub returns-clause-less : goal.returns-clause-less
+returns-clause-less g c _ =
+    rw (c.in_ok-push-3.ensures.items, c.in_ok-push-2.ensures.items)
+    (to_do-more c.args.met.now c.meet-2.new.self c.args.way.now.items c.args.last c.in_ok-next.next
+    (GrowsBy-longer c.args.met.now c.meet-2.new.self c.in-Some.high c.in_ok-meet-2.ensures.grows (rw c.if-has-2.false at c.has-2.ensures))
+    c.in_ok-meet-2.ensures.small (omega (arith, c.in_ok-next.next.above.small)))
