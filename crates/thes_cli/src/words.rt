@@ -1,5 +1,7 @@
 //! The words of the command line.
-ghost use Rattle.std.specs.Prelude.{◌≡◌};
+ghost use Rattle.std.specs.Prelude.{◌≡◌, map, string_bytes, IfOk};
+ghost use Rattle.clap.specs.Words.{app_of, kind_of};
+ghost use Rattle.thes_cli.specs.CommandLine.{program, PartsFor, Plans};
 ghost use Rattle.thes_cli.specs.Parting.{parting_status};
 
 use clap::error::ErrorKind;
@@ -87,7 +89,9 @@ impl Parting {
 }
 
 // The commands of the program.
-fn commands<'a>(alloc: Global) -> Result<Command<'a>, AllocError> {
+fn commands<'a>(alloc: Global) -> Result<Command<'a>, AllocError>
+    ensures { IfOk result (λ commands. app_of commands ≡ program) }
+{
     Command::new(alloc, "thesaurus")
         .bin_name("thesaurus")?
         .about(ABOUT)
@@ -101,7 +105,10 @@ fn commands<'a>(alloc: Global) -> Result<Command<'a>, AllocError> {
 }
 
 // Help, or what is wrong with the words.
-fn parting_of(alloc: Global, error: &Error) -> Parting {
+fn parting_of(alloc: Global, error: &Error) -> Parting
+    ensures kind { PartsFor (kind_of error.now) result }
+    ensures memory { kind_of error.now ≡ ErrorKind.OutOfMemory → result ≡ Parting.OutOfMemory }
+{
     if error.kind() == ErrorKind::OutOfMemory {
         return Parting::OutOfMemory;
     }
@@ -113,7 +120,9 @@ fn parting_of(alloc: Global, error: &Error) -> Parting {
 }
 
 /// What the words ask for, the program's name first.
-pub fn plan(alloc: Global, words: &[String]) -> Result<Task, Parting> {
+pub fn plan(alloc: Global, words: &[String]) -> Result<Task, Parting>
+    ensures { Plans (map string_bytes words.now) result }
+{
     match commands(alloc)?.try_get_matches_from(words) {
         // `script` is the one command, and clap wants one.
         Ok(_) => Ok(Task::Script),

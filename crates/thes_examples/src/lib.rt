@@ -8,8 +8,6 @@ mod devices;
 #[cfg(test)]
 mod forms;
 #[cfg(test)]
-mod generated;
-#[cfg(test)]
 mod hierarchy;
 #[cfg(test)]
 mod labels;
@@ -24,11 +22,9 @@ mod memory;
 #[cfg(test)]
 mod numbers;
 #[cfg(test)]
-mod orders;
-#[cfg(test)]
-mod plain;
-#[cfg(test)]
 mod postings;
+#[cfg(test)]
+mod readers;
 #[cfg(test)]
 mod requests;
 #[cfg(test)]

@@ -37,10 +37,10 @@ pub static START: [Exchange; 4] = [
     ),
 ];
 
-/// A store, of which the tests see what scripts are answered.
+/// A store, of which the tests see what scripts are answered, and what can be looked up (`readers.rt`).
 #[derive(Drop)]
 pub struct Store {
-    core: Core,
+    pub core: Core,
 }
 
 impl Store {
@@ -119,6 +119,16 @@ pub fn answers_to(alloc: Global, limits: Limits, requests: &[u8]) -> Result<(Str
     let mut store = Store::new(alloc, limits)?;
     let (written, ended) = outcome(alloc, &mut store, requests)?;
     Ok((written, ended?))
+}
+
+/// A store after the start and the requests of a table, each answer compared.
+pub fn filled(rt: &impl Abort, alloc: Global, table: &[Exchange]) -> Result<Store, Fail> {
+    let mut store = Store::new(alloc, Limits::default())?;
+    let requests = requests_of(alloc, &START, table)?;
+    let (written, ended) = outcome(alloc, &mut store, requests.as_bytes())?;
+    compare(rt, &START, table, written.as_str());
+    ended?;
+    Ok(store)
 }
 
 /// Runs the requests of both tables in a new store, and compares each answer.

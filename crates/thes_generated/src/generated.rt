@@ -1,10 +1,13 @@
 //! A generated run: mixed requests of all kinds, whose answers are compared with those of the plain program.
 use crate::orders::{FIRST_TEXT, LAST_TEXT, Order, Word};
 use crate::plain::{Label, Plain, number_of};
-use crate::run::answers_to;
 use std::alloc::{AllocError, Global};
 use std::test::Fail;
 use thes_base::data::{LabelKind, Limits, LinkKind};
+use thes_base::pipe::Pipe;
+use thes_base::text::Base;
+use thes_core::Core;
+use thes_exchange::core_desk::core_script;
 
 /// Numbers that look thrown, and are the same in each run.
 #[derive(Drop)]
@@ -288,6 +291,16 @@ fn generate(
     })
 }
 
+// What a new store answers to a script.
+fn answers_to(alloc: Global, limits: Limits, requests: &str) -> Result<String, Fail> {
+    let base = Base::read(alloc, "https://thesaurus.example/id/")?;
+    let mut core = Core::new(alloc, base, limits);
+    let mut reader = Pipe::new(requests.as_bytes());
+    let mut writer = Pipe::new(Vec::new(alloc));
+    core_script(alloc, &mut reader, &mut writer, &mut core)?;
+    Ok(String::from_utf8(writer.into_device())?)
+}
+
 // Room for all, and for little.
 static LIMITS: [Limits; 3] = [
     Limits {
@@ -320,7 +333,7 @@ fn mixed_requests_are_answered_as_by_the_plain_program(rt: HostRuntime) -> Resul
     for limits in &LIMITS {
         for seed in 1..=4u64 {
             let run = generate(alloc, *limits, seed, 600)?;
-            let (text, _) = answers_to(alloc, *limits, run.requests.as_bytes())?;
+            let text = answers_to(alloc, *limits, run.requests.as_str())?;
             let mut lines = text.as_str().lines();
             let requests = run.requests.as_str().lines().enumerate();
             for ((place, request), answer) in requests.zip(run.answers.as_str().lines()) {
