@@ -1,5 +1,5 @@
 -- A script, a line further.
-use Rattle.std.proofs.Common.{◌≡◌, ◌∙◌, sym, ap, refl, subst, ℕ, ◌+◌, take, ◌<◌, ◌≤◌, List, [], ◌∷◌, ◌++◌, length, length-append, append_assoc, append-nil, Bool, Option, Some, None, arith, IfSome}
+use Rattle.std.proofs.Common.{◌≡◌, ◌∙◌, sym, ap, refl, subst, ℕ, ◌+◌, take, ◌<◌, ◌≤◌, List, [], ◌∷◌, ◌++◌, length, length-append, append_assoc, append-nil, Bool, true, false, cond, ◌==◌, Option, Some, None, arith, IfSome}
 use Rattle.std.proofs.lemmas.Grind.{flat_map-append, fold-append}
 use Rattle.std.proofs.lemmas.List.Elements.{All-push, All-nil, All-head, All-tail}
 use Rattle.std.proofs.Math.Seq.{take-append_seam, take-append-add}
@@ -8,10 +8,10 @@ use Rattle.std.specs.Str.Lines.{lines}
 use Rattle.std.specs.Io.KnownBytes.{Keeps, IsAtEnd}
 use Rattle.thes_base.specs.Pipe.{AppendsUntil}
 use Rattle.thes_base.proofs.PipeLemmas.{appends_then, appends_none, appends_until, until_then}
-use Rattle.thes_exchange.specs.Feed.{left, line_text, line_limit, TakesLine, IsTooLong}
+use Rattle.thes_exchange.specs.Feed.{left, has_newline, line_text, line_limit, TakesLine, TakesPart, IsTooLong}
 use Rattle.thes_exchange.specs.Serving.{Serving}
-use Rattle.thes_exchange.specs.Script.{StepLine, RunLines, AreAllowed, lines_limit, whole_lines, line_of, script_text, noted, nothing_noted, IsScript, IsStopped, IsCutOff}
-use Rattle.thes_exchange.specs.Served.{ServesLine, StopsAtLine, Ran, Served}
+use Rattle.thes_exchange.specs.Script.{StepLine, RunLines, AreAllowed, lines_limit, whole_lines, line_of, script_text, noted, nothing_noted, newlines, IsScript, IsStopped, IsCutOff, IsBroken}
+use Rattle.thes_exchange.specs.Served.{ServesLine, StopsAtLine, Ran, Served, Fed}
 use Rattle.thes_exchange.specs.declared.serve.Outcome.{Outcome}
 use Rattle.thes_exchange.specs.declared.script.Ended.{Ended}
 use Rattle.thes_base.specs.declared.fault.PipeFault.{PipeFault}
@@ -182,3 +182,66 @@ pub served_begin : {S : Type 0} (serves : Serving S) (known : Option (List ℕ))
     → held ≡ [] → count ≡ 0 → ended ≡ nothing_noted → IfSome known (λ input. Served serves input (left held known) count old old before before ended)
 served_begin serves None held count old before ended h c e = tt
 served_begin serves (Some input) held count old before ended h c e = rw (h, c, e) (served_start serves input old before)
+
+-- Newlines of the bytes taken.
+
+newlines_append : (xs ys : List ℕ) → newlines (xs ++ ys) ≡ newlines xs + newlines ys
+newlines_append [] ys = omega arith
+newlines_append (x ∷ xs) ys =
+    let more = newlines_append xs ys in
+    elim (x == 10) as (λ t. cond t (newlines (xs ++ ys) + 1) (newlines (xs ++ ys)) ≡ cond t (newlines xs + 1) (newlines xs) + newlines ys) [
+      | true ↦ omega (arith, more)
+      | false ↦ more
+    ]
+
+no_newlines : (raw : List ℕ) → has_newline raw ≡ false → newlines raw ≡ 0
+no_newlines [] h = refl
+no_newlines (x ∷ raw) h =
+    elim (x == 10) as (λ t. cond t true (has_newline raw) ≡ false → cond t (newlines raw + 1) (newlines raw) ≡ 0) [
+      | true ↦ λ k. absurd (cc)
+      | false ↦ λ k. no_newlines raw k
+    ] h
+
+fed_line : (input left : List ℕ) (rest : Option (List ℕ)) (count : ℕ) (raw taken : List ℕ) → input ≡ taken ++ left → newlines taken ≡ count → TakesLine (Some left) rest raw false → Fed input rest (count + 1)
+fed_line input left None count raw taken b n k = absurd k.bytes
+fed_line input left (Some ys) count raw taken b n k =
+    let line = raw ++ 10 ∷ [] in
+    let none = no_newlines raw k.one in
+    let one : newlines line ≡ newlines raw + 1 = newlines_append raw (10 ∷ []) in
+    let all = newlines_append taken line in record {
+      left = ys;
+      is_left = refl;
+      taken = taken ++ line;
+      bytes = b ∙ (ap (λ t. taken ++ t) k.bytes ∙ sym (append_assoc taken line ys));
+      ends = omega (arith, all, one, none, n);
+    }
+
+-- one more line was taken, and the input goes on
+pub fed_more : {input : List ℕ} {rest rest' : Option (List ℕ)} {count : ℕ} {raw : List ℕ} {e : Bool} → Fed input rest count → TakesLine rest rest' raw e → e ≡ false → Fed input rest' (count + 1)
+fed_more {input} {rest} {rest'} {count} {raw} {e} f k n = fed_line input f.left rest' count raw f.taken f.bytes f.ends (rw (f.is_left, n) at k)
+
+fed_start : (input : List ℕ) → Fed input (Some input) 0
+fed_start input = record { left = input; is_left = refl; taken = []; bytes = refl; ends = refl }
+
+pub fed_begin : (known : Option (List ℕ)) (held : List ℕ) (count : ℕ) → held ≡ [] → count ≡ 0 → IfSome known (λ input. Fed input (left held known) count)
+fed_begin None held count h c = tt
+fed_begin (Some input) held count h c = rw (h, c) (fed_start input)
+
+-- the reader broke off within a line
+pub served_broken : {S : Type 0} {serves : Serving S} {input : List ℕ} {rest rest' : Option (List ℕ)} {count : ℕ} {old new : S} {before after : Option (List ℕ)} {ended : Ended}
+    → Served serves input rest count old new before after ended → Fed input rest count → TakesPart rest rest' → IfSome rest' (λ left. IsBroken serves input left old new before after)
+served_broken {rest' = None} s f k = tt
+served_broken {input = input} {rest' = Some ys} {count = count} s f k =
+    let r = s.ran in
+    let p : TakesPart (Some f.left) (Some ys) = rw f.is_left at k in
+    let none = no_newlines p.raw p.one in
+    let ends = f.ends in
+    let all = newlines_append f.taken p.raw in
+    let same : newlines (f.taken ++ p.raw) ≡ count = omega (arith, all, none, ends) in record {
+      taken = f.taken ++ p.raw;
+      bytes = f.bytes ∙ (ap (λ t. f.taken ++ t) p.bytes ∙ sym (append_assoc f.taken p.raw ys));
+      allowed = rw (same, r.all_whole, ← r.whole_count, take-append_seam r.whole (whole_lines r.left)) r.allowed;
+      outcomes = s.outcomes;
+      run = rw (same, r.all, ← r.done_count, take-append_seam r.done (lines r.left)) r.run;
+      text = s.text;
+    }

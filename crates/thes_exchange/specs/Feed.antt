@@ -30,6 +30,12 @@ pub record TakesLine (old new : Option (List ℕ)) (raw : List ℕ) (ended : Boo
   pub last : ended ≡ true → (raw ≢ []) × IsAtEnd new
   pub short : length raw ≤ line_limit
 
+-- a part of a line was taken, and the reader gives no more
+pub record TakesPart (old new : Option (List ℕ)) : Type 0 where
+  pub raw : List ℕ
+  pub bytes : Consumes old new raw
+  pub one : has_newline raw ≡ false
+
 -- what comes first is longer than a line may be
 pub record IsTooLong (old : Option (List ℕ)) : Type 0 where
   pub raw : List ℕ

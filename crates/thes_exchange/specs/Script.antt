@@ -1,5 +1,5 @@
 -- Scripts: a request on each line, answered by a line before the next is read.
-use Rattle.std.specs.Prelude.{◌≡◌, ◌⊎◌, ◌+◌, ◌≤◌, ℕ, ◌==◌, ◌||◌, Bool, true, false, if◌then◌else◌, List, [], ◌∷◌, length, take, flat_map, fold, Option, Some, None}
+use Rattle.std.specs.Prelude.{◌≡◌, ◌⊎◌, ◌+◌, ◌≤◌, ℕ, ◌==◌, ◌||◌, Bool, true, false, if◌then◌else◌, List, [], ◌∷◌, ◌++◌, length, take, flat_map, fold, Option, Some, None}
 use Rattle.std.specs.List.{list_all, slice_split, All}
 use Rattle.std.specs.Str.Lines.{lines}
 use Rattle.std.specs.Io.KnownBytes.{Appends}
@@ -95,6 +95,20 @@ pub record IsCutOff {S : Type 0} (serves : Serving S) (input : List ℕ) (old ne
   pub beyond : ¬ AreAllowed (take (count + 1) (whole_lines input))
   pub outcomes : List (Option Outcome)
   pub run : RunLines serves old (take count (lines input)) outcomes new
+  pub text : Appends before after (script_text outcomes)
+
+-- how many newlines there are
+abbrev pub newlines : List ℕ → ℕ
+newlines [] = 0
+newlines (b ∷ bs) = if b == 10 then newlines bs + 1 else newlines bs
+
+-- The reader broke off, and this is the rest: just the lines that had been read with their newlines were answered.
+pub record IsBroken {S : Type 0} (serves : Serving S) (input rest : List ℕ) (old new : S) (before after : Option (List ℕ)) : Type 0 where
+  pub taken : List ℕ
+  pub bytes : input ≡ taken ++ rest
+  pub allowed : AreAllowed (take (newlines taken) (whole_lines input))
+  pub outcomes : List (Option Outcome)
+  pub run : RunLines serves old (take (newlines taken) (lines input)) outcomes new
   pub text : Appends before after (script_text outcomes)
 
 -- the first lines were answered, all of them within the limits

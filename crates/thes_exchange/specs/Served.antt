@@ -7,7 +7,7 @@ use Rattle.thes_exchange.specs.declared.serve.Outcome.{Outcome}
 use Rattle.thes_exchange.specs.declared.script.Ended.{Ended}
 use Rattle.thes_base.specs.declared.fault.PipeFault.{PipeFault}
 use Rattle.thes_exchange.specs.Serving.{Serving}
-use Rattle.thes_exchange.specs.Script.{StepLine, RunLines, AreAllowed, whole_lines, line_of, script_text, noted, ended_with}
+use Rattle.thes_exchange.specs.Script.{StepLine, RunLines, AreAllowed, whole_lines, newlines, line_of, script_text, noted, ended_with}
 
 -- a line was answered or skipped
 pub record ServesLine {S : Type 0} (serves : Serving S) (line : List ℕ) (old new : S) (before after : Option (List ℕ)) (ended ended' : Ended) : Type 0 where
@@ -34,6 +34,14 @@ pub record Ran {S : Type 0} (serves : Serving S) (input : List ℕ) (rest : Opti
   pub allowed : AreAllowed whole
   pub done_count : length done ≡ count
   pub whole_count : length whole ≡ count
+
+-- the bytes taken so far had so many newlines
+pub record Fed (input : List ℕ) (rest : Option (List ℕ)) (count : ℕ) : Type 0 where
+  pub left : List ℕ
+  pub is_left : rest ≡ Some left
+  pub taken : List ℕ
+  pub bytes : input ≡ taken ++ left
+  pub ends : newlines taken ≡ count
 
 -- and their answers were written
 pub record Served {S : Type 0} (serves : Serving S) (input : List ℕ) (rest : Option (List ℕ)) (count : ℕ) (old new : S) (before after : Option (List ℕ)) (ended : Ended) : Type 0 where

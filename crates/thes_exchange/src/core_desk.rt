@@ -3,7 +3,7 @@ ghost use Rattle.std.specs.Prelude.{◌≡◌, ◌⊎◌, ◌↔◌, true, false
 ghost use Rattle.thes_base.specs.Headline.{IsInOrder};
 ghost use Rattle.thes_base.specs.Pipe.{failed_of, ended_of, denied_of, IsFresh, unread, written};
 ghost use Rattle.thes_exchange.specs.CoreDesk.{CoreServes, IsLed, IsViewed};
-ghost use Rattle.thes_exchange.specs.Script.{IsScript, IsStopped, IsCutOff};
+ghost use Rattle.thes_exchange.specs.Script.{IsScript, IsStopped, IsCutOff, IsBroken};
 
 use crate::desk::{Desk, ViewLine, Viewed};
 use crate::request::Query;
@@ -71,6 +71,8 @@ pub fn core_script<R: Read, W: Write>(
         IsStopped CoreServes fault input core.old core.new (written W.contents writer.old) (written W.contents writer.new))) }
     ensures too_long { IsErrOf result PipeFault.TooLong → (denied_of reader.new ≡ true) ⊎ ((denied_of writer.new ≡ true) ⊎ IfSome (unread R.remaining reader.old) (λ input.
         IsCutOff CoreServes input core.old core.new (written W.contents writer.old) (written W.contents writer.new))) }
+    ensures broken { IsErrOf result PipeFault.Read → IfSome (unread R.remaining reader.old) (λ input. IfSome (unread R.remaining reader.new) (λ rest.
+        IsBroken CoreServes input rest core.old core.new (written W.contents writer.old) (written W.contents writer.new))) }
     ensures led { IfSome (unread R.remaining reader.old) (λ input. IsLed core.old core.new) }
     ensures unspent { OnOk result (core.new.spent ≡ false) }
     ensures in_order { core.new.spent ≡ false → IsInOrder core.new.setting.base core.new.state }

@@ -3,7 +3,7 @@ ghost use Rattle.std.specs.Prelude.{◌≡◌, ◌≢◌, ◌≤◌, ◌<◌, �
 ghost use Rattle.std.specs.Io.KnownBytes.{Consumes, Keeps, IsAtEnd};
 ghost use Rattle.std.specs.Str.Lines.{strip_carriage_return};
 ghost use Rattle.thes_base.specs.Pipe.{failed_of, ended_of, denied_of, IsFresh, unread};
-ghost use Rattle.thes_exchange.specs.Feed.{left, TakesByte, TakesLine, IsTooLong, line_text};
+ghost use Rattle.thes_exchange.specs.Feed.{left, TakesByte, TakesLine, TakesPart, IsTooLong, line_text};
 
 use std::alloc::{AllocError, Global};
 use std::io::Read;
@@ -63,6 +63,7 @@ impl Feed {
         requires { IsFresh reader.old }
         ensures byte { IfOk result (λ found. TakesByte found (left self.old (unread R.remaining reader.old)) (left self.new (unread R.remaining reader.new)) (ended_of reader.new)) }
         ensures err { OnErr result (Keeps (left self.old (unread R.remaining reader.old)) (left self.new (unread R.remaining reader.new)) × (ended_of reader.new ≡ false)) }
+        ensures emptied { OnErr result (self.new ≡ []) }
         ensures failed { IsErrOf result Stop.Failed ↔ (failed_of reader.new ≡ true) }
         ensures too_long { IsErrOf result Stop.TooLong → denied_of reader.new ≡ true }
     {
@@ -85,6 +86,7 @@ impl Feed {
             × ((found ≡ Found.Line) → line_text raw (ended_of reader.new) ≡ line.new.items)) }
         ensures end { IfOk result (λ found. (found ≡ Found.End) → Keeps (left self.old (unread R.remaining reader.old)) (left self.new (unread R.remaining reader.new))
             × IsAtEnd (left self.new (unread R.remaining reader.new)) × (ended_of reader.new ≡ true)) }
+        ensures broken { IsErrOf result Stop.Failed → TakesPart (left self.old (unread R.remaining reader.old)) (unread R.remaining reader.new) }
         ensures failed { IsErrOf result Stop.Failed ↔ (failed_of reader.new ≡ true) }
         ensures too_long { IsErrOf result Stop.TooLong → (denied_of reader.new ≡ true) ⊎ IsTooLong (left self.old (unread R.remaining reader.old)) }
     {
@@ -119,7 +121,7 @@ impl Feed {
         ensures more { IfOk result (λ more. more ≡ true → (self.new ≢ []) × (ended_of reader.new ≡ false)) }
         ensures kept { Keeps (left self.old (unread R.remaining reader.old)) (left self.new (unread R.remaining reader.new)) }
         ensures end { IfOk result (λ more. more ≡ false → (self.new ≡ []) × IsAtEnd (left self.new (unread R.remaining reader.new)) × (ended_of reader.new ≡ true)) }
-        ensures err { OnErr result (ended_of reader.new ≡ false) }
+        ensures err { OnErr result ((self.new ≡ []) × (ended_of reader.new ≡ false)) }
         ensures failed { IsErrOf result Stop.Failed ↔ (failed_of reader.new ≡ true) }
         ensures too_long { IsErrOf result Stop.TooLong → denied_of reader.new ≡ true }
     {

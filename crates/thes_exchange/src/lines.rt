@@ -2,7 +2,7 @@
 ghost use Rattle.std.specs.Prelude.{◌≡◌, ◌≢◌, ◌≤◌, ◌⊎◌, ◌+◌, List, ℕ, [], IfOk, OnOk, IsErrOf, ◌↔◌, true, false};
 ghost use Rattle.std.specs.Io.KnownBytes.{Keeps, IsAtEnd};
 ghost use Rattle.thes_base.specs.Pipe.{failed_of, ended_of, denied_of, IsFresh, unread};
-ghost use Rattle.thes_exchange.specs.Feed.{left, TakesLine, IsTooLong, line_text};
+ghost use Rattle.thes_exchange.specs.Feed.{left, TakesLine, TakesPart, IsTooLong, line_text};
 ghost use Rattle.thes_exchange.specs.Script.{lines_limit};
 
 use crate::feed::{Feed, Found};
@@ -49,6 +49,7 @@ impl Lines {
         ensures within { OnOk result (self.new.count ≤ lines_limit) }
         ensures end { IfOk result (λ found. (found ≡ Found.End) → Keeps (left self.old.feed (unread R.remaining reader.old)) (left self.new.feed (unread R.remaining reader.new))
             × IsAtEnd (left self.new.feed (unread R.remaining reader.new)) × (ended_of reader.new ≡ true) × (self.new.count ≡ self.old.count)) }
+        ensures broken { IsErrOf result Stop.Failed → TakesPart (left self.old.feed (unread R.remaining reader.old)) (unread R.remaining reader.new) }
         ensures failed { IsErrOf result Stop.Failed ↔ (failed_of reader.new ≡ true) }
         ensures too_long { IsErrOf result Stop.TooLong → (denied_of reader.new ≡ true) ⊎ (IsTooLong (left self.old.feed (unread R.remaining reader.old))
             ⊎ ((self.old.count ≡ lines_limit) × (raw : List ℕ) × TakesLine (left self.old.feed (unread R.remaining reader.old)) (left self.new.feed (unread R.remaining reader.new)) raw (ended_of reader.new))) }

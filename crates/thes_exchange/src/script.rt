@@ -3,9 +3,9 @@ ghost use Rattle.std.specs.Prelude.{◌≡◌, ◌≢◌, ◌⊎◌, ◌+◌, �
 ghost use Rattle.std.specs.Io.KnownBytes.{Appends, Keeps, IsAtEnd};
 ghost use Rattle.thes_base.specs.Pipe.{failed_of, ended_of, denied_of, IsFresh, unread, written};
 ghost use Rattle.thes_exchange.specs.Feed.{left};
-ghost use Rattle.thes_exchange.specs.Script.{lines_limit, is_blank, StepLine, noted_outcome, nothing_noted, IsScript, IsStopped, IsCutOff};
+ghost use Rattle.thes_exchange.specs.Script.{lines_limit, is_blank, StepLine, noted_outcome, nothing_noted, IsScript, IsStopped, IsCutOff, IsBroken};
 ghost use Rattle.thes_exchange.specs.Serving.{Serves};
-ghost use Rattle.thes_exchange.specs.Served.{ServesLine, StopsAtLine, Served};
+ghost use Rattle.thes_exchange.specs.Served.{ServesLine, StopsAtLine, Served, Fed};
 
 use crate::answer::Reply;
 use crate::desk::Desk;
@@ -134,6 +134,8 @@ fn turn<R: Read, W: Write, D: Desk>(
     ensures ok { OnOk result ((input : List ℕ) (start : D) (before : Option (List ℕ))
         → Served (Serves D.performs D.shows) input (left lines.old.feed (unread R.remaining reader.old)) lines.old.count start desk.old before (written W.contents writer.old) ended.old
         → Served (Serves D.performs D.shows) input (left lines.new.feed (unread R.remaining reader.new)) lines.new.count start desk.new before (written W.contents writer.new) ended.new) }
+    ensures fed { IfOk result (λ going. going ≡ true → (input : List ℕ)
+        → Fed input (left lines.old.feed (unread R.remaining reader.old)) lines.old.count → Fed input (left lines.new.feed (unread R.remaining reader.new)) lines.new.count) }
     ensures end { IfOk result (λ going. going ≡ false → IsAtEnd (left lines.new.feed (unread R.remaining reader.new)) × (ended_of reader.new ≡ true)) }
     ensures going { IfOk result (λ going. going ≡ true → (ended_of reader.new ≡ false) × (lines.old.count < lines.new.count)) }
     ensures open { OnOk result (D.is_open desk.new ≡ true) }
@@ -144,6 +146,10 @@ fn turn<R: Read, W: Write, D: Desk>(
     ensures too_long { IsErrOf result PipeFault.TooLong → (denied_of reader.new ≡ true) ⊎ ((denied_of writer.new ≡ true) ⊎ ((input : List ℕ) (start : D) (before : Option (List ℕ))
         → Served (Serves D.performs D.shows) input (left lines.old.feed (unread R.remaining reader.old)) lines.old.count start desk.old before (written W.contents writer.old) ended.old
         → IsCutOff (Serves D.performs D.shows) input start desk.new before (written W.contents writer.new))) }
+    ensures broken { IsErrOf result PipeFault.Read → (input : List ℕ) (start : D) (before : Option (List ℕ))
+        → Served (Serves D.performs D.shows) input (left lines.old.feed (unread R.remaining reader.old)) lines.old.count start desk.old before (written W.contents writer.old) ended.old
+        → Fed input (left lines.old.feed (unread R.remaining reader.old)) lines.old.count
+        → IfSome (unread R.remaining reader.new) (λ rest. IsBroken (Serves D.performs D.shows) input rest start desk.new before (written W.contents writer.new)) }
     ensures read { IsErrOf result PipeFault.Read ↔ (failed_of reader.new ≡ true) }
     ensures write { IsErrOf result PipeFault.Write ↔ (failed_of writer.new ≡ true) }
     ensures closed { (fault : Fault) → IsErrOf result (PipeFault.Fault fault) → (fault ≡ Fault.OutOfMemory) × (D.is_open desk.new ≡ false) }
@@ -180,6 +186,8 @@ pub fn script<R: Read, W: Write, D: Desk>(
         IsStopped (Serves D.performs D.shows) fault input desk.old desk.new (written W.contents writer.old) (written W.contents writer.new))) }
     ensures too_long { IsErrOf result PipeFault.TooLong → (denied_of reader.new ≡ true) ⊎ ((denied_of writer.new ≡ true) ⊎ IfSome (unread R.remaining reader.old) (λ input.
         IsCutOff (Serves D.performs D.shows) input desk.old desk.new (written W.contents writer.old) (written W.contents writer.new))) }
+    ensures broken { IsErrOf result PipeFault.Read → IfSome (unread R.remaining reader.old) (λ input. IfSome (unread R.remaining reader.new) (λ rest.
+        IsBroken (Serves D.performs D.shows) input rest desk.old desk.new (written W.contents writer.old) (written W.contents writer.new))) }
     ensures read { IsErrOf result PipeFault.Read ↔ (failed_of reader.new ≡ true) }
     ensures write { IsErrOf result PipeFault.Write ↔ (failed_of writer.new ≡ true) }
     ensures fault { (fault : Fault) → IsErrOf result (PipeFault.Fault fault) → (fault ≡ Fault.OutOfMemory) × ((desk.new ≡ desk.old) ⊎ (D.is_open desk.new ≡ false)) }
