@@ -61,6 +61,10 @@ pub enum Parting {
 }
 
 impl From<AllocError> for Parting {
+    ghost use Rattle.thes_cli.specs.declared.words.Parting.TheVariants.{OutOfMemory};
+
+    ghost from_gives = { λ _ parting. parting ≡ OutOfMemory };
+
     fn from(_error: AllocError) -> Parting {
         Parting::OutOfMemory
     }
