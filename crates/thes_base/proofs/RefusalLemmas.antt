@@ -7,17 +7,17 @@ use Rattle.thes_base.specs.declared.fault.Refusal.{Refusal}
 use Rattle.thes_base.specs.declared.fault.Refusal.TheVariants as no
 use Rattle.thes_base.specs.Rows.{Row, refused_if, refused_unless, accepted}
 use Rattle.thes_base.specs.Resources.{set_numbered, Exists, is_outside}
-use Rattle.thes_base.specs.Links.{HeldIn, NoCycle, S27, S46, form_of, is_symmetric, exchanged, norm, sent, sent_link, contracted, unless_broken}
+use Rattle.thes_base.specs.Links.{HeldIn, NoCycle, S27, S46, form_of, is_symmetric, exchanged, norm, sent, sent_link, contracted, unless_consistent}
 use Rattle.thes_base.specs.State.{State}
 use Rattle.thes_base.specs.Triples.{Triple, Asserted}
 use Rattle.thes_base.specs.Skos as skos
 use Rattle.thes_base.specs.Changes.{link_added, dead, merged}
 use Rattle.thes_base.specs.Refusals.{Setting, unless_ends, unless_pair, unless_within, row_link, row_merge}
 use Rattle.thes_base.specs.Legal.{Legal}
-use Rattle.thes_base.specs.Laws.{IsSeen, RefusesByTriples, unless_inconsistent}
+use Rattle.thes_base.specs.Laws.{IsSeen, RefusesByTriples, unless_triples_consistent}
 use Rattle.thes_base.proofs.RowLemmas.{passed_if, passed_unless}
 use Rattle.thes_base.proofs.RowParts.{ends_part, pair_part}
-use Rattle.thes_base.proofs.ResourceLemmas.{killed_at, exists_dead}
+use Rattle.thes_base.proofs.ResourceLemmas.{marked_dead_at, exists_dead}
 use Rattle.thes_base.proofs.ResourcesKept.{resources_merged}
 use Rattle.thes_base.proofs.ConditionLemmas.{owner_exists, ends_exist}
 use Rattle.thes_base.proofs.LinkSets.{link_inserted_cases, in_from_list, in_items, in_map, in_filter}
@@ -41,7 +41,7 @@ module _ (base : List ℕ) (s : State) (seen : IsSeen base s) (rest : Row) (answ
   abbrev triples : Triple → Type 0
   triples = Asserted base s
 
-  row_seen : unless_broken held rest answer ↔ unless_inconsistent triples rest answer
+  row_seen : unless_consistent held rest answer ↔ unless_triples_consistent triples rest answer
   row_seen =
       unless_same (NoCycle held) (skos.NoCycle triples) no.Cycle (refused_unless (S27 held) no.S27 (refused_unless (S46 held) no.S46 rest)) (refused_unless (skos.S27 triples) no.S27 (refused_unless (skos.S46 triples) no.S46 rest)) answer seen.no_cycle
       (unless_same (S27 held) (skos.S27 triples) no.S27 (refused_unless (S46 held) no.S46 rest) (refused_unless (skos.S46 triples) no.S46 rest) answer seen.s27
@@ -98,7 +98,7 @@ module _ (base : List ℕ) (s : State) (legal : Legal base s) where
       let r = known.0.0.0 in
       let at = known.0.0.1 in
       let labels = labels_merged s.resources s.labels source target legal.labels (inr (inl kinds.0.1)) in
-      subst (λ rs. IsSeen base (record (merged source target s) { resources = rs })) (sym (killed_at s.resources source (Some target) r at))
+      subst (λ rs. IsSeen base (record (merged source target s) { resources = rs })) (sym (marked_dead_at s.resources source (Some target) r at))
       (sees_rules base (record (merged source target s) { resources = set_numbered s.resources source (dead (Some target) r) })
       (resources_merged base s.resources s.iris source target r at legal.resources kinds.0.0 kinds.0.1 live.0.1 apart.0 schemes.0)
       (λ l held. let ends = contracted_ends source target known.0.1 l held in (exists_dead s.resources source (Some target) r at l.a ends.0, exists_dead s.resources source (Some target) r at l.b ends.1))
@@ -137,9 +137,9 @@ module _ (setting : Setting) (s : State) (legal : Legal setting.base s) (answer 
     is_there = HeldIn s.links (norm (is_outside s.resources) l)
 
     abbrev link_broken : Row
-    link_broken = unless_broken (HeldIn (link_added l s).links) (unless_within setting s (link_added l s))
+    link_broken = unless_consistent (HeldIn (link_added l s).links) (unless_within setting s (link_added l s))
 
-    link_by_triples : unless_ends s.resources l accepted None → (¬ is_there) → row_link setting s (link_added l s) l answer ↔ unless_inconsistent (Asserted setting.base (link_added l s)) (unless_within setting s (link_added l s)) answer
+    link_by_triples : unless_ends s.resources l accepted None → (¬ is_there) → row_link setting s (link_added l s) l answer ↔ unless_triples_consistent (Asserted setting.base (link_added l s)) (unless_within setting s (link_added l s)) answer
     link_by_triples ends new =
         let same = row_seen setting.base (link_added l s) (link_seen setting.base s legal l (passed_unless ends).0) (unless_within setting s (link_added l s)) answer in
         let rest : Row = refused_if is_there no.LinkThere link_broken in
@@ -147,9 +147,9 @@ module _ (setting : Setting) (s : State) (legal : Legal setting.base s) (answer 
 
   module _ (source target : ℕ) where
     abbrev merge_broken : Row
-    merge_broken = unless_broken (HeldIn (merged source target s).links) (unless_within setting s (merged source target s))
+    merge_broken = unless_consistent (HeldIn (merged source target s).links) (unless_within setting s (merged source target s))
 
-    merge_by_triples : unless_pair s.resources source target accepted None → row_merge setting s (merged source target s) source target answer ↔ unless_inconsistent (Asserted setting.base (merged source target s)) (unless_within setting s (merged source target s)) answer
+    merge_by_triples : unless_pair s.resources source target accepted None → row_merge setting s (merged source target s) source target answer ↔ unless_triples_consistent (Asserted setting.base (merged source target s)) (unless_within setting s (merged source target s)) answer
     merge_by_triples pair =
         let same = row_seen setting.base (merged source target s) (merge_seen setting.base s legal source target pair) (unless_within setting s (merged source target s)) answer in
         (λ row. same.0 (past_pair s.resources source target merge_broken answer pair row), λ row. (pair_part s.resources source target).passes merge_broken answer pair (same.1 row))

@@ -19,14 +19,14 @@ use Rattle.thes_base.specs.Resources.{numbered, set_numbered, Exists, IsScheme, 
 use Rattle.thes_base.specs.Links.{HeldIn, norm, contracted}
 use Rattle.thes_base.specs.Postings.{stands_at, standing_count, move_count}
 use Rattle.thes_base.specs.State.{State}
-use Rattle.thes_base.specs.Changes.{killed, dead, made, outside_made, histories_split, scheme_resource, collection_resource, merged, split_off, deprecated, is_listed, concept_resource, outside_resource, next_number}
+use Rattle.thes_base.specs.Changes.{marked_dead, dead, made, outside_made, histories_split, scheme_resource, collection_resource, merged, split_off, deprecated, is_listed, concept_resource, outside_resource, next_number}
 use Rattle.thes_base.specs.Legal.{Legal, LegalLinks}
 use Rattle.thes_base.specs.Machine.{next_state, row_of}
 use Rattle.thes_base.specs.Refusals.{Setting, IsSetting, unless_within, unless_unique, unless_owner, unless_pair, unless_listed, unless_live_concept, row_merge, row_split}
 use Rattle.thes_base.proofs.RowLemmas.{passed_if, passed_unless}
 use Rattle.thes_base.proofs.RowParts.{IsPart, live_concept_part, listed_part, unique_part}
 use Rattle.thes_base.proofs.NumberedLemmas.{push_old, push_new, push_cases, numbered_bound, set_cases, set_same, set_other}
-use Rattle.thes_base.proofs.ResourceLemmas.{killed_at, same_some, live_of_parts, live_from_test}
+use Rattle.thes_base.proofs.ResourceLemmas.{marked_dead_at, same_some, live_of_parts, live_from_test}
 use Rattle.thes_base.proofs.MoveLemmas.{count_moved}
 use Rattle.thes_base.proofs.ListedLemmas.{listed_count}
 use Rattle.thes_vocab.specs.Vocabulary.{Vocabulary, empty_vocabulary, IsLiveOwner}
@@ -133,8 +133,8 @@ knows_marked t knows n = go (same_or_other n (length t.vocab.resources + 1))
         ∙ sym (ap (is_outside (t.vocab.resources ++ outside_resource ∷ [])) new ∙ outside_new t.vocab.resources outside_resource)
 
 -- a death changes no kind
-pub outside_killed : (rs : List Resource) (n : ℕ) (rep : Option ℕ) (m : ℕ) → is_outside (killed n rep rs) m ≡ is_outside rs m
-outside_killed rs n rep m = go (option_cases (numbered rs n))
+pub outside_marked_dead : (rs : List Resource) (n : ℕ) (rep : Option ℕ) (m : ℕ) → is_outside (marked_dead n rep rs) m ≡ is_outside rs m
+outside_marked_dead rs n rep m = go (option_cases (numbered rs n))
   where
     kind_same : (r : Resource) → test_of (Some (dead rep r)) ≡ test_of (Some r)
     kind_same r = refl
@@ -151,9 +151,9 @@ outside_killed rs n rep m = go (option_cases (numbered rs n))
           | inr before ↦ absurd (let bad = sym none ∙ before.1 in cc)
         ]
 
-    go : (numbered rs n ≡ None) ⊎ ((x : Resource) × (numbered rs n ≡ Some x)) → is_outside (killed n rep rs) m ≡ is_outside rs m
+    go : (numbered rs n ≡ None) ⊎ ((x : Resource) × (numbered rs n ≡ Some x)) → is_outside (marked_dead n rep rs) m ≡ is_outside rs m
     go (inl none) = ap (λ (o : Option Resource). is_outside (elim o [ None ↦ rs | Some r ↦ set_numbered rs n (dead rep r) ]) m) none
-    go (inr (r, at)) = ap (λ (xs : List Resource). is_outside xs m) (killed_at rs n rep r at) ∙ at_set r at (same_or_other m n)
+    go (inr (r, at)) = ap (λ (xs : List Resource). is_outside xs m) (marked_dead_at rs n rep r at) ∙ at_set r at (same_or_other m n)
 
 -- What an accepted row says of its arguments.
 

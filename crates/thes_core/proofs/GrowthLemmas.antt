@@ -17,12 +17,12 @@ use Rattle.thes_base.proofs.LinkSets.{links_total}
 use Rattle.thes_base.specs.Labels.{Label, Labels, HasLabel, label_cmp, S13, S14, preferred_in, is_preferred_in}
 use Rattle.thes_base.specs.Postings.{move_count, stands_at, standing_count}
 use Rattle.thes_base.specs.State.{State, Within, Fits}
-use Rattle.thes_base.specs.Changes.{label, made, outside_made, label_added, labels_relabelled, relabelled, renamed, next_number, link_added, merged, taken_labels, split_off, is_listed, posted, killed, dead}
+use Rattle.thes_base.specs.Changes.{label, made, outside_made, label_added, labels_relabelled, relabelled, renamed, next_number, link_added, merged, taken_labels, split_off, is_listed, posted, marked_dead, dead}
 use Rattle.thes_base.specs.Legal.{Legal, LegalLabels}
 use Rattle.thes_base.proofs.LabelSets.{len_inserted, labels_total, labels_exact, inserted_cases}
 use Rattle.thes_base.proofs.LabelsKept.{removed_cases}
 use Rattle.thes_base.proofs.PreferredLemmas.{preferred_found, preferred_of_label}
-use Rattle.thes_base.proofs.ResourceLemmas.{killed_at, length_set}
+use Rattle.thes_base.proofs.ResourceLemmas.{marked_dead_at, length_set}
 use Rattle.std.proofs.lemmas.List.Sums.{sum_by-append, sum_by-cons}
 use Rattle.thes_base.specs.declared.data.Move.{Move}
 use Rattle.thes_base.proofs.MoveLemmas.{count_moved, length_moved}
@@ -187,16 +187,16 @@ link_grows s l new = record {
   moves = same _;
 }
 
-length_killed : (rs : List Resource) (n : ℕ) (rep : Option ℕ) → length (killed n rep rs) ≡ length rs
-length_killed rs n rep = go (numbered rs n) refl
+length_marked_dead : (rs : List Resource) (n : ℕ) (rep : Option ℕ) → length (marked_dead n rep rs) ≡ length rs
+length_marked_dead rs n rep = go (numbered rs n) refl
   where
-    go : (o : Option Resource) → numbered rs n ≡ o → length (killed n rep rs) ≡ length rs
+    go : (o : Option Resource) → numbered rs n ≡ o → length (marked_dead n rep rs) ≡ length rs
     go None e = ap (λ (o : Option Resource). length {A = Resource} (elim o [ None ↦ rs | Some x ↦ set_numbered rs n (dead rep x) ])) e
-    go (Some r) e = ap length (killed_at rs n rep r e) ∙ length_set rs (n - 1) (dead rep r)
+    go (Some r) e = ap length (marked_dead_at rs n rep r e) ∙ length_set rs (n - 1) (dead rep r)
 
 pub merged_grows : (s : State) (source target taken : ℕ) → set.len (set.union s.labels (taken_labels source target s.labels)) ≡ set.len s.labels + taken → set.len (contracted (is_outside s.resources) source target s.links) ≤ set.len s.links → Grows s (merged source target s) (growth_of 0 taken 0 0 (standing_count source s.histories))
 merged_grows s source target taken labels links = record {
-  resources = inl (length_killed s.resources source (Some target) ∙ (let z : length s.resources ≡ length s.resources + 0 = omega arith in z));
+  resources = inl (length_marked_dead s.resources source (Some target) ∙ (let z : length s.resources ≡ length s.resources + 0 = omega arith in z));
   labels = inl labels;
   links = inr (refl, links);
   postings = inl (length_moved (stands_at source) target (move_count s.histories + 1) s.histories ∙ (let z : length s.histories ≡ length s.histories + 0 = omega arith in z));

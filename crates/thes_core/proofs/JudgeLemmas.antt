@@ -11,7 +11,7 @@ use Rattle.thes_base.specs.Rows.{Row, refused_if, refused_unless, accepted, foun
 use Rattle.thes_base.specs.Resources.{Iris, Exists, IsConcept, CanOwn, numbered, scheme_of, is_concept_kind, is_outside}
 use Rattle.thes_base.specs.declared.data.LabelKind.TheVariants.{Pref}
 use Rattle.thes_base.specs.Labels.{Label, Labels, IsTaken}
-use Rattle.thes_base.specs.Links.{Links, HeldIn, norm, contracted, IsFirstBroken, unless_broken}
+use Rattle.thes_base.specs.Links.{Links, HeldIn, norm, contracted, IsFirstBroken, unless_consistent}
 use Rattle.thes_base.specs.State.{State, Within as IsWithin}
 use Rattle.thes_base.specs.Refusals.{Setting, unless_within, unless_unique, unless_scheme, unless_owner, unless_label, unless_dropped, unless_relabelled, unless_ends, unless_pair, unless_live_concept, unless_listed, row_add_label, row_drop_label, row_relabel, row_link, row_unlink, row_merge, row_split, row_post}
 use Rattle.thes_base.proofs.LinkLemmas.{row_of_first}
@@ -43,18 +43,18 @@ within_row setting s t growth answer grows (inl (full, is)) = inl (λ within. fu
 within_row setting s t growth answer grows (inr (room, is)) = inr (within_of_room setting.limits s t growth grows room, is)
 
 -- a name found first is the row's, and else the rest is
-pub broken_stops : (Held : Link → Type 0) (rest : Row) (r : Refusal) → IsFirstBroken Held (Some r) → unless_broken Held rest (Some r)
+pub broken_stops : (Held : Link → Type 0) (rest : Row) (r : Refusal) → IsFirstBroken Held (Some r) → unless_consistent Held rest (Some r)
 broken_stops Held rest r broken = row_of_first Held rest (Some r) (Some r) broken refl
 
-pub broken_passes : (Held : Link → Type 0) (rest : Row) (answer : Option Refusal) → IsFirstBroken Held None → rest answer → unless_broken Held rest answer
+pub broken_passes : (Held : Link → Type 0) (rest : Row) (answer : Option Refusal) → IsFirstBroken Held None → rest answer → unless_consistent Held rest answer
 broken_passes Held rest answer broken says = row_of_first Held rest answer None broken says
 
 -- What speaks against a link: it is held, or the links with it break a rule.
-pub link_stops : (links : Links) (l : Link) (rest : Row) (r : Refusal) → row_of_add links l (Some r) → refused_if (HeldIn links l) no.LinkThere (unless_broken (HeldIn (set.insert links l)) rest) (Some r)
+pub link_stops : (links : Links) (l : Link) (rest : Row) (r : Refusal) → row_of_add links l (Some r) → refused_if (HeldIn links l) no.LinkThere (unless_consistent (HeldIn (set.insert links l)) rest) (Some r)
 link_stops links l rest r (inl held) = inl held
 link_stops links l rest r (inr (new, broken)) = inr (new, broken_stops (HeldIn (set.insert links l)) rest r broken)
 
-pub link_passes : (links : Links) (l : Link) (rest : Row) (answer : Option Refusal) → row_of_add links l None → rest answer → refused_if (HeldIn links l) no.LinkThere (unless_broken (HeldIn (set.insert links l)) rest) answer
+pub link_passes : (links : Links) (l : Link) (rest : Row) (answer : Option Refusal) → row_of_add links l None → rest answer → refused_if (HeldIn links l) no.LinkThere (unless_consistent (HeldIn (set.insert links l)) rest) answer
 link_passes links l rest answer (inl (held, e)) says = absurd (cc)
 link_passes links l rest answer (inr (new, broken)) says = inr (new, broken_passes (HeldIn (set.insert links l)) rest answer broken says)
 
@@ -147,7 +147,7 @@ module _ (t : Thesaurus) (kept : IsKept t) where
     kept_link = norm (is_outside t.vocab.resources) l
 
     abbrev link_rest : Row
-    link_rest = refused_if (HeldIn t.graph.links kept_link) no.LinkThere (unless_broken (HeldIn (set.insert t.graph.links kept_link)) (room (link_added l s)))
+    link_rest = refused_if (HeldIn t.graph.links kept_link) no.LinkThere (unless_consistent (HeldIn (set.insert t.graph.links kept_link)) (room (link_added l s)))
 
     -- the graph's own words for the link as it is kept
     as_kept : (answer : Option Refusal) → row_of_add t.graph.links (norm (set.contains t.graph.outside) l) answer → row_of_add t.graph.links kept_link answer
@@ -178,7 +178,7 @@ module _ (t : Thesaurus) (kept : IsKept t) where
     after_merge = merged source target s
 
     abbrev merge_rest : Row
-    merge_rest = unless_broken (HeldIn after_merge.links) (room after_merge)
+    merge_rest = unless_consistent (HeldIn after_merge.links) (room after_merge)
 
     as_joined : (answer : Option Refusal) → IsFirstBroken (HeldIn (contracted (set.contains t.graph.outside) source target t.graph.links)) answer → IsFirstBroken (HeldIn after_merge.links) answer
     as_joined answer broken = subst (λ (f : ℕ → Bool). IsFirstBroken (HeldIn (contracted f source target t.graph.links)) answer) outside_same broken

@@ -6,7 +6,7 @@ use Rattle.thes_base.specs.declared.data.Link.{Link}
 use Rattle.thes_base.specs.declared.fault.Refusal.{Refusal}
 use Rattle.thes_base.specs.declared.fault.Refusal.TheVariants as no
 use Rattle.thes_base.specs.Rows.{Row, refused_if, found_or}
-use Rattle.thes_base.specs.Links.{Links, link_cmp, HeldIn, norm, sent, sent_link, contracted, unless_broken}
+use Rattle.thes_base.specs.Links.{Links, link_cmp, HeldIn, norm, sent, sent_link, contracted, unless_consistent}
 use Rattle.thes_base.proofs.LinkSets.{links_total, link_inserted_cases}
 use Rattle.thes_base.proofs.LinkLemmas.{row_of_first, first_of_row}
 use Rattle.thes_graph.specs.Judge.{row_of_add}
@@ -21,11 +21,11 @@ use Rattle.thes_graph.proofs.IndexLemmas.{held_of_listed, listed_held, listed_so
 -- The answer of `judge_add`, or else as the rest says, is what the row says from LinkThere on; and the other way.
 module _ (links : Links) (new : Link) (rest : Row) (answer : Option Refusal) where
   pub row_of_added : (first : Option Refusal) → row_of_add links new first → found_or first rest answer
-      → refused_if (HeldIn links new) no.LinkThere (unless_broken (HeldIn (insert links new)) rest) answer
+      → refused_if (HeldIn links new) no.LinkThere (unless_consistent (HeldIn (insert links new)) rest) answer
   row_of_added first (inl (held, there)) says = inl (held, subst (λ (o : Option Refusal). found_or o rest answer) there says)
   row_of_added first (inr (off, broken)) says = inr (off, row_of_first (HeldIn (insert links new)) rest answer first broken says)
 
-  pub added_of_row : (first : Option Refusal) → row_of_add links new first → refused_if (HeldIn links new) no.LinkThere (unless_broken (HeldIn (insert links new)) rest) answer
+  pub added_of_row : (first : Option Refusal) → row_of_add links new first → refused_if (HeldIn links new) no.LinkThere (unless_consistent (HeldIn (insert links new)) rest) answer
       → found_or first rest answer
   added_of_row first (inl (held, there)) (inl (_, is)) = subst (λ (o : Option Refusal). found_or o rest answer) (sym there) is
   added_of_row first (inl (held, there)) (inr (off, _)) = absurd (off held)

@@ -7,7 +7,7 @@ use Rattle.thes_base.specs.Resources.{Iris, IsLive, IsLiveConcept, CanOwn, schem
 use Rattle.thes_base.specs.declared.data.LabelKind.TheVariants.{Pref}
 use Rattle.thes_base.specs.Labels.{Labels, HasLabel}
 use Rattle.thes_base.specs.State.{State}
-use Rattle.thes_base.specs.Changes.{killed}
+use Rattle.thes_base.specs.Changes.{marked_dead}
 
 pub record Vocabulary : Type 0 where
   -- what the IRIs of its own resources begin with
@@ -32,7 +32,7 @@ with_labels v labels = record { base = v.base; resources = v.resources; iris = v
 
 -- the vocabulary after a death
 abbrev pub with_dead : Vocabulary → ℕ → Option ℕ → Vocabulary
-with_dead v n replaced = record { base = v.base; resources = killed n replaced v.resources; iris = v.iris; labels = v.labels }
+with_dead v n replaced = record { base = v.base; resources = marked_dead n replaced v.resources; iris = v.iris; labels = v.labels }
 
 -- a live scheme, concept or collection: what requests change labels of
 pub record IsLiveOwner (resources : List Resource) (n : ℕ) : Type 0 where

@@ -6,7 +6,7 @@ use Rattle.thes_base.specs.Changes.{merged, taken_labels, histories_merged}
 use Rattle.thes_vocab.specs.Vocabulary.{Vocabulary, with_labels, with_dead}
 use Rattle.thes_core.specs.View.{state_of}
 use Rattle.thes_core.proofs.JudgeLemmas.{outside_same}
-use Rattle.thes_core.proofs.ApplyLemmas.{becomes, outside_killed, merge_fits}
+use Rattle.thes_core.proofs.ApplyLemmas.{becomes, outside_marked_dead, merge_fits}
 use Rattle.thes_core.proofs.thesaurus.Thesaurus.merge.Goals as goal
 
 pub move_all-requires-clause-fits : goal.move_all-requires-clause-fits
@@ -21,4 +21,4 @@ returns-clause-state c =
     (c.mark_dead.ensures ∙ ap (λ (v : Vocabulary). with_dead v c.args.source (Some c.args.target)) c.in_ok-take_labels.ensures.ok)
     c.in_ok-contract.ensures.ok c.in_ok-moved.ensures.ok refl
     (λ i. record (merged c.args.source c.args.target (state_of t)) { links = contracted (outside_same t c.requires.kept i) c.args.source c.args.target t.graph.links })
-    refl (λ n. c.requires.kept.outside n ∙ sym (outside_killed t.vocab.resources c.args.source (Some c.args.target) n))
+    refl (λ n. c.requires.kept.outside n ∙ sym (outside_marked_dead t.vocab.resources c.args.source (Some c.args.target) n))

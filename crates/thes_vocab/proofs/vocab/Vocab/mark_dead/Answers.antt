@@ -2,7 +2,7 @@ use Rattle.std.proofs.Common.{◌∙◌, ◌-◌, sym, ap, subst, List, get_or, 
 use Rattle.thes_base.specs.declared.data.Resource.{Resource}
 use Rattle.thes_base.specs.Resources.{IsLiveConcept}
 use Rattle.thes_base.specs.Changes.{dead}
-use Rattle.thes_base.proofs.ResourceLemmas.{killed_at}
+use Rattle.thes_base.proofs.ResourceLemmas.{marked_dead_at}
 use Rattle.thes_vocab.specs.Vocabulary.{Vocabulary, IsReplacement, with_dead}
 use Rattle.thes_vocab.specs.Listed.{IsRemoved}
 use Rattle.thes_vocab.specs.Kept.{IsKept}
@@ -30,6 +30,6 @@ returns c =
     let live = subst (λ (v : Vocabulary). IsLiveConcept v.resources c.args.n) (sym c.self.view_is) c.requires.concept in
     let at = numbered_at rs c.args.n r live.0 live.1 (c.index-resource.ensures ∙ ap (λ k. get_or rs (k - 1) r) c.get.ensures.value) in
     let new = ap (dead c.args.replaced) c.resource.view_is in
-    let list = (λ i. set rs (c.get.ensures.value i - 1) (new i)) ∙ sym (killed_at rs c.args.n c.args.replaced r at) in
+    let list = (λ i. set rs (c.get.ensures.value i - 1) (new i)) ∙ sym (marked_dead_at rs c.args.n c.args.replaced r at) in
     ap (λ (x : List Resource). let v : Vocabulary = record { base = inside.base; resources = x; iris = inside.iris; labels = inside.labels } in v) list
     ∙ ap (λ (v : Vocabulary). with_dead v c.args.n c.args.replaced) c.self.view_is
