@@ -1,32 +1,29 @@
 -- What the changes of the parts make of the whole.
-use Rattle.std.proofs.Common.{◌≡◌, ◌≢◌, ◌⊎◌, ◌<◌, ◌≤◌, ◌^◌, ◌+◌, ℕ, zero, suc, length, List, [], ◌∷◌, ◌++◌, refl, sym, ap, ◌∙◌, subst, arith, inl, inr, Bool, true, false, ◌||◌, cond, eqb-true, eq-eqb, length-append}
+use Rattle.std.proofs.Common.{◌≡◌, ◌≢◌, ◌⊎◌, ◌<◌, ◌^◌, ◌+◌, ℕ, zero, suc, length, List, [], ◌∷◌, ◌++◌, refl, sym, ap, ◌∙◌, subst, arith, inl, inr, Bool, true, false, ◌||◌, eqb-true, eq-eqb, length-append}
 use borrow.Author.Tests.{eqb-false}
-use Rattle.std.specs.Prelude.{Option, None, Some, count_by, ◌==◌, slice_get}
+use Rattle.std.specs.Prelude.{Option, None, Some, ◌==◌}
 use Rattle.std.specs.Option.{option_map_or}
-use Rattle.std.specs.Ordering.{nat_cmp, eq_by_cmp, is_eq}
-use Rattle.std.specs.Cmp.{nat_cmp_total, unsigned_tied, nat_eq_equiv}
+use Rattle.std.specs.Ordering.{nat_cmp, eq_by_cmp}
+use Rattle.std.specs.Cmp.{nat_cmp_total, unsigned_tied}
 use Rattle.std.specs.FinSet as set
 use Rattle.thes_base.specs.declared.data.Resource.{Resource}
 use Rattle.thes_base.specs.declared.data.NewResource.{NewResource}
 use Rattle.thes_base.specs.declared.data.NewResource.TheVariants.{Scheme, Concept, Collection, Outside}
-use Rattle.thes_base.specs.declared.data.Link.{Link}
 use Rattle.thes_base.specs.declared.data.History.{History}
 use Rattle.thes_base.specs.declared.request.Command.{Command}
 use Rattle.thes_base.specs.declared.request.Command.TheVariants as request
-use Rattle.thes_base.specs.Data.{LabelData}
 use Rattle.thes_base.specs.Rows.{Row, accepted}
-use Rattle.thes_base.specs.Resources.{numbered, set_numbered, Exists, IsScheme, IsConcept, IsLive, IsLiveConcept, CanOwn, scheme_of, is_outside, is_outside_kind}
-use Rattle.thes_base.specs.Links.{HeldIn, norm, contracted}
+use Rattle.thes_base.specs.Resources.{numbered, set_numbered, IsScheme, IsConcept, scheme_of, is_outside, is_outside_kind}
 use Rattle.thes_base.specs.Postings.{stands_at, standing_count, move_count}
 use Rattle.thes_base.specs.State.{State}
-use Rattle.thes_base.specs.Changes.{marked_dead, dead, made, outside_made, histories_split, scheme_resource, collection_resource, merged, split_off, deprecated, is_listed, concept_resource, outside_resource, next_number}
-use Rattle.thes_base.specs.Legal.{Legal, LegalLinks}
-use Rattle.thes_base.specs.Machine.{next_state, row_of}
-use Rattle.thes_base.specs.Refusals.{Setting, IsSetting, unless_within, unless_unique, unless_owner, unless_pair, unless_listed, unless_live_concept, row_merge, row_split}
-use Rattle.thes_base.proofs.RowLemmas.{passed_if, passed_unless}
-use Rattle.thes_base.proofs.RowParts.{IsPart, live_concept_part, listed_part, unique_part}
+use Rattle.thes_base.specs.Changes.{marked_dead, dead, made, outside_made, histories_split, scheme_resource, collection_resource, split_off, is_listed, concept_resource, outside_resource, next_number}
+use Rattle.thes_base.specs.Legal.{Legal}
+use Rattle.thes_base.specs.Machine.{next_state}
+use Rattle.thes_base.specs.Refusals.{Setting, IsSetting, unless_within, unless_unique, unless_owner, unless_listed, unless_live_concept}
+use Rattle.thes_base.proofs.RowLemmas.{passed_unless}
+use Rattle.thes_base.proofs.RowParts.{live_concept_part, listed_part, unique_part}
 use Rattle.thes_base.proofs.NumberedLemmas.{push_old, push_new, push_cases, numbered_bound, set_cases, set_same, set_other}
-use Rattle.thes_base.proofs.ResourceLemmas.{marked_dead_at, same_some, live_of_parts, live_from_test}
+use Rattle.thes_base.proofs.ResourceLemmas.{marked_dead_at, same_some}
 use Rattle.thes_base.proofs.MoveLemmas.{count_moved}
 use Rattle.thes_base.proofs.ListedLemmas.{listed_count}
 use Rattle.thes_vocab.specs.Vocabulary.{Vocabulary, empty_vocabulary, IsLiveOwner}
@@ -41,7 +38,6 @@ use Rattle.thes_core.specs.Decides.{Accepts}
 use Rattle.thes_core.specs.Requests.{command_of, is_foreign}
 use Rattle.thes_core.specs.View.{state_of, setting_of, IsKept, Becomes, KnowsOutside}
 use Rattle.thes_core.proofs.NextLemmas.{next_legal}
-use Rattle.thes_core.proofs.JudgeLemmas.{outside_same}
 
 -- The parts after a change, each as it is known, make the state.
 pub becomes : (old new : Thesaurus) (s : State) (v : Vocabulary) (g : Net) (b : List History) → new.vocab ≡ v → new.graph ≡ g → new.book ≡ b → new.limits ≡ old.limits

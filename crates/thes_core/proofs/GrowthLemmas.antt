@@ -1,25 +1,21 @@
 -- How much each request adds, and so when the limits leave room for it.
-use Rattle.std.proofs.Common.{◌≡◌, ◌≢◌, ◌⊎◌, ◌<◌, ◌≤◌, ℕ, zero, suc, ◌+◌, ◌-◌, length, List, [], ◌∷◌, ◌++◌, refl, sym, ap, ◌∙◌, subst, arith, inl, inr, Bool, true, false, cond, length-append, eq-eqb, ◌&&◌}
-use Rattle.std.specs.Prelude.{◌↔◌, Option, None, Some, find, max, count_by, option_map, if◌then◌else◌}
-use Rattle.std.specs.Ordering.{nat_cmp, is_eq}
-use Rattle.std.specs.Cmp.{tied_itself}
-use Rattle.std.proofs.lemmas.Cmp.{nat_list_cmp_total}
+use Rattle.std.proofs.Common.{◌≡◌, ◌⊎◌, ◌≤◌, ℕ, zero, suc, ◌+◌, ◌-◌, length, List, [], ◌∷◌, ◌++◌, refl, sym, ap, ◌∙◌, arith, inl, inr, Bool, true, false, cond, length-append}
+use Rattle.std.specs.Prelude.{Option, None, Some, count_by, if◌then◌else◌}
 use Rattle.std.specs.FinSet as set
 use Rattle.thes_base.specs.declared.data.Resource.{Resource}
-use Rattle.thes_base.specs.declared.data.LabelKind.{LabelKind}
-use Rattle.thes_base.specs.declared.data.LabelKind.TheVariants.{Pref, Alt, Hidden, Scope}
+use Rattle.thes_base.specs.declared.data.LabelKind.TheVariants.{Pref, Alt}
 use Rattle.thes_base.specs.declared.data.Link.{Link}
 use Rattle.thes_base.specs.declared.data.History.{History}
 use Rattle.thes_base.specs.declared.data.Limits.{Limits}
 use Rattle.thes_base.specs.Resources.{CanOwn, numbered, is_outside, set_numbered}
 use Rattle.thes_base.specs.Links.{HeldIn, norm, contracted}
 use Rattle.thes_base.proofs.LinkSets.{links_total}
-use Rattle.thes_base.specs.Labels.{Label, Labels, HasLabel, label_cmp, S13, S14, preferred_in, is_preferred_in}
+use Rattle.thes_base.specs.Labels.{Label, Labels, HasLabel, label_cmp, S13, S14}
 use Rattle.thes_base.specs.Postings.{move_count, stands_at, standing_count}
 use Rattle.thes_base.specs.State.{State, Within, Fits}
 use Rattle.thes_base.specs.Changes.{label, made, outside_made, label_added, labels_relabelled, relabelled, renamed, next_number, link_added, merged, taken_labels, split_off, is_listed, posted, marked_dead, dead}
 use Rattle.thes_base.specs.Legal.{Legal, LegalLabels}
-use Rattle.thes_base.proofs.LabelSets.{len_inserted, labels_total, labels_exact, inserted_cases}
+use Rattle.thes_base.proofs.LabelSets.{len_inserted, labels_total, inserted_cases}
 use Rattle.thes_base.proofs.LabelsKept.{removed_cases}
 use Rattle.thes_base.proofs.PreferredLemmas.{preferred_found, preferred_of_label}
 use Rattle.thes_base.proofs.ResourceLemmas.{marked_dead_at, length_set}

@@ -1,26 +1,25 @@
 -- How the parts of a row, judged by the vocabulary, the graph and the book, make the row.
-use Rattle.std.proofs.Common.{◌≡◌, ◌≢◌, ◌⊎◌, ◌≤◌, ◌+◌, ℕ, length, List, [], ◌∷◌, ◌++◌, refl, sym, ap, ◌∙◌, subst, inl, inr, Bool, true, false}
-use Rattle.std.specs.Prelude.{Option, None, Some, count_by, not, ◌==◌, MatchOption, is_some}
+use Rattle.std.proofs.Common.{◌≡◌, ◌≤◌, ◌+◌, ℕ, length, List, [], ◌∷◌, ◌++◌, refl, sym, ◌∙◌, subst, inl, inr, Bool, true, false}
+use Rattle.std.specs.Prelude.{Option, None, Some, count_by, MatchOption, is_some}
 use Rattle.std.specs.FinSet as set
 use Rattle.thes_base.specs.declared.data.Resource.{Resource}
 use Rattle.thes_base.specs.declared.data.Link.{Link}
-use Rattle.thes_base.specs.declared.data.History.{History}
 use Rattle.thes_base.specs.declared.fault.Refusal.{Refusal}
 use Rattle.thes_base.specs.declared.fault.Refusal.TheVariants as no
-use Rattle.thes_base.specs.Rows.{Row, refused_if, refused_unless, accepted, found_or}
-use Rattle.thes_base.specs.Resources.{Iris, Exists, IsConcept, CanOwn, numbered, scheme_of, is_concept_kind, is_outside}
+use Rattle.thes_base.specs.Rows.{Row, refused_if, refused_unless, accepted}
+use Rattle.thes_base.specs.Resources.{Iris, IsConcept, CanOwn, numbered, scheme_of, is_concept_kind, is_outside}
 use Rattle.thes_base.specs.declared.data.LabelKind.TheVariants.{Pref}
 use Rattle.thes_base.specs.Labels.{Label, Labels, IsTaken}
 use Rattle.thes_base.specs.Links.{Links, HeldIn, norm, contracted, IsFirstBroken, unless_consistent}
-use Rattle.thes_base.specs.State.{State, Within as IsWithin}
-use Rattle.thes_base.specs.Refusals.{Setting, unless_within, unless_unique, unless_scheme, unless_owner, unless_label, unless_dropped, unless_relabelled, unless_ends, unless_pair, unless_live_concept, unless_listed, row_add_label, row_drop_label, row_relabel, row_link, row_unlink, row_merge, row_split, row_post}
+use Rattle.thes_base.specs.State.{State}
+use Rattle.thes_base.specs.Refusals.{Setting, unless_within, unless_unique, unless_owner, unless_label, unless_dropped, unless_relabelled, unless_ends, unless_pair, unless_live_concept, unless_listed, row_add_label, row_drop_label, row_relabel, row_link, row_unlink, row_merge, row_split, row_post}
 use Rattle.thes_base.proofs.LinkLemmas.{row_of_first}
 use Rattle.thes_base.specs.declared.data.NewResource.{NewResource}
 use Rattle.thes_base.specs.declared.data.NewResource.TheVariants.{Scheme, Concept, Collection, Outside}
 use Rattle.thes_base.specs.Legal.{Legal, LegalLabels, LegalResources}
 use Rattle.thes_base.specs.Machine.{next_state, row_of, owned}
 use Rattle.thes_base.specs.Changes.{label, is_listed, made, outside_made, label_added, relabelled, link_added, merged, split_off, posted, scheme_resource, concept_resource, collection_resource}
-use Rattle.thes_base.proofs.RowParts.{IsPart, concept_part, scheme_part, foreign_part, unique_part, owner_part, label_part, dropped_part, relabelled_part, ends_part, live_concept_part, pair_part, listed_part}
+use Rattle.thes_base.proofs.RowParts.{concept_part, scheme_part, foreign_part, unique_part, owner_part, label_part, relabelled_part, ends_part, live_concept_part, pair_part, listed_part}
 use Rattle.thes_base.proofs.RowLemmas.{passed_if, passed_unless}
 use Rattle.thes_base.specs.Data.{LabelData}
 use Rattle.thes_base.specs.Postings.{standing_count}

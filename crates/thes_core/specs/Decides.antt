@@ -1,5 +1,5 @@
 -- What is decided of a request, and what a core has done after it.
-use Rattle.std.specs.Prelude.{◌≡◌, ◌≢◌, ◌⊎◌, ◌++◌, List, None, Some, Result, Ok, Err, true, false}
+use Rattle.std.specs.Prelude.{◌≡◌, ◌⊎◌, ◌++◌, List, None, Result, Ok, Err, true, false}
 use Rattle.thes_base.specs.declared.data.History.{History}
 use Rattle.thes_base.specs.declared.fault.Fault.{Fault}
 use Rattle.thes_base.specs.declared.fault.Fault.TheVariants.{OutOfMemory}
@@ -8,7 +8,7 @@ use Rattle.thes_base.specs.declared.request.Command.TheVariants as request
 use Rattle.thes_base.specs.declared.request.Answer.{Answer}
 use Rattle.thes_base.specs.State.{State}
 use Rattle.thes_base.specs.Refusals.{Setting, IsOfKey}
-use Rattle.thes_base.specs.Machine.{Step, Run, Repeated, next_state, answer_of, row_of}
+use Rattle.thes_base.specs.Machine.{Step, Run, Repeated, next_state, row_of}
 use Rattle.thes_core.specs.declared.verdict.Verdict.{Verdict}
 use Rattle.thes_core.specs.declared.verdict.Verdict.TheVariants.{Settled, Accepted}
 use Rattle.thes_core.specs.Kept.{Kept}

@@ -161,6 +161,18 @@ impl Store {
         }
         self.core.step(command)
     }
+
+    fn decide_broader(&self, a: ResNo, b: ResNo) -> Result<Verdict, Fault> {
+        self.decide(&Command::Link(LinkKind::Broader, a, b))
+    }
+
+    fn apply_broader(&mut self, a: ResNo, b: ResNo) -> Result<Option<Answer>, Fault> {
+        self.apply(&Command::Link(LinkKind::Broader, a, b))
+    }
+
+    fn step_broader(&mut self, a: ResNo, b: ResNo) -> Result<Answer, Fault> {
+        self.step(&Command::Link(LinkKind::Broader, a, b))
+    }
 }
 
 #[test]
@@ -452,31 +464,47 @@ fn mappings_are_listed_as_seen_from_an_end(rt: HostRuntime) -> Result<(), Fail> 
 
 static NOTHING: [Exchange; 0] = [];
 
-// What is decided changes nothing. What is applied does.
+// What is decided changes nothing.
 #[test]
-fn a_request_is_decided_and_applied(rt: HostRuntime) -> Result<(), Fail> {
+fn a_request_is_decided(rt: HostRuntime) -> Result<(), Fail> {
+    let store = filled(&rt, rt.alloc(), &NOTHING)?;
+    let (cats, mammals) = (ResNo::new(2), ResNo::new(3));
+    assert_eq!(rt; store.decide_broader(cats, mammals), Ok(Verdict::Accepted));
+    assert_eq!(rt; store.has(LinkKind::Broader, cats, mammals), Some(false));
+    Ok(())
+}
+
+#[test]
+fn a_request_is_applied(rt: HostRuntime) -> Result<(), Fail> {
     let mut store = filled(&rt, rt.alloc(), &NOTHING)?;
     let (cats, mammals) = (ResNo::new(2), ResNo::new(3));
-    let command = Command::Link(LinkKind::Broader, cats, mammals);
-    assert_eq!(rt; store.decide(&command)?, Verdict::Accepted);
-    assert_eq!(rt; store.has(LinkKind::Broader, cats, mammals), Some(false));
-    assert_eq!(rt; store.apply(&command)?, Some(Answer::Done));
+    assert_eq!(rt; store.apply_broader(cats, mammals), Ok(Some(Answer::Done)));
     assert_eq!(rt; store.has(LinkKind::Broader, cats, mammals), Some(true));
     Ok(())
 }
 
 #[test]
-fn a_request_is_refused_or_performed(rt: HostRuntime) -> Result<(), Fail> {
-    let mut store = filled(&rt, rt.alloc(), &LINKED)?;
-    let (cats, mammals) = (ResNo::new(2), ResNo::new(3));
-    let command = Command::Link(LinkKind::Broader, mammals, cats);
-    let refused = Answer::No(Refusal::Cycle);
-    assert_eq!(rt; store.decide(&command)?, Verdict::Settled(refused));
-    assert_eq!(rt; store.step(&command)?, refused);
+fn a_request_is_refused(rt: HostRuntime) -> Result<(), Fail> {
+    let store = filled(&rt, rt.alloc(), &LINKED)?;
+    let refused = Verdict::Settled(Answer::No(Refusal::Cycle));
     assert_eq!(rt;
-        store.step(&Command::Unlink(LinkKind::Broader, cats, mammals))?,
-        Answer::Done
+        store.decide_broader(ResNo::new(3), ResNo::new(2)),
+        Ok(refused)
     );
-    assert_eq!(rt; store.step(&command)?, Answer::Done);
+    Ok(())
+}
+
+#[test]
+fn a_request_is_performed(rt: HostRuntime) -> Result<(), Fail> {
+    let mut store = filled(&rt, rt.alloc(), &LINKED)?;
+    let refused = Answer::No(Refusal::Cycle);
+    assert_eq!(rt;
+        store.step_broader(ResNo::new(3), ResNo::new(2)),
+        Ok(refused)
+    );
+    assert_eq!(rt;
+        store.step_broader(ResNo::new(4), ResNo::new(3)),
+        Ok(Answer::Done)
+    );
     Ok(())
 }

@@ -1,4 +1,4 @@
-use Rattle.std.proofs.Common.{◌≡◌, ◌∙◌, sym, arith, rules}
+use Rattle.std.proofs.Common.{◌≡◌, ◌∙◌, arith, rules}
 use Rattle.thes_base.specs.Postings.{stands_at}
 use Rattle.thes_core.proofs.ShownLemmas.{numbered_at, some_of_copied, shown_more}
 use Rattle.thes_core.proofs.shown.standing_in.Goals as goal
