@@ -3,6 +3,7 @@ use crate::desk::{Answer, Desk, no};
 use Answer::{Done, Gained, No, Number};
 use LabelKind::{Alt, Hidden, Pref, Scope};
 use std::alloc::Global;
+use std::process::Abort;
 use std::test::Fail;
 use thes_base::data::{Label, LabelKind, Resource, ResourceKind};
 use thes_base::fault::Refusal;
@@ -25,6 +26,57 @@ fn are(labels: &[Label], wanted: &[(LabelKind, &str, &str)]) -> bool {
         })
 }
 
+// Asks for concepts in turn, each with the answer that is wanted.
+fn concepts(rt: &impl Abort, desk: &mut Desk, rows: &[(u32, &str, Answer)]) -> Result<(), Fail> {
+    for (scheme, text, wanted) in rows {
+        assert_eq!(rt; desk.concept(*scheme, text)?, *wanted, "{text}");
+    }
+    Ok(())
+}
+
+// The same of outside concepts.
+fn outsides(rt: &impl Abort, desk: &mut Desk, rows: &[(&str, Answer)]) -> Result<(), Fail> {
+    for (iri, wanted) in rows {
+        assert_eq!(rt; desk.outside(iri)?, *wanted, "{iri}");
+    }
+    Ok(())
+}
+
+// A label by its owner, kind, language and text, and an answer.
+type Row<'a> = (u32, LabelKind, &'a str, &'a str, Answer);
+
+fn add_each(rt: &impl Abort, desk: &mut Desk, rows: &[Row]) -> Result<(), Fail> {
+    for (owner, kind, tag, text, wanted) in rows {
+        assert_eq!(rt;
+            desk.add_label(*owner, *kind, tag, text)?,
+            *wanted,
+            "{text}"
+        );
+    }
+    Ok(())
+}
+
+fn drop_each(rt: &impl Abort, desk: &mut Desk, rows: &[Row]) -> Result<(), Fail> {
+    for (owner, kind, tag, text, wanted) in rows {
+        assert_eq!(rt;
+            desk.drop_label(*owner, *kind, tag, text)?,
+            *wanted,
+            "{text}"
+        );
+    }
+    Ok(())
+}
+
+// Another preferred label, whether the old one is kept, and an answer.
+type Name<'a> = (u32, &'a str, &'a str, bool, Answer);
+
+fn relabel_each(rt: &impl Abort, desk: &mut Desk, rows: &[Name]) -> Result<(), Fail> {
+    for (owner, tag, text, keep, wanted) in rows {
+        assert_eq!(rt; desk.relabel(*owner, tag, text, *keep)?, *wanted, "{text}");
+    }
+    Ok(())
+}
+
 #[test]
 fn nothing_at_first(rt: HostRuntime) -> Result<(), Fail> {
     let desk = Desk::new(rt.alloc())?;
@@ -45,8 +97,12 @@ fn resources_are_numbered(rt: HostRuntime) -> Result<(), Fail> {
 #[test]
 fn resources_are_refused(rt: HostRuntime) -> Result<(), Fail> {
     let mut desk = start(rt.alloc())?;
-    assert_eq!(rt; desk.concept(1, "Pets")?, No(Refusal::PreferredTaken));
-    assert_eq!(rt; desk.concept(9, "Dogs")?, No(Refusal::UnknownResource));
+    let rows = [
+        (1, "Pets", No(Refusal::PreferredTaken)),
+        (9, "Dogs", No(Refusal::UnknownResource)),
+        (2, "Dogs", No(Refusal::WrongKind)),
+    ];
+    concepts(&rt, &mut desk, &rows)?;
     assert_eq!(rt; desk.collection(2, "Dogs")?, No(Refusal::WrongKind));
     Ok(())
 }
@@ -55,12 +111,14 @@ fn resources_are_refused(rt: HostRuntime) -> Result<(), Fail> {
 fn outside_concepts(rt: HostRuntime) -> Result<(), Fail> {
     let mut desk = start(rt.alloc())?;
     let iri = "http://example.org/x";
-    assert_eq!(rt; desk.outside(iri)?, Number(5));
-    assert_eq!(rt; desk.outside(iri)?, No(Refusal::OutsideKnown(5)));
-    assert_eq!(rt;
-        desk.outside("https://thesaurus.example/id/9")?,
-        No(Refusal::WrongKind)
-    );
+    let own = "https://thesaurus.example/id/9";
+    let known = Refusal::OutsideKnown(5);
+    let rows = [
+        (iri, Number(5)),
+        (iri, No(known)),
+        (own, No(Refusal::WrongKind)),
+    ];
+    outsides(&rt, &mut desk, &rows)?;
     assert_eq!(rt; desk.number_of(iri)?, Some(no(5)));
     assert_eq!(rt; desk.iri_of(5), Some(iri));
     Ok(())
@@ -69,24 +127,17 @@ fn outside_concepts(rt: HostRuntime) -> Result<(), Fail> {
 #[test]
 fn labels_are_refused(rt: HostRuntime) -> Result<(), Fail> {
     let mut desk = start(rt.alloc())?;
-    assert_eq!(rt; desk.add_label(2, Alt, "en", "Cats")?, No(Refusal::S13));
-    assert_eq!(rt; desk.add_label(2, Pref, "en", "Felines")?, No(Refusal::S14));
-    assert_eq!(rt;
-        desk.add_label(2, Pref, "en", "Cats")?,
-        No(Refusal::LabelThere)
-    );
-    assert_eq!(rt; desk.add_label(2, Scope, "en", "Cats")?, Done);
-    Ok(())
-}
-
-#[test]
-fn labels_by_their_language(rt: HostRuntime) -> Result<(), Fail> {
-    let mut desk = start(rt.alloc())?;
-    assert_eq!(rt; desk.add_label(2, Pref, "EN-GB", "Moggies")?, Done);
-    assert_eq!(rt;
-        desk.add_label(2, Pref, "en-gb", "Mousers")?,
-        No(Refusal::S14)
-    );
+    let rows = [
+        (2, Alt, "en", "Cats", No(Refusal::S13)),
+        (2, Pref, "en", "Felines", No(Refusal::S14)),
+        (2, Pref, "en", "Cats", No(Refusal::LabelThere)),
+        (2, Pref, "EN-GB", "Moggies", Done),
+        (2, Pref, "en-gb", "Mousers", No(Refusal::S14)),
+        (3, Pref, "EN-gb", "Moggies", No(Refusal::PreferredTaken)),
+        (3, Pref, "de", "Moggies", Done),
+        (2, Scope, "en", "Cats", Done),
+    ];
+    add_each(&rt, &mut desk, &rows)?;
     assert_eq!(rt; desk.preferred(2, "en-gb")?, Some("Moggies"));
     assert_eq!(rt; desk.preferred(2, "de")?, None);
     Ok(())
@@ -95,46 +146,42 @@ fn labels_by_their_language(rt: HostRuntime) -> Result<(), Fail> {
 #[test]
 fn labels_are_dropped(rt: HostRuntime) -> Result<(), Fail> {
     let mut desk = start(rt.alloc())?;
-    assert_eq!(rt;
-        desk.drop_label(2, Pref, "en", "Cats")?,
-        No(Refusal::LastPreferred)
-    );
-    assert_eq!(rt;
-        desk.drop_label(2, Alt, "en", "Cats")?,
-        No(Refusal::NoSuchLabel)
-    );
-    assert_eq!(rt; desk.add_label(2, Pref, "de", "Katzen")?, Done);
-    assert_eq!(rt; desk.drop_label(2, Pref, "en", "Cats")?, Done);
-    assert!(rt; are(desk.labels_of(2), &[(Pref, "de", "Katzen")]));
+    add_each(&rt, &mut desk, &[(3, Pref, "de", "Katzen", Done)])?;
+    let rows = [
+        (2, Pref, "en", "Cats", No(Refusal::LastPreferred)),
+        (2, Alt, "en", "Cats", No(Refusal::NoSuchLabel)),
+        (3, Pref, "en", "Mammals", Done),
+        (3, Pref, "de", "Katzen", No(Refusal::LastPreferred)),
+    ];
+    drop_each(&rt, &mut desk, &rows)?;
+    assert!(rt; are(desk.labels_of(3), &[(Pref, "de", "Katzen")]));
     Ok(())
 }
 
 #[test]
 fn preferred_labels_are_replaced(rt: HostRuntime) -> Result<(), Fail> {
     let mut desk = start(rt.alloc())?;
-    assert_eq!(rt; desk.relabel(2, "en", "Cats", true)?, No(Refusal::S13));
-    assert_eq!(rt; desk.relabel(2, "en", "Cats", false)?, Done);
-    assert_eq!(rt;
-        desk.relabel(2, "en", "Pets", false)?,
-        No(Refusal::PreferredTaken)
-    );
-    assert_eq!(rt;
-        desk.relabel(2, "de", "Katzen", false)?,
-        No(Refusal::NoSuchLabel)
-    );
-    Ok(())
-}
-
-#[test]
-fn old_labels_are_kept(rt: HostRuntime) -> Result<(), Fail> {
-    let mut desk = start(rt.alloc())?;
-    assert_eq!(rt; desk.relabel(2, "en", "Felines", true)?, Done);
+    let rows = [
+        (2, "en", "Cats", true, No(Refusal::S13)),
+        (2, "en", "Cats", false, Done),
+        (2, "en", "Pets", false, No(Refusal::PreferredTaken)),
+        (2, "de", "Katzen", false, No(Refusal::NoSuchLabel)),
+        (2, "en", "Felines", true, Done),
+    ];
+    relabel_each(&rt, &mut desk, &rows)?;
     assert!(rt;
         are(
             desk.labels_of(2),
             &[(Pref, "en", "Felines"), (Alt, "en", "Cats")]
         )
     );
+    Ok(())
+}
+
+#[test]
+fn holders_of_replaced_labels(rt: HostRuntime) -> Result<(), Fail> {
+    let mut desk = start(rt.alloc())?;
+    assert_eq!(rt; desk.relabel(2, "en", "Felines", true)?, Done);
     assert_eq!(rt; desk.holder(1, "en", "Felines")?, Some(no(2)));
     assert_eq!(rt; desk.holder(1, "en", "Cats")?, None);
     Ok(())
@@ -154,15 +201,17 @@ fn merged_labels(rt: HostRuntime) -> Result<(), Fail> {
             &[(Pref, "en", "Mammals"), (Alt, "en", "Cats")]
         )
     );
-    assert!(rt; are(desk.labels_of(2), &[(Pref, "en", "Cats")]));
     Ok(())
 }
 
 #[test]
 fn merged_names_stand_once(rt: HostRuntime) -> Result<(), Fail> {
     let mut desk = start(rt.alloc())?;
-    assert_eq!(rt; desk.add_label(2, Hidden, "en", "Kitty")?, Done);
-    assert_eq!(rt; desk.add_label(3, Alt, "en", "Kitty")?, Done);
+    let rows = [
+        (2, Hidden, "en", "Kitty", Done),
+        (3, Alt, "en", "Kitty", Done),
+    ];
+    add_each(&rt, &mut desk, &rows)?;
     assert_eq!(rt; desk.take_labels(2, 3)?, Gained(1));
     let wanted = [
         (Pref, "en", "Mammals"),
@@ -170,6 +219,12 @@ fn merged_names_stand_once(rt: HostRuntime) -> Result<(), Fail> {
         (Alt, "en", "Kitty"),
     ];
     assert!(rt; are(desk.labels_of(3), &wanted));
+    assert!(rt;
+        are(
+            desk.labels_of(2),
+            &[(Pref, "en", "Cats"), (Hidden, "en", "Kitty")]
+        )
+    );
     Ok(())
 }
 
