@@ -1,6 +1,10 @@
 //! The program. It reads the words of the command line, hands the engine its streams, and ends with a status.
 #![tactic(auto)]
 
+ghost use Rattle.std.specs.Prelude.{◌≡◌, ◌⊎◌};
+ghost use Rattle.thes_cli.specs.Ending as ends;
+ghost use Rattle.thes_cli.specs.Parting.{parting_status};
+
 mod ending;
 #[cfg(test)]
 mod tests;
@@ -31,13 +35,17 @@ fn planned<R: Env + Alloc<A = Global>>(rt: &R) -> Result<Task, Parting> {
 }
 
 // Tells a fault, and answers the status for it. Where it can't be printed, the status still tells that there was one.
-fn tell<R: Eprint>(rt: &R, fault: PipeFault) -> u8 {
+fn tell<R: Eprint>(rt: &R, fault: PipeFault) -> u8
+    ensures { result ≡ 3 }
+{
     let _ = eprintln!(rt; "thesaurus: fault {fault}");
     3
 }
 
 // Says why nothing is done, and answers the status for it.
-fn part<R: Print + Eprint>(rt: &R, parting: &Parting) -> u8 {
+fn part<R: Print + Eprint>(rt: &R, parting: &Parting) -> u8
+    ensures { (result ≡ parting_status parting.now) ⊎ (result ≡ 3) }
+{
     let printed = match parting {
         Parting::Help(text) => print!(rt; "{text}"),
         Parting::Usage(text) => eprint!(rt; "{text}"),
@@ -65,7 +73,9 @@ fn answered<R: Read + Drop, W: Write + Drop>(
 }
 
 // Says which fault a script met, and answers the status.
-fn close<R: Eprint>(rt: &R, ended: &Result<Ended, PipeFault>) -> u8 {
+fn close<R: Eprint>(rt: &R, ended: &Result<Ended, PipeFault>) -> u8
+    ensures { result ≡ ends.status_of (ends.fault_of ended.now) (ends.refuses ended.now) }
+{
     match fault_of(ended) {
         Some(fault) => tell(rt, fault),
         None => status_of(ended),

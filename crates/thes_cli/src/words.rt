@@ -1,5 +1,6 @@
 //! The words of the command line.
-ghost use Rattle.std.specs.Prelude.{◌≡◌, map, string_bytes, IfOk};
+ghost use Rattle.std.specs.Prelude.{◌≡◌, ◌≢◌, map, string_bytes, IfOk};
+ghost use Rattle.std.specs.IoError.{error_kind};
 ghost use Rattle.clap.specs.Words.{app_of, kind_of};
 ghost use Rattle.thes_cli.specs.CommandLine.{program, PartsFor, Plans};
 ghost use Rattle.thes_cli.specs.Parting.{parting_status};
@@ -7,7 +8,7 @@ ghost use Rattle.thes_cli.specs.Parting.{parting_status};
 use clap::error::ErrorKind;
 use clap::{Command, Error};
 use std::alloc::{AllocError, Global};
-use std::io;
+use std::io::{Error as IoError, ErrorKind as IoErrorKind};
 
 const ABOUT: &str = "Maintains thesauri and the postings of catalogue records to their concepts.";
 
@@ -70,10 +71,13 @@ impl From<AllocError> for Parting {
     }
 }
 
-impl From<io::Error> for Parting {
-    fn from(error: io::Error) -> Parting {
+impl From<IoError> for Parting {
+    fn from(error: IoError) -> Parting
+        ensures memory { error_kind error ≡ IoErrorKind.OutOfMemory → result ≡ Parting.OutOfMemory }
+        ensures other { error_kind error ≢ IoErrorKind.OutOfMemory → result ≡ Parting.NotText }
+    {
         match error.kind() {
-            io::ErrorKind::OutOfMemory => Parting::OutOfMemory,
+            IoErrorKind::OutOfMemory => Parting::OutOfMemory,
             _ => Parting::NotText,
         }
     }
