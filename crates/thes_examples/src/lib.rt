@@ -18,8 +18,6 @@ mod lines;
 #[cfg(test)]
 mod mappings;
 #[cfg(test)]
-mod memory;
-#[cfg(test)]
 mod numbers;
 #[cfg(test)]
 mod postings;
