@@ -2,7 +2,7 @@ use Rattle.std.proofs.Common.{rules, lit<}
 use Rattle.std.proofs.lemmas.Str.Pattern.{split_once_first}
 use Rattle.thes_base.specs.Forms.{IsIriScheme}
 use Rattle.thes_base.proofs.IriLemmas.{no_colon, cut_iri}
-use Rattle.thes_base.proofs.text.is_iri.Goals as goal
+use Rattle.thes_base.proofs.form.is_iri.Goals as goal
 
 pub returns-in-None : goal.returns-in-None
 returns-in-None c =

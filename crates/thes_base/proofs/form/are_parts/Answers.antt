@@ -4,7 +4,7 @@ use Rattle.std.proofs.lemmas.Iterator.Splits.{YieldsList-from_str_split}
 use Rattle.std.specs.Char.{IsAsciiAlphanumeric}
 use Rattle.thes_base.specs.Forms.{IsPart}
 use Rattle.thes_base.proofs.TagLemmas.{all_or_one_fails}
-use Rattle.thes_base.proofs.text.are_parts.Goals as goal
+use Rattle.thes_base.proofs.form.are_parts.Goals as goal
 
 pub returns : goal.returns
 returns c =

@@ -3,7 +3,7 @@ use Rattle.std.proofs.lemmas.Str.Pattern.{split_once_first}
 use Rattle.std.specs.Char.{IsAsciiAlphabetic}
 use Rattle.thes_base.specs.Forms.{IsPart}
 use Rattle.thes_base.proofs.TagLemmas.{whole_tag, cut_tag}
-use Rattle.thes_base.proofs.text.is_tag.Goals as goal
+use Rattle.thes_base.proofs.form.is_tag.Goals as goal
 
 pub returns-in-None : goal.returns-in-None
 returns-in-None c =
