@@ -2,7 +2,7 @@
 use Rattle.std.proofs.Common.{List, ℕ}
 use Rattle.thes_base.specs.State.{State}
 use Rattle.thes_base.specs.Legal.{Legal, LegalResources, LegalLabels, LegalLinks, LegalPostings}
-use Rattle.thes_base.specs.Texts.{LegalTexts}
+use Rattle.thes_base.specs.Texts.{HaveForms, LegalTexts}
 
 pub record IsSound (base : List ℕ) (s : State) : Type 0 where
   pub resources : LegalResources base s.resources s.iris
@@ -13,5 +13,10 @@ pub record IsSound (base : List ℕ) (s : State) : Type 0 where
 pub sound_of_legal : (base : List ℕ) (s : State) → Legal base s → IsSound base s
 sound_of_legal base s legal = record { resources = legal.resources; labels = legal.labels; links = legal.links; postings = legal.postings }
 
-pub legal_of_sound : (base : List ℕ) (s : State) → IsSound base s → LegalTexts base s → Legal base s
+pub legal_of_sound : (base : List ℕ) (s : State) → IsSound base s → HaveForms base s → Legal base s
+unfolding LegalTexts
 legal_of_sound base s sound texts = record { resources = sound.resources; labels = sound.labels; links = sound.links; postings = sound.postings; texts = texts }
+
+pub forms_of_legal : (base : List ℕ) (s : State) → Legal base s → HaveForms base s
+unfolding LegalTexts
+forms_of_legal base s legal = legal.texts

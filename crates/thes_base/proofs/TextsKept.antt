@@ -16,7 +16,7 @@ use Rattle.thes_base.specs.Resources.{Iris, numbered, set_numbered}
 use Rattle.thes_base.specs.Labels.{Label, Labels, label_cmp, preferred_in, is_name}
 use Rattle.thes_base.specs.Postings.{move_count, withdraw, moved, moved_those}
 use Rattle.thes_base.specs.State.{State, empty_state}
-use Rattle.thes_base.specs.Texts.{IsLabelText, IsLabelForm, IsPostingForm, HasForms, LegalTexts}
+use Rattle.thes_base.specs.Texts.{IsLabelText, IsLabelForm, IsPostingForm, HasForms, HaveForms}
 use Rattle.thes_base.specs.Changes.{label, next_number, renamed, taken_kind, taken_labels, histories_withdrawn}
 use Rattle.thes_base.specs.Refusals.{Setting}
 use Rattle.thes_base.specs.Machine.{Step, Judged, next_state, owned}
@@ -91,12 +91,12 @@ forms_withdrawn hs posting each (Some h) at = λ n g e. elim (set_cases hs (with
   | inr old ↦ each n g old.1
 ]
 
-module _ (base : List ℕ) (s : State) (texts : LegalTexts base s) where
-  with_labels : (resources : List Resource) (labels : Labels) → AreFormed labels → LegalTexts base (record s { resources = resources; labels = labels })
+module _ (base : List ℕ) (s : State) (texts : HaveForms base s) where
+  with_labels : (resources : List Resource) (labels : Labels) → AreFormed labels → HaveForms base (record s { resources = resources; labels = labels })
   with_labels resources labels each = record { base_form = texts.base_form; iris = texts.iris; labels = each; postings = texts.postings }
 
   -- the state that the request makes
-  texts_next : (command : Command) → HasForms command → LegalTexts base (next_state command s)
+  texts_next : (command : Command) → HasForms command → HaveForms base (next_state command s)
   texts_next (request.Scheme tag text) form = with_labels _ _ (formed_insert s.labels (label (next_number s) Pref tag text) form texts.labels)
   texts_next (request.Concept scheme tag text) form = with_labels _ _ (formed_insert s.labels (label (next_number s) Pref tag text) form texts.labels)
   texts_next (request.Collection scheme tag text) form = with_labels _ _ (formed_insert s.labels (label (next_number s) Pref tag text) form texts.labels)
@@ -139,10 +139,10 @@ step_either setting s t (request.Merge source target) answer step = judged_eithe
 step_either setting s t (request.Split source tag text postings) answer step = judged_either setting s t (request.Split source tag text postings) answer step
 step_either setting s t (request.Withdraw posting) answer step = judged_either setting s t (request.Withdraw posting) answer step
 
-pub step_texts : (setting : Setting) (s t : State) (command : Command) (answer : Answer) → HasForms command → LegalTexts setting.base s → Step setting s command answer t → LegalTexts setting.base t
+pub step_texts : (setting : Setting) (s t : State) (command : Command) (answer : Answer) → HasForms command → HaveForms setting.base s → Step setting s command answer t → HaveForms setting.base t
 step_texts setting s t command answer forms texts step = elim (step_either setting s t command answer step) [
-  | inl same ↦ subst (LegalTexts setting.base) (sym same) texts
-  | inr made ↦ subst (LegalTexts setting.base) (sym made) (texts_next setting.base s texts command forms)
+  | inl same ↦ subst (HaveForms setting.base) (sym same) texts
+  | inr made ↦ subst (HaveForms setting.base) (sym made) (texts_next setting.base s texts command forms)
 ]
 
 -- the empty state has no text
@@ -150,7 +150,7 @@ none_at : {A : Type 0} (n : ℕ) (x : A) → numbered [] n ≡ Some x → ⊥
 none_at zero x e = cc
 none_at (suc n) x e = cc
 
-pub texts_empty : (base : List ℕ) → IsBase base → LegalTexts base empty_state
+pub texts_empty : (base : List ℕ) → IsBase base → HaveForms base empty_state
 texts_empty base form = record {
   base_form = form;
   iris = λ n iri e. absurd (let q = dict.get-empty {X = List ℕ} nat_cmp n in both_ways _ iri q e);

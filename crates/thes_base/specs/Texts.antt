@@ -48,8 +48,12 @@ HasForms (request.Post key rec concept) = IsPostingForm key rec
 HasForms (request.Withdraw posting) = Unit {0}
 
 -- each text of the state has its form, and so has the base of its IRIs
-pub record LegalTexts (base : List ℕ) (s : State) : Type 0 where
+pub record HaveForms (base : List ℕ) (s : State) : Type 0 where
   pub base_form : IsBase base
   pub iris : (n : ℕ) (iri : List ℕ) → dict.get s.iris n ≡ Some iri → IsIri iri
   pub labels : (l : Label) → set.contains s.labels l ≡ true → IsLabelForm l.kind l.tag l.text
   pub postings : (n : ℕ) (h : History) → numbered s.histories n ≡ Some h → IsPostingForm h.key h.rec
+
+-- The same as one fact, which a search for a proof of something else doesn't enter.
+unfoldable pub LegalTexts : List ℕ → State → Type 0
+LegalTexts base s = HaveForms base s
