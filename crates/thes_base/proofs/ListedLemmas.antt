@@ -1,5 +1,5 @@
 -- A split moves as many postings as it lists.
-use Rattle.std.proofs.Common.{◌≡◌, ◌⊎◌, ◌<◌, ◌≤◌, ℕ, suc, ◌+◌, length, List, [], ◌∷◌, refl, sym, ap, ◌∙◌, inl, inr, arith, Bool, true, false, cond, ◌||◌, eqb, eqb-true, ne_eqb}
+use Rattle.std.proofs.Common.{◌≡◌, ◌<◌, ◌≤◌, ℕ, suc, ◌+◌, length, List, [], ◌∷◌, refl, sym, ap, ◌∙◌, inl, inr, arith, Bool, true, false, cond, ◌||◌, eqb, eqb-true, ne_eqb}
 use borrow.Author.Tests.{eqb-false}
 use Rattle.std.specs.Prelude.{None, Some, count_by, slice_get}
 use Rattle.std.specs.List.{list_any}
