@@ -165,12 +165,12 @@ module _ (labels : Labels) (owner : ℕ) (tag text old : List ℕ) (s13 : S13 la
   len_renamed true = len_inserted with_new (label owner Alt tag old) (not_true _ not_alternative) ∙ ap (λ n. n + 1) len_with_new
 
 module _ (s : State) (legal : LegalLabels s.resources s.labels) where
-  pub relabelled_grows : (owner : ℕ) (tag text : List ℕ) (keep : Bool) → (old : List ℕ) × HasLabel s.labels owner Pref tag old → Grows s (relabelled owner tag text keep s) (growth_of 0 (keep_growth keep) 0 0 0)
-  relabelled_grows owner tag text keep (old, held) =
+  pub relabelled_grows : (owner : ℕ) (tag text : List ℕ) (keep : Bool) (more : ℕ) → more ≡ keep_growth keep → (old : List ℕ) × HasLabel s.labels owner Pref tag old → Grows s (relabelled owner tag text keep s) (growth_of 0 more 0 0 0)
+  relabelled_grows owner tag text keep more is_more (old, held) =
       let found = preferred_of_label s.labels owner tag old held in
       let is = preferred_found s.labels owner tag found.0 found.1 in
       let made : labels_relabelled owner tag text keep s.labels ≡ renamed owner tag text keep found.0 s.labels = ap (λ (o : Option (List ℕ)). elim o [ None ↦ s.labels | Some x ↦ renamed owner tag text keep x s.labels ]) found.1 in
-      record { resources = same _; labels = inl (ap set.len made ∙ len_renamed s.labels owner tag text found.0 legal.disjoint legal.one_preferred is keep); links = same _; postings = same _; moves = same _ }
+      record { resources = same _; labels = inl (ap set.len made ∙ len_renamed s.labels owner tag text found.0 legal.disjoint legal.one_preferred is keep ∙ ap (λ n. set.len s.labels + n) (sym is_more)); links = same _; postings = same _; moves = same _ }
 
 -- A link, a merge, a split and a posting.
 
