@@ -15,6 +15,7 @@ use Rattle.thes_base.specs.State.{State}
 use Rattle.thes_base.specs.Changes.{histories_split, scheme_resource, collection_resource, concept_resource, split_off, is_listed, next_number}
 use Rattle.thes_base.specs.Headline.{IsInOrder}
 use Rattle.thes_base.specs.Legal.{Legal}
+use Rattle.thes_base.specs.Texts.{HasForms}
 use Rattle.thes_base.specs.Machine.{next_state}
 use Rattle.thes_base.specs.Refusals.{Setting, IsSetting, unless_unique, unless_listed}
 use Rattle.thes_base.proofs.ListedLemmas.{listed_count}
@@ -22,6 +23,7 @@ use Rattle.thes_base.proofs.MachineLemmas.{legal_empty, legal_is_in_order}
 use Rattle.thes_base.proofs.MoveLemmas.{count_moved}
 use Rattle.thes_base.proofs.NumberedLemmas.{numbered_bound}
 use Rattle.thes_base.proofs.RowLemmas.{passed_unless}
+use Rattle.thes_base.proofs.Sound.{IsSound}
 use Rattle.thes_vocab.specs.Vocabulary.{Vocabulary, empty_vocabulary}
 use Rattle.thes_vocab.specs.Requests.{unless_new, with_new}
 use Rattle.thes_graph.specs.Net.{Net}
@@ -30,7 +32,7 @@ use Rattle.thes_core.specs.Kept.{Kept}
 use Rattle.thes_core.specs.Requests.{Allows, Becomes, command_of, is_foreign}
 use Rattle.thes_core.specs.View.{state_of, setting_of, IsKept}
 use Rattle.thes_core.proofs.JudgeLemmas.{name_allowed}
-use Rattle.thes_core.proofs.NextLemmas.{next_legal}
+use Rattle.thes_core.proofs.NextLemmas.{next_sound, next_legal}
 use Rattle.thes_core.proofs.OutsideLemmas.{knows_pushed, knows_marked}
 
 -- The parts after a change, each as it is known, make the state.
@@ -42,22 +44,22 @@ becomes {old} {new} {s} {v} {g} {b} is_v is_g is_b is_l is_s base knows = record
   outside = λ n. ap (λ (x : Net). set.contains x.outside n) is_g ∙ knows n ∙ ap (λ (x : Vocabulary). is_outside x.resources n) (sym is_v);
 }
 
--- the next state of an accepted request is legal
-pub legal_after : (t : Thesaurus) (command : Command) → Allows t command → Legal t.vocab.base (next_state command (state_of t))
-legal_after t command ok = next_legal (setting_of t) ok.kept.fit (state_of t) command ok.kept.legal ok.accepts
+-- the next state of an accepted request is sound
+sound_after : (t : Thesaurus) (command : Command) → Allows t command → IsSound t.vocab.base (next_state command (state_of t))
+sound_after t command ok = next_sound (setting_of t) ok.kept.fit (state_of t) command ok.kept.legal ok.accepts
 
 -- What is kept after an accepted request.
-pub kept_after : (old new : Thesaurus) (command : Command) → Allows old command → Becomes old (next_state command (state_of old)) new → IsKept new
-kept_after old new command ok made = record {
+pub kept_after : (old new : Thesaurus) (command : Command) → HasForms command → Allows old command → Becomes old (next_state command (state_of old)) new → IsKept new
+kept_after old new command forms ok made = record {
   fit = subst IsSetting (sym made.setting) ok.kept.fit;
-  legal = subst (λ (x : List ℕ). Legal x (state_of new)) (sym (ap (λ (x : Setting). x.base) made.setting)) (subst (Legal old.vocab.base) (sym made.state) (legal_after old command ok));
+  legal = subst (λ (x : List ℕ). Legal x (state_of new)) (sym (ap (λ (x : Setting). x.base) made.setting)) (subst (Legal old.vocab.base) (sym made.state) (next_legal (setting_of old) ok.kept.fit (state_of old) command forms ok.kept.legal ok.accepts));
   outside = made.outside;
 }
 
 -- The numbers of a merge's moves fit.
 pub merge_fits : (t : Thesaurus) (source target : ℕ) → Allows t (request.Merge source target) → move_count t.book + standing_count source t.book < 2 ^ 32
 merge_fits t source target ok =
-    let few = (legal_after t (request.Merge source target) ok).postings.few_moves in
+    let few = (sound_after t (request.Merge source target) ok).postings.few_moves in
     let count = count_moved (stands_at source) target (move_count t.book + 1) t.book in
     omega (arith, few, count)
 
@@ -85,7 +87,7 @@ module _ (t : Thesaurus) (source : ℕ) (tag text : List ℕ) (postings : List �
 
   pub split_fits : move_count t.book + length postings < 2 ^ 32
   split_fits =
-      let few = (legal_after t (request.Split source tag text postings) ok).postings.few_moves in
+      let few = (sound_after t (request.Split source tag text postings) ok).postings.few_moves in
       let count = count_moved (is_listed postings) (next_number (state_of t)) (move_count t.book + 1) t.book in
       let row = ok.accepts.row in
       let passed : unless_listed t.book source postings accepted None = search rules depth 16 in
@@ -122,6 +124,6 @@ none_outside (suc n) = refl
 pub kept_empty : (t : Thesaurus) (base : List ℕ) → IsSetting (record { base = base; limits = t.limits }) → t.vocab ≡ empty_vocabulary base → t.graph ≡ record { links = set.empty; outside = set.empty } → t.book ≡ [] → IsKept t
 kept_empty t base fit vocab graph book = record {
   fit = subst IsSetting (λ i. record { base = (sym vocab i).base; limits = t.limits }) fit;
-  legal = subst (λ (p : Vocabulary × (Net × List History)). Legal p.0.base (record { resources = p.0.resources; iris = p.0.iris; labels = p.0.labels; links = p.1.0.links; histories = p.1.1 })) (λ i. (sym vocab i, (sym graph i, sym book i))) (legal_empty base);
+  legal = subst (λ (p : Vocabulary × (Net × List History)). Legal p.0.base (record { resources = p.0.resources; iris = p.0.iris; labels = p.0.labels; links = p.1.0.links; histories = p.1.1 })) (λ i. (sym vocab i, (sym graph i, sym book i))) (legal_empty base fit.base_form);
   outside = λ n. ap (λ (g : Net). set.contains g.outside n) graph ∙ set.contains-empty nat_cmp n ∙ sym (none_outside n) ∙ ap (λ (v : Vocabulary). is_outside v.resources n) (sym vocab);
 }

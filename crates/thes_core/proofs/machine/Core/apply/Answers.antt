@@ -7,7 +7,7 @@ use Rattle.thes_core.proofs.machine.Core.apply.Goals as goal
 
 -- what the parts keep after the change
 kept : (c : goal.After-self-in-Ok-1) → IsKept c.change.new.self
-kept c = kept_after c.self.inside.thesaurus c.change.new.self c.args.command.now
+kept c = kept_after c.self.inside.thesaurus c.change.new.self c.args.command.now c.forms.ensures
     (record { kept = c.self.invariant (ap (λ (k : Kept). k.spent) c.self.view_is ∙ c.requires.unspent); accepts = subst (λ (k : Kept). Accepts k.setting k.state c.args.command.now) (sym c.self.view_is) c.requires.accepted })
     c.in-Ok.ensures.becomes
 
