@@ -12,7 +12,9 @@ use Rattle.thes_base.specs.State.{State}
 use Rattle.thes_base.specs.Triples.{Triple, Asserted}
 use Rattle.thes_base.specs.Skos as skos
 use Rattle.thes_base.specs.Changes.{link_added, dead, merged}
-use Rattle.thes_base.specs.Refusals.{Setting, unless_ends, unless_pair, unless_within, row_link, row_merge}
+use Rattle.thes_base.specs.Refusals.{Setting, unless_ends, unless_pair, unless_within}
+use Rattle.thes_base.specs.Machine.{row_of}
+use Rattle.thes_base.specs.declared.request.Command.TheVariants as request
 use Rattle.thes_base.specs.Legal.{Legal}
 use Rattle.thes_base.specs.Laws.{IsSeen, RefusesByTriples, unless_triples_consistent}
 use Rattle.thes_base.proofs.RowLemmas.{passed_if, passed_unless}
@@ -139,7 +141,7 @@ module _ (setting : Setting) (s : State) (legal : Legal setting.base s) (answer 
     abbrev link_broken : Row
     link_broken = unless_consistent (HeldIn (link_added l s).links) (unless_within setting s (link_added l s))
 
-    link_by_triples : unless_ends s.resources l accepted None → (¬ is_there) → row_link setting s (link_added l s) l answer ↔ unless_triples_consistent (Asserted setting.base (link_added l s)) (unless_within setting s (link_added l s)) answer
+    link_by_triples : unless_ends s.resources l accepted None → (¬ is_there) → row_of setting s (link_added l s) (request.Link l.kind l.a l.b) answer ↔ unless_triples_consistent (Asserted setting.base (link_added l s)) (unless_within setting s (link_added l s)) answer
     link_by_triples ends new =
         let same = row_seen setting.base (link_added l s) (link_seen setting.base s legal l (passed_unless ends).0) (unless_within setting s (link_added l s)) answer in
         let rest : Row = refused_if is_there no.LinkThere link_broken in
@@ -149,7 +151,7 @@ module _ (setting : Setting) (s : State) (legal : Legal setting.base s) (answer 
     abbrev merge_broken : Row
     merge_broken = unless_consistent (HeldIn (merged source target s).links) (unless_within setting s (merged source target s))
 
-    merge_by_triples : unless_pair s.resources source target accepted None → row_merge setting s (merged source target s) source target answer ↔ unless_triples_consistent (Asserted setting.base (merged source target s)) (unless_within setting s (merged source target s)) answer
+    merge_by_triples : unless_pair s.resources source target accepted None → row_of setting s (merged source target s) (request.Merge source target) answer ↔ unless_triples_consistent (Asserted setting.base (merged source target s)) (unless_within setting s (merged source target s)) answer
     merge_by_triples pair =
         let same = row_seen setting.base (merged source target s) (merge_seen setting.base s legal source target pair) (unless_within setting s (merged source target s)) answer in
         (λ row. same.0 (past_pair s.resources source target merge_broken answer pair row), λ row. (pair_part s.resources source target).passes merge_broken answer pair (same.1 row))
