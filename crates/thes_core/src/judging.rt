@@ -2,8 +2,8 @@
 //! book and the limits show.
 ghost use Rattle.std.specs.Prelude.{IfOk, IfSome, IfNone};
 ghost use Rattle.thes_base.specs.declared.fault.Refusal.TheVariants as no;
+ghost use Rattle.thes_base.specs.Machine.{HasNewKey, KnownAnswer};
 ghost use Rattle.thes_base.specs.Rows.{refused_unless, accepted};
-ghost use Rattle.thes_core.specs.Decides.{IsFresh, KnownAnswer};
 ghost use Rattle.thes_core.specs.Requests.{Judges};
 ghost use Rattle.thes_core.specs.Room.{HasRoom};
 ghost use Rattle.thes_core.specs.View.{state_of, IsKept};
@@ -23,8 +23,8 @@ impl Thesaurus {
     // The answer to a key that is known.
     pub(crate) fn known(&self, command: &Command) -> Option<Answer>
         requires { IsKept self.now }
-        ensures some { IfSome result (λ a. KnownAnswer command.now (state_of self.now) a) }
-        ensures none { IfNone result (IsFresh command.now (state_of self.now)) }
+        ensures some { IfSome result (KnownAnswer command.now (state_of self.now)) }
+        ensures none { IfNone result (HasNewKey command.now (state_of self.now)) }
     {
         let Command::Post(key, rec, concept) = command else {
             return None;
