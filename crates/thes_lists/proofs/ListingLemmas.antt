@@ -1,5 +1,5 @@
 -- Rising lists of what has a property: with one value more, with one less, and that there is at most one such list.
-use Rattle.std.proofs.Common.{◌≡◌, ◌≢◌, ◌⊎◌, inl, inr, List, [], ◌∷◌, Bool, true, false, cond, Contains, Ordering, Less, Equal, Greater, refl, sym, ap, subst, ◌∙◌}
+use Rattle.std.proofs.Common.{◌≡◌, ◌≢◌, ◌⊎◌, inl, inr, ℕ, List, [], ◌∷◌, Bool, true, false, cond, Contains, Ordering, Less, Equal, Greater, refl, sym, ap, subst, ◌∙◌}
 use Rattle.std.specs.List.Sorted.{IsStrictlySortedBy}
 use Rattle.std.specs.Ordering.{is_eq, match_ordering}
 use Rattle.std.specs.Cmp.{IsTotalOrder, tied_itself, Equal-is}
@@ -8,7 +8,10 @@ use Rattle.std.specs.BTreeMap.{is_at}
 use Rattle.std.specs.BTreeSet.{insert_key}
 use Rattle.std.specs.Set.{remove_key}
 use Rattle.std.proofs.lemmas.Map.Keys.{sorted_tail}
+use Rattle.std.proofs.lemmas.Bool.{cases_eq}
 use Rattle.thes_base.specs.Listing.{IsListing}
+use Rattle.thes_lists.specs.declared.lists.Lists.{Lists}
+use Rattle.thes_lists.specs.Lists.{listed_at, AreSame, ChangesAt, AllRise, AreListings}
 use Rattle.thes_lists.proofs.OrderLemmas.{Has, Has-from, Contains-from, sorted_none, above_head, insert_cases, insert_keeps, insert_sorted, remove_had, remove_sorted, never_below_itself}
 
 module _ {A : Type 0} (c : A → A → Ordering) where
@@ -17,6 +20,24 @@ module _ {A : Type 0} (c : A → A → Ordering) where
 
   pub listing_as : (P Q : A → Type 0) (xs : List A) → ((x : A) → P x → Q x) → ((x : A) → Q x → P x) → IsListing c P xs → IsListing c Q xs
   listing_as P Q xs to from is = record { rises = is.rises; sound = λ x has. to x (is.sound x has); complete = λ x q. is.complete x (from x q) }
+
+  -- in each of the lists
+
+  pub listings_rise : (P : ℕ → A → Type 0) (lists : Lists A) → AreListings c P lists → AllRise c lists
+  listings_rise P lists are n = (are n).rises
+
+  pub rise_same : (old new : Lists A) → AreSame old new → AllRise c old → AllRise c new
+  rise_same old new same rise n = subst (IsStrictlySortedBy c) (sym (same n)) (rise n)
+
+  pub listings_same : (P Q : ℕ → A → Type 0) (old new : Lists A) → AreSame old new → ((n : ℕ) (x : A) → P n x → Q n x) → ((n : ℕ) (x : A) → Q n x → P n x) → AreListings c P old → AreListings c Q new
+  listings_same P Q old new same to from are n = subst (IsListing c (Q n)) (sym (same n)) (listing_as (P n) (Q n) (listed_at old n) (to n) (from n) (are n))
+
+  pub listings_changed : (P Q : ℕ → A → Type 0) (old new : Lists A) (n : ℕ) (values : List A) → ChangesAt old new n values → IsListing c (Q n) values
+      → ((m : ℕ) → m ≢ n → (x : A) → P m x → Q m x) → ((m : ℕ) → m ≢ n → (x : A) → Q m x → P m x) → AreListings c P old → AreListings c Q new
+  listings_changed P Q old new n values changes here to from are m = elim (cases_eq m n) [
+    | inl same ↦ subst (λ k. IsListing c (Q k) (listed_at new k)) (sym same) (subst (IsListing c (Q n)) (sym changes.here) here)
+    | inr apart ↦ subst (IsListing c (Q m)) (sym (changes.others m apart)) (listing_as (P m) (Q m) (listed_at old m) (to m apart) (from m apart) (are m))
+  ]
 
 module _ {A : Type 0} (c : A → A → Ordering) (o : IsTotalOrder c) (exact : IsAntisymmetric c) where
   pub insert_has : (ks : List A) (x : A) → Has (insert_key c ks x) x
@@ -90,3 +111,25 @@ module _ {A : Type 0} (c : A → A → Ordering) (o : IsTotalOrder c) (exact : I
   listing_same P xs ys one two = same_members xs ys one.rises two.rises
       (λ m has. Has-from ys m (two.complete m (one.sound m (Contains-from xs m has))))
       (λ m has. Has-from xs m (one.complete m (two.sound m (Contains-from ys m has))))
+
+  -- one list with a value more, and with one less
+  module _ (P Q : ℕ → A → Type 0) (old new : Lists A) (n : ℕ) (x : A) (are : AreListings c P old) where
+    pub listings_insert : ChangesAt old new n (insert_key c (listed_at old n) x) → Q n x → ((m : ℕ) (y : A) → P m y → Q m y) → ((m : ℕ) (y : A) → Q m y → P m y ⊎ ((m ≡ n) × (y ≡ x))) → AreListings c Q new
+    listings_insert changes new_one to from = listings_changed c P Q old new n _ changes
+        (listing_as c (λ y. P n y ⊎ (y ≡ x)) (Q n) _
+        (λ y p. elim p [ inl was ↦ to n y was | inr is ↦ subst (Q n) (sym is) new_one ])
+        (λ y q. elim (from n y q) [ inl was ↦ inl was | inr is ↦ inr is.1 ])
+        (listing_insert (P n) (listed_at old n) x (are n)))
+        (λ m apart. to m)
+        (λ m apart y q. elim (from m y q) [ inl was ↦ was | inr is ↦ absurd (apart is.0) ])
+        are
+
+    pub listings_remove : ChangesAt old new n (remove_key (is_at (c x)) (listed_at old n)) → (Q n x → ⊥) → ((m : ℕ) (y : A) → P m y → Q m y ⊎ ((m ≡ n) × (y ≡ x))) → ((m : ℕ) (y : A) → Q m y → P m y) → AreListings c Q new
+    listings_remove changes gone to from = listings_changed c P Q old new n _ changes
+        (listing_as c (λ y. P n y × (y ≢ x)) (Q n) _
+        (λ y p. elim (to n y p.0) [ inl q ↦ q | inr is ↦ absurd (p.1 is.1) ])
+        (λ y q. (from n y q, λ is. gone (subst (Q n) is q)))
+        (listing_remove (P n) (listed_at old n) x (are n)))
+        (λ m apart y p. elim (to m y p) [ inl q ↦ q | inr is ↦ absurd (apart is.0) ])
+        (λ m apart. from m)
+        are

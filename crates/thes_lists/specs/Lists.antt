@@ -4,6 +4,9 @@ use Rattle.std.specs.Option.{IsSomeAnd, option_map_or}
 use Rattle.std.specs.Vec.{vec_capacity}
 use Rattle.std.specs.Ordering.{nat_cmp}
 use Rattle.std.specs.BTreeMap.{get}
+use Rattle.std.specs.List.Sorted.{IsStrictlySortedBy}
+use Rattle.std.specs.declared.cmp.Ordering.{Ordering}
+use Rattle.thes_base.specs.Listing.{IsListing}
 use Rattle.thes_lists.specs.declared.lists.Lists.{Lists}
 
 module _ {A : Type 0} where
@@ -32,3 +35,11 @@ module _ {A : Type 0} where
   pub record ChangesAt (old new : Lists A) (n : ℕ) (values : List A) : Type 0 where
     pub here : listed_at new n ≡ values
     pub others : (m : ℕ) → m ≢ n → listed_at new m ≡ listed_at old m
+
+  module _ (cmp : A → A → Ordering) where
+    abbrev pub AllRise : Lists A → Type 0
+    AllRise lists = (n : ℕ) → IsStrictlySortedBy cmp (listed_at lists n)
+
+    -- under each number stands, in order, just what has its property
+    abbrev pub AreListings : (ℕ → A → Type 0) → Lists A → Type 0
+    AreListings P lists = (n : ℕ) → IsListing cmp (P n) (listed_at lists n)
