@@ -8,6 +8,7 @@ use Rattle.std.specs.Cmp.Lexicographic.{slice_cmp}
 use Rattle.std.specs.List.{AllByRecursion, Contains}
 use Rattle.std.specs.List.Sorted.{IsStrictlySortedBy}
 use Rattle.std.proofs.lemmas.List.Elements.{All-from_recursion, All-contains}
+use Rattle.std.proofs.lemmas.Bool.{or_cases, or_left, or_right}
 use Rattle.std.proofs.lemmas.Simd.{map-map}
 use Rattle.std.proofs.lemmas.List.{map-append}
 use Rattle.std.specs.Option.{option_copied, IsSome}
@@ -56,14 +57,6 @@ same_kind j k e =
     let tied : data_cmp (own_label j [] []) (own_label k [] []) ≡ Equal = as_owned (own_label j [] []) (own_label k [] []) ∙ ap (λ q. ordering_then q Equal) (kinds_tie j k e) in
     ap (λ (l : LabelData). l.kind) (data_exact (own_label j [] []) (own_label k [] []) tied)
 
-or_right : (a b : Bool) → b ≡ true → (a || b) ≡ true
-or_right true b e = refl
-or_right false b e = e
-
-or_left : (a b : Bool) → a ≡ true → (a || b) ≡ true
-or_left true b e = refl
-or_left false b e = absurd (cc)
-
 module _ (kind : LabelKind) where
   abbrev shown : List LabelData → List Tagged
   shown xs = map tagged (filter (is_of_kind kind) xs)
@@ -109,10 +102,6 @@ module _ (kind : LabelKind) where
     | true ↦ (suc c.0, omega (arith, c.1), c.2)
     | false ↦ c
   ]
-
-  or_cases : (a b : Bool) → (a || b) ≡ true → (a ≡ true) ⊎ (b ≡ true)
-  or_cases true b e = inl refl
-  or_cases false b e = inr e
 
   found : (xs : List LabelData) (l : LabelData) → is_of_kind kind l ≡ true → has_own xs l ≡ true → Contains (shown xs) (tagged l)
   found [] l k e = absurd (true≢false (sym e))

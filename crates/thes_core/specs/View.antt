@@ -22,9 +22,3 @@ pub record IsKept (t : Thesaurus) : Type 0 where
   pub fit : IsSetting (setting_of t)
   pub legal : Legal t.vocab.base (state_of t)
   pub outside : KnowsOutside t
-
--- The parts stand for this state, and are set as before.
-pub record Becomes (old : Thesaurus) (s : State) (new : Thesaurus) : Type 0 where
-  pub state : state_of new ≡ s
-  pub setting : setting_of new ≡ setting_of old
-  pub outside : KnowsOutside new

@@ -1,4 +1,4 @@
-//! What of a core is shown in lists. None may be asked of a spent one.
+//! Lists shown from a core, which must not be spent.
 ghost use Rattle.std.specs.Prelude.{◌≡◌, ℕ, Some, false, filter, map, IfOk};
 ghost use Rattle.thes_base.specs.declared.data.History.{History};
 ghost use Rattle.thes_base.specs.Resources.{numbered};
