@@ -1,5 +1,5 @@
 -- Lists that are shown: the labels of one kind, and the histories of the postings at a concept.
-use Rattle.std.proofs.Common.{◌≡◌, ◌<◌, ◌∙◌, refl, sym, ap, subst, ℕ, zero, suc, List, [], ◌∷◌, ◌++◌, length, map, filter, take, get_or, Option, Some, slice_get, Bool, true, false, cond, ◌||◌, ◌==◌, ◌⊎◌, inl, inr, ⊎_elim, eqb-true, true≢false, add-one, ◌+◌, Bor, None, arith, rules}
+use Rattle.std.proofs.Common.{◌≡◌, ◌<◌, ◌∙◌, refl, sym, ap, subst, ℕ, zero, suc, List, [], ◌∷◌, ◌++◌, length, map, filter, take, get_or, Option, Some, slice_get, Bool, true, false, cond, ◌==◌, ◌⊎◌, inl, inr, ⊎_elim, eqb-true, true≢false, add-one, ◌+◌, Bor, None, arith, rules}
 use Rattle.std.specs.declared.cmp.Ordering.{Ordering}
 use Rattle.std.specs.declared.cmp.Ordering.TheVariants.{Less, Equal, Greater}
 use Rattle.std.specs.Ordering.{nat_cmp, ordering_then, eq_by_cmp}

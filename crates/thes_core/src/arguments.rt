@@ -74,7 +74,11 @@ fn form(kind: LinkKind) -> LinkForm
     ensures { result ≡ form_of kind }
 {
     match kind {
-        LinkKind::Broader | LinkKind::Related => LinkForm::Within,
+        LinkKind::Broader
+        | LinkKind::BroaderGeneric
+        | LinkKind::BroaderPartitive
+        | LinkKind::BroaderInstantial
+        | LinkKind::Related => LinkForm::Within,
         LinkKind::Member => LinkForm::Membership,
         LinkKind::Exact
         | LinkKind::Close

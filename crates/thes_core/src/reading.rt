@@ -11,13 +11,13 @@ ghost use Rattle.thes_base.specs.Links.{HeldIn, norm};
 ghost use Rattle.thes_base.specs.Listing.{IsListing};
 ghost use Rattle.thes_base.specs.Postings.{accepted_count, move_count, place, standing_count, stands_at, withdrawn_count};
 ghost use Rattle.thes_base.specs.Resources.{is_outside, numbered, IsLive};
-ghost use Rattle.thes_base.specs.Views.{totals_of, HasLink, IsMapping, mapping_cmp};
+ghost use Rattle.thes_base.specs.Views.{totals_of, HasLink, HasBroader, IsMapping, IsTyped, mapping_cmp, typed_cmp};
 ghost use Rattle.thes_vocab.specs.LabelData.{AreLabelsOf};
 ghost use Rattle.thes_vocab.specs.Vocabulary.{IsHolder};
 
 use crate::machine::Core;
 use std::alloc::{AllocError, Global};
-use thes_base::data::{History, Label, Link, LinkKind, Resource, Totals};
+use thes_base::data::{History, Label, Link, LinkKind, Resource, Totals, TypedKind};
 use thes_base::number::{PostNo, ResNo};
 use thes_base::text::{Iri, Tag, Text};
 
@@ -175,7 +175,7 @@ impl Core {
     /// The concepts that are broader than this one in its own scheme, by a link of whatever type, rising.
     pub fn broader_of(&self, alloc: Global, n: ResNo) -> Result<Vec<ResNo>, AllocError>
         requires { self.now.spent ≡ false }
-        ensures { IfOk result (λ found. IsListing nat_cmp (λ b. HasLink self.now.state.links kinds.Broader n b) found.items) }
+        ensures { IfOk result (λ found. IsListing nat_cmp (HasBroader self.now.state.links n) found.items) }
     {
         self.thesaurus.graph.broader_of(alloc, n)
     }
@@ -183,7 +183,7 @@ impl Core {
     /// The concepts that are narrower than this one in its own scheme, by a link of whatever type, rising.
     pub fn narrower_of(&self, alloc: Global, n: ResNo) -> Result<Vec<ResNo>, AllocError>
         requires { self.now.spent ≡ false }
-        ensures { let is_narrower = λ (a : ℕ). HasLink self.now.state.links kinds.Broader a n in
+        ensures { let is_narrower = λ (a : ℕ). HasBroader self.now.state.links a n in
             IfOk result (λ found. IsListing nat_cmp is_narrower found.items) }
     {
         self.thesaurus.graph.narrower_of(alloc, n)
@@ -214,5 +214,14 @@ impl Core {
             IfOk result (λ found. IsListing mapping_cmp is_mapping found.items) }
     {
         self.thesaurus.graph.mapped(alloc, n)
+    }
+
+    /// The typed hierarchical links of the concept as seen from it, by their words and then by number.
+    pub fn typed_of(&self, alloc: Global, n: ResNo) -> Result<Vec<(TypedKind, ResNo)>, AllocError>
+        requires { self.now.spent ≡ false }
+        ensures { let is_typed = IsTyped self.now.state.links n in
+            IfOk result (λ found. IsListing typed_cmp is_typed found.items) }
+    {
+        self.thesaurus.graph.typed_of(alloc, n)
     }
 }
