@@ -21,9 +21,6 @@ use thes_base::fault::Refusal;
 use thes_base::number::{PostNo, ResNo};
 use thes_base::text::{Key, RecordName};
 
-#[cfg(test)]
-mod tests;
-
 /// The histories of all postings, in the order in which they were accepted.
 #[derive(Drop)]
 pub struct Book {
