@@ -1,7 +1,8 @@
-//! The names and numbers of refusals and faults, and how they are printed.
+//! The names and numbers of refusals and faults, how they are printed, and the words for kinds of links.
 use std::alloc::{AllocError, Global};
 use std::fmt::Display;
 use std::test::Fail;
+use thes_base::data::{LinkKind, TypedKind};
 use thes_base::fault::{Fault, FormFault, PipeFault, ReadStop, Refusal, Table};
 
 #[test]
@@ -56,4 +57,10 @@ fn refusals_and_faults_are_printed_by_their_names(rt: HostRuntime) -> Result<(),
         assert_eq!(rt; text.as_str(), wanted);
     }
     Ok(())
+}
+
+#[test]
+fn kinds_of_links_have_words(rt: HostRuntime) {
+    assert_eq!(rt; LinkKind::BroaderPartitive.word(), "broaderPartitive");
+    assert_eq!(rt; TypedKind::NarrowerPartitive.word(), "narrowerPartitive");
 }
