@@ -9,7 +9,8 @@ use Rattle.thes_base.specs.declared.data.History.{History}
 use Rattle.thes_base.specs.declared.data.Limits.{Limits}
 use Rattle.thes_base.specs.Resources.{CanOwn, numbered, is_outside, set_numbered}
 use Rattle.thes_base.specs.Links.{HeldIn, norm, contracted}
-use Rattle.thes_base.proofs.LinkSets.{links_total}
+use Rattle.thes_base.proofs.LinkSets.{links_total, links_exact}
+use Rattle.thes_base.proofs.SetMembers as sets
 use Rattle.thes_base.specs.Labels.{Label, Labels, HasLabel, label_cmp, S13, S14}
 use Rattle.thes_base.specs.Postings.{move_count, stands_at, standing_count}
 use Rattle.thes_base.specs.State.{State, Within, Fits}
@@ -164,7 +165,7 @@ pub link_grows : (s : State) (l : Link) → ¬ HeldIn s.links (norm (is_outside 
 link_grows s l new = record {
   resources = same _;
   labels = same _;
-  links = inl (set.len-insert links_total s.links (norm (is_outside s.resources) l) ∙ ap (λ b. cond b (set.len s.links) (set.len s.links + 1)) (false_from_ne_true _ new));
+  links = inl (sets.len_inserted links_total links_exact s.links (norm (is_outside s.resources) l) (false_from_ne_true _ new));
   postings = same _;
   moves = same _;
 }

@@ -1,15 +1,16 @@
 -- Which resources are outside concepts, after a change.
-use Rattle.std.proofs.Common.{◌≡◌, ◌⊎◌, ◌+◌, ℕ, length, List, [], ◌∷◌, ◌++◌, refl, sym, ap, ◌∙◌, inl, inr, Bool, true, false, ◌||◌, eqb-true, eq-eqb}
-use Rattle.std.specs.Prelude.{Option, None, Some, ◌==◌}
+use Rattle.std.proofs.Common.{◌≡◌, ◌⊎◌, ◌+◌, ℕ, length, List, [], ◌∷◌, ◌++◌, refl, sym, ap, ◌∙◌, inl, inr, Bool, true, false}
+use Rattle.std.specs.Prelude.{Option, None, Some}
 use Rattle.std.specs.Option.{option_map_or}
-use Rattle.std.specs.Cmp.{both_ways, nat_cmp_total, unsigned_tied}
+use Rattle.std.specs.Cmp.{both_ways, nat_cmp_total}
 use Rattle.std.specs.FinSet as set
-use Rattle.std.proofs.lemmas.Bool.{or_cases, or_left, or_right}
+use Rattle.std.proofs.lemmas.Map.Lookups.{exact_unsigned}
 use Rattle.thes_base.specs.declared.data.Resource.{Resource}
 use Rattle.thes_base.specs.Resources.{numbered, set_numbered, IsOutside, is_outside, is_outside_kind}
 use Rattle.thes_base.specs.Changes.{marked_dead, dead, outside_resource}
 use Rattle.thes_base.proofs.NumberedLemmas.{push_new}
 use Rattle.thes_base.proofs.ResourceLemmas.{marked_dead_at, passes_push, passes_pop, passes_dead, passes_before}
+use Rattle.thes_base.proofs.SetMembers.{inserted_cases, inserted_kept, inserted_new}
 use Rattle.thes_core.specs.declared.thesaurus.Thesaurus.{Thesaurus}
 use Rattle.thes_core.specs.View.{KnowsOutside}
 
@@ -54,15 +55,13 @@ module _ (t : Thesaurus) (knows : KnowsOutside t) where
 
   -- a new outside concept is marked
   pub knows_marked : (n : ℕ) → set.contains (set.insert t.graph.outside (length rs + 1)) n ≡ is_outside after n
-  knows_marked n =
-      set.contains-insert nat_cmp_total t.graph.outside (length rs + 1) n
-      ∙ (λ i. unsigned_tied n (length rs + 1) i || knows n i)
-      ∙ both_ways _ _ (λ e. passes_test after n (there (or_cases (n == length rs + 1) (is_outside rs n) e))) (λ e. back (passes_pop rs outside_resource is_out n (test_passed after n e)))
+  knows_marked n = both_ways _ _ (λ e. passes_test after n (there (inserted_cases nat_cmp_total exact_unsigned t.graph.outside (length rs + 1) n e)))
+      (λ e. back (passes_pop rs outside_resource is_out n (test_passed after n e)))
     where
-      there : ((n == length rs + 1) ≡ true) ⊎ (is_outside rs n ≡ true) → IsOutside after n
-      there (inl new) = (outside_resource, ap (numbered after) (eqb-true n (length rs + 1) new) ∙ push_new rs outside_resource, refl)
-      there (inr old) = passes_push rs outside_resource is_out n (test_passed rs n old)
+      there : (n ≡ length rs + 1) ⊎ (set.contains t.graph.outside n ≡ true) → IsOutside after n
+      there (inl new) = (outside_resource, ap (numbered after) new ∙ push_new rs outside_resource, refl)
+      there (inr old) = passes_push rs outside_resource is_out n (test_passed rs n (sym (knows n) ∙ old))
 
-      back : IsOutside rs n ⊎ ((n ≡ length rs + 1) × (true ≡ true)) → ((n == length rs + 1) || is_outside rs n) ≡ true
-      back (inl old) = or_right (n == length rs + 1) (is_outside rs n) (passes_test rs n old)
-      back (inr (new, _)) = or_left (n == length rs + 1) (is_outside rs n) (eq-eqb n (length rs + 1) new)
+      back : IsOutside rs n ⊎ ((n ≡ length rs + 1) × (true ≡ true)) → set.contains (set.insert t.graph.outside (length rs + 1)) n ≡ true
+      back (inl old) = inserted_kept nat_cmp_total exact_unsigned t.graph.outside (length rs + 1) n (knows n ∙ passes_test rs n old)
+      back (inr (new, _)) = ap (set.contains (set.insert t.graph.outside (length rs + 1))) new ∙ inserted_new nat_cmp_total exact_unsigned t.graph.outside (length rs + 1)

@@ -21,7 +21,7 @@ use Rattle.thes_base.specs.Listing.{IsListing}
 use Rattle.thes_base.specs.Machine.{owned}
 use Rattle.thes_base.specs.Resources.{numbered}
 use Rattle.thes_base.specs.Views.{Tagged, tagged_cmp}
-use Rattle.thes_base.proofs.LabelSets.{labels_total, labels_exact}
+use Rattle.thes_base.proofs.LabelSets.{labels_total, labels_exact, same_kind}
 use Rattle.thes_vocab.specs.LabelData.{AreLabelsOf, data_cmp, has_own, own_label}
 use Rattle.thes_core.specs.Shown.{tagged, is_of_kind}
 
@@ -51,11 +51,6 @@ kind_itself Scope = refl
 
 kinds_tie : (j k : LabelKind) → label_kind_no j ≡ label_kind_no k → nat_cmp (label_kind_no j) (label_kind_no k) ≡ Equal
 kinds_tie j k e = subst (λ n. nat_cmp (label_kind_no j) n ≡ Equal) e (tied_itself nat_cmp_total (label_kind_no j))
-
-same_kind : (j k : LabelKind) → label_kind_no j ≡ label_kind_no k → j ≡ k
-same_kind j k e =
-    let tied : data_cmp (own_label j [] []) (own_label k [] []) ≡ Equal = as_owned (own_label j [] []) (own_label k [] []) ∙ ap (λ q. ordering_then q Equal) (kinds_tie j k e) in
-    ap (λ (l : LabelData). l.kind) (data_exact (own_label j [] []) (own_label k [] []) tied)
 
 module _ (kind : LabelKind) where
   abbrev shown : List LabelData → List Tagged

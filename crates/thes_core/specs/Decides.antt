@@ -23,17 +23,20 @@ Decides setting s command Accepted = Accepts setting s command
 
 -- The core holds this state and gives this answer. Running out of memory leaves it spent.
 abbrev pub Makes : Kept → State → Answer → Result Answer Fault → Kept → Type 0
-Makes old state answer (Ok given) new = (given ≡ answer) × (new.state ≡ state) × (new.spent ≡ false) × (new.setting ≡ old.setting)
+Makes old state answer (Ok given) new =
+    (given ≡ answer) × (new.state ≡ state) × (new.spent ≡ false) × (new.setting ≡ old.setting)
 Makes old state answer (Err fault) new = (fault ≡ OutOfMemory) × (new.spent ≡ true)
 
 -- One step of the machine. After running out of memory the core holds the state before, or it is spent.
 abbrev pub Performs : Kept → Command → Result Answer Fault → Kept → Type 0
-Performs old command (Ok answer) new = Step old.setting old.state command answer new.state × (new.spent ≡ false) × (new.setting ≡ old.setting)
+Performs old command (Ok answer) new =
+    Step old.setting old.state command answer new.state × (new.spent ≡ false) × (new.setting ≡ old.setting)
 Performs old command (Err fault) new = (fault ≡ OutOfMemory) × ((new ≡ old) ⊎ (new.spent ≡ true))
 
 -- the core holds this state, or it is spent
 abbrev pub IsLeftAt : Kept → State → Kept → Type 0
-IsLeftAt old s new = (new.spent ≡ true) ⊎ ((new.spent ≡ false) × (new.state ≡ s) × (new.setting ≡ old.setting))
+IsLeftAt old s new =
+    (new.spent ≡ true) ⊎ ((new.spent ≡ false) × (new.state ≡ s) × (new.setting ≡ old.setting))
 
 -- Some of the requests were answered by the machine, and its answers are kept after those before.
 -- The core then holds the state that these requests lead to, or is spent.
@@ -50,5 +53,7 @@ pub record RunsPart (old : Kept) (commands : List Command) (before after : List 
 -- A run of the machine, with its answers after those before; or, where memory ran out, that of a first part.
 abbrev pub Runs : Kept → List Command → List Answer → List Answer → Result (Unit {0}) Fault → Kept → Type 0
 Runs old commands before after (Ok _) new =
-    (answers : List Answer) × (after ≡ before ++ answers) × Run old.setting old.state commands answers new.state × (new.spent ≡ false) × (new.setting ≡ old.setting)
-Runs old commands before after (Err fault) new = (fault ≡ OutOfMemory) × RunsPart old commands before after new
+    (answers : List Answer) × (after ≡ before ++ answers) × Run old.setting old.state commands answers new.state
+    × (new.spent ≡ false) × (new.setting ≡ old.setting)
+Runs old commands before after (Err fault) new =
+    (fault ≡ OutOfMemory) × RunsPart old commands before after new

@@ -8,7 +8,14 @@ use Rattle.thes_base.specs.Legal.{Legal}
 use Rattle.thes_core.specs.declared.thesaurus.Thesaurus.{Thesaurus}
 
 abbrev pub state_of : Thesaurus → State
-state_of t = record { resources = t.vocab.resources; iris = t.vocab.iris; labels = t.vocab.labels; links = t.graph.links; histories = t.book }
+state_of t =
+    record {
+      resources = t.vocab.resources;
+      iris = t.vocab.iris;
+      labels = t.vocab.labels;
+      links = t.graph.links;
+      histories = t.book;
+    }
 
 abbrev pub setting_of : Thesaurus → Setting
 setting_of t = record { base = t.vocab.base; limits = t.limits }

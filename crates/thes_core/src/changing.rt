@@ -95,7 +95,8 @@ impl Thesaurus {
         keep: bool,
     ) -> Result<Answer, AllocError>
         requires { Allows self.old (request.Relabel owner tag.now text.now keep) }
-        ensures { let command = request.Relabel owner tag.now text.now keep in IfOk result (ChangesBy command self.old self.new) }
+        ensures { let command = request.Relabel owner tag.now text.now keep in
+            IfOk result (ChangesBy command self.old self.new) }
     {
         self.vocab.relabel(owner, tag, text, keep)?;
         Ok(Answer::Done)
@@ -129,7 +130,7 @@ impl Thesaurus {
         Answer::Done
     }
 
-    // Joins two concepts, and answers how many postings moved.
+    // Joins two concepts. Answers how many postings moved.
     fn merge(&mut self, source: ResNo, target: ResNo) -> Result<Answer, AllocError>
         requires { Allows self.old (request.Merge source target) }
         ensures { IfOk result (ChangesBy (request.Merge source target) self.old self.new) }
@@ -141,7 +142,7 @@ impl Thesaurus {
         Ok(Answer::Moved(moved))
     }
 
-    // Makes a concept that takes postings of another, and answers its number and how many postings moved.
+    // Makes a concept that takes postings of another. Answers its number, and how many postings moved.
     fn split(
         &mut self,
         source: ResNo,
@@ -150,7 +151,8 @@ impl Thesaurus {
         postings: &[PostNo],
     ) -> Result<Answer, AllocError>
         requires { Allows self.old (request.Split source tag.now text.now postings.now) }
-        ensures { let command = request.Split source tag.now text.now postings.now in IfOk result (ChangesBy command self.old self.new) }
+        ensures { let command = request.Split source tag.now text.now postings.now in
+            IfOk result (ChangesBy command self.old self.new) }
     {
         let scheme = self.scheme(source);
         let new = NewResource::Concept(

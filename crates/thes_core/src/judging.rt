@@ -1,5 +1,5 @@
-//! Which refusal a request meets: its row of sentences, part by part, as its arguments, the vocabulary, the graph, the
-//! book and the limits show.
+//! Which refusal a request meets: the checks of its row in their order, as its arguments, the vocabulary, the graph,
+//! the book and the limits show.
 ghost use Rattle.std.specs.Prelude.{IfOk, IfSome, IfNone};
 ghost use Rattle.thes_base.specs.declared.fault.Refusal.TheVariants as no;
 ghost use Rattle.thes_base.specs.Machine.{HasNewKey, KnownAnswer};
@@ -64,7 +64,8 @@ impl Thesaurus {
 
     // Whether the limits leave room.
     fn judge_room(&self, growth: Growth) -> Option<Refusal>
-        ensures { refused_unless (HasRoom self.now.limits (state_of self.now) growth) no.TooMany accepted result }
+        ensures { let has_room = HasRoom self.now.limits (state_of self.now) growth in
+            refused_unless has_room no.TooMany accepted result }
     {
         let limits = &self.limits;
         if may_rise(

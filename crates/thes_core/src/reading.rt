@@ -99,7 +99,8 @@ impl Core {
     /// The numbers of the postings that stand at a concept, rising.
     pub fn standing_at(&self, concept: ResNo) -> &[PostNo]
         requires { self.now.spent ≡ false }
-        ensures { result.now ≡ map (λ h. h.number) (filter (stands_at concept) self.now.state.histories) }
+        ensures { let standing = filter (stands_at concept) self.now.state.histories in
+            result.now ≡ map (λ h. h.number) standing }
     {
         self.thesaurus.book.standing_at(concept)
     }
@@ -175,7 +176,8 @@ impl Core {
     /// The concepts that are broader than this one in its own scheme, by a link of whatever type, rising.
     pub fn broader_of(&self, alloc: Global, n: ResNo) -> Result<Vec<ResNo>, AllocError>
         requires { self.now.spent ≡ false }
-        ensures { IfOk result (λ found. IsListing nat_cmp (HasBroader self.now.state.links n) found.items) }
+        ensures { let is_broader = HasBroader self.now.state.links n in
+            IfOk result (λ found. IsListing nat_cmp is_broader found.items) }
     {
         self.thesaurus.graph.broader_of(alloc, n)
     }

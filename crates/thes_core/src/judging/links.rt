@@ -44,7 +44,8 @@ impl Thesaurus {
     fn judge_held(&self, link: &Link) -> Result<Option<Refusal>, AllocError>
         requires kept { IsKept self.now }
         requires ends { link.now.a ≢ link.now.b }
-        ensures { IfOk result (unless_linkable (is_outside self.now.vocab.resources) self.now.graph.links link.now) }
+        ensures { let outside = is_outside self.now.vocab.resources in
+            IfOk result (unless_linkable outside self.now.graph.links link.now) }
     {
         let mut walk = self.graph.walk();
         let answer = judge_add(self.alloc, &mut walk, link)?;
@@ -106,7 +107,8 @@ impl Thesaurus {
     fn judge_joined(&self, source: ResNo, target: ResNo) -> Result<Option<Refusal>, AllocError>
         requires kept { IsKept self.now }
         requires ends { source ≢ target }
-        ensures { let after = contracted (is_outside self.now.vocab.resources) source target self.now.graph.links in
+        ensures { let outside = is_outside self.now.vocab.resources in
+            let after = contracted outside source target self.now.graph.links in
             IfOk result (unless_consistent (HeldIn after) accepted) }
     {
         let mut walk = self.graph.walk();

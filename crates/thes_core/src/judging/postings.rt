@@ -23,7 +23,8 @@ impl Thesaurus {
         postings: &[PostNo],
     ) -> Result<Option<Refusal>, AllocError>
         requires { IsKept self.now }
-        ensures { IfOk result (Judges self.now (request.Split source tag.now text.now postings.now)) }
+        ensures { let command = request.Split source tag.now text.now postings.now in
+            IfOk result (Judges self.now command) }
     {
         if let Some(refusal) = judge_live_concept(&self.vocab, source) {
             return Ok(Some(refusal));
