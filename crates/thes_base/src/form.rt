@@ -2,7 +2,7 @@
 ghost use Rattle.std.specs.Prelude.{◌==◌, ◌↔◌, All, IsTrue, Bool, true, false, List, ℕ};
 ghost use Rattle.std.specs.List.{slice_split};
 ghost use Rattle.std.specs.Char.{IsAsciiAlphabetic, IsAsciiAlphanumeric};
-ghost use Rattle.thes_base.specs.Forms.{IsLine, IsTrimmedLine, IsText, IsKey, IsRecordName, IsNote, IsTag, IsPart, IsIri, IsBase, IsIriWithin, IsIriScheme, IsIriRest, IsKept, kept};
+ghost use Rattle.thes_base.specs.Forms.{IsLine, IsTrimmedLine, IsText, IsKey, IsRecordName, IsNote, IsTag, IsPart, IsIri, IsBase, IsIriWithin, IsIriScheme, IsIriRest, HasKeptForm, kept};
 ghost use Rattle.thes_base.specs.declared.fault.FormFault.{FormFault};
 ghost use Rattle.thes_base.specs.declared.fault.FormFault.TheVariants.{BadText, BadKey, BadRecord, BadTag, BadIri};
 
@@ -25,7 +25,7 @@ pub trait Form {
     /// Checks whether a text has the form. If it does, so does the text as it is kept.
     fn has_form(text: &str) -> bool
         ensures form { IsTrue result ↔ is_form text.now }
-        ensures stays { IsTrue result → IsKept is_form LOWERED (kept LOWERED text.now) };
+        ensures stays { IsTrue result → HasKeptForm is_form LOWERED (kept LOWERED text.now) };
 }
 
 /// The form of a label's text.
