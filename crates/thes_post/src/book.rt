@@ -22,9 +22,6 @@ use thes_base::number::{PostNo, ResNo};
 use thes_base::text::{Key, RecordName};
 use thes_lists::Lists;
 
-#[cfg(test)]
-mod tests;
-
 /// The histories of all postings, in the order in which they were accepted.
 #[derive(Drop)]
 pub struct Book {
