@@ -2,3 +2,4 @@ pub mod ChangeLemmas
 pub mod ListingLemmas
 pub mod MemberLemmas
 pub mod OrderLemmas
+pub mod TestLemmas

@@ -13,7 +13,7 @@ use Rattle.std.proofs.lemmas.List.Kept.{IsStrictlySortedBy-filter}
 use Rattle.std.proofs.lemmas.Bool.{cases_eq}
 use Rattle.thes_base.specs.Listing.{IsListing}
 use Rattle.thes_lists.specs.declared.lists.Lists.{Lists}
-use Rattle.thes_lists.specs.Lists.{listed_at, AreSame, ChangesAt, AllRise, AreListings}
+use Rattle.thes_lists.specs.Lists.{listed_at, AreSame, ChangesAt, AreListings}
 use Rattle.thes_lists.proofs.MemberLemmas.{Has, Has-from, Contains-from, filter_had, filter_keeps}
 use Rattle.thes_lists.proofs.OrderLemmas.{sorted_none, above_head, insert_cases, insert_keeps, insert_sorted, remove_had, remove_sorted, never_below_itself}
 
@@ -35,12 +35,6 @@ module _ {A : Type 0} (c : A → A → Ordering) where
   }
 
   -- in each of the lists
-
-  pub listings_rise : (P : ℕ → A → Type 0) (lists : Lists A) → AreListings c P lists → AllRise c lists
-  listings_rise P lists are n = (are n).rises
-
-  pub rise_same : (old new : Lists A) → AreSame old new → AllRise c old → AllRise c new
-  rise_same old new same rise n = subst (IsStrictlySortedBy c) (sym (same n)) (rise n)
 
   pub listings_same : (P Q : ℕ → A → Type 0) (old new : Lists A) → AreSame old new → ((n : ℕ) (x : A) → P n x → Q n x) → ((n : ℕ) (x : A) → Q n x → P n x) → AreListings c P old → AreListings c Q new
   listings_same P Q old new same to from are n = subst (IsListing c (Q n)) (sym (same n)) (listing_as (P n) (Q n) (listed_at old n) (to n) (from n) (are n))

@@ -3,7 +3,7 @@ use Rattle.std.proofs.lemmas.Fn.{always_returns_same}
 use Rattle.thes_base.specs.Data.{LabelData}
 use Rattle.thes_vocab.specs.LabelData.{data_cmp, own_label}
 use Rattle.thes_vocab.proofs.OwnLemmas.{searched}
-use Rattle.thes_vocab.proofs.row.place.Goals as goal
+use Rattle.thes_vocab.proofs.row.search.Goals as goal
 
 pub returns : goal.returns
 returns c =

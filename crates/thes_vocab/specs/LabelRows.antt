@@ -29,15 +29,18 @@ abbrev pub OwnsNone : Labels → ℕ → Type 0
 OwnsNone labels owner = (l : LabelData) → set.contains labels (owned owner l) ≡ false
 
 -- the rows with one more label, and with one less
-abbrev pub IsPut : BTreeMap ℕ (List LabelData) → BTreeMap ℕ (List LabelData) → ℕ → LabelData → Type 0
-IsPut old new owner l = (n : ℕ) (q : LabelData) → has_own (row_of new n) q ≡ ((eq_by_cmp nat_cmp n owner && eq_by_cmp data_cmp q l) || has_own (row_of old n) q)
+abbrev pub IsLabelPut : BTreeMap ℕ (List LabelData) → BTreeMap ℕ (List LabelData) → ℕ → LabelData → Type 0
+IsLabelPut old new owner l = (n : ℕ) (q : LabelData) →
+    has_own (row_of new n) q ≡ ((eq_by_cmp nat_cmp n owner && eq_by_cmp data_cmp q l) || has_own (row_of old n) q)
 
-abbrev pub IsTaken : BTreeMap ℕ (List LabelData) → BTreeMap ℕ (List LabelData) → ℕ → LabelData → Type 0
-IsTaken old new owner l = (n : ℕ) (q : LabelData) → has_own (row_of new n) q ≡ (not (eq_by_cmp nat_cmp n owner && eq_by_cmp data_cmp q l) && has_own (row_of old n) q)
+abbrev pub IsLabelDropped : BTreeMap ℕ (List LabelData) → BTreeMap ℕ (List LabelData) → ℕ → LabelData → Type 0
+IsLabelDropped old new owner l = (n : ℕ) (q : LabelData) →
+    has_own (row_of new n) q ≡ (not (eq_by_cmp nat_cmp n owner && eq_by_cmp data_cmp q l) && has_own (row_of old n) q)
 
 -- the target's row with the names that it takes from the source
 abbrev pub IsMerged : BTreeMap ℕ (List LabelData) → ℕ → ℕ → List LabelData → Type 0
-IsMerged rows source target row = (l : LabelData) → has_own row l ≡ (has_own (row_of rows target) l || gives (row_of rows source) (row_of rows target) l)
+IsMerged rows source target row = (l : LabelData) →
+    has_own row l ≡ (has_own (row_of rows target) l || gives (row_of rows source) (row_of rows target) l)
 
 abbrev pub AreSame : BTreeMap ℕ (List LabelData) → BTreeMap ℕ (List LabelData) → Type 0
 AreSame old new = (n : ℕ) → row_of new n ≡ row_of old n
