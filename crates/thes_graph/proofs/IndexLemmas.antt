@@ -19,7 +19,8 @@ use Rattle.thes_base.specs.Listing.{IsListing}
 use Rattle.thes_base.proofs.LinkSets.{links_total, links_exact, link_inserted_cases}
 use Rattle.thes_lists.specs.declared.lists.Lists.{Lists}
 use Rattle.thes_lists.specs.Lists.{listed_at, AreSame, ChangesAt}
-use Rattle.thes_lists.proofs.OrderLemmas.{Has, Has-from, Contains-from, sorted_none, above_head, insert_cases, insert_sorted, remove_had, remove_sorted, never_below_itself}
+use Rattle.thes_lists.proofs.MemberLemmas.{Has, Has-from, Contains-from}
+use Rattle.thes_lists.proofs.OrderLemmas.{sorted_none, above_head, insert_cases, insert_sorted, remove_had, remove_sorted, never_below_itself}
 use Rattle.thes_lists.proofs.OrderLemmas as order
 use Rattle.thes_lists.proofs.ListingLemmas.{insert_has, remove_apart, remove_keeps, listing_as, listing_insert, listing_remove, listing_same}
 use Rattle.thes_graph.specs.declared.side.Standing.{Standing}
