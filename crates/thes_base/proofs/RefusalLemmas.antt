@@ -32,7 +32,7 @@ use Rattle.thes_base.proofs.LabelsKept.{renamed_cases}
 use Rattle.thes_base.proofs.ResourceLemmas.{marked_dead_at, exists_dead}
 use Rattle.thes_base.proofs.ResourcesKept.{IsFit, concept_fit, own_scheme, each_pushed, iris_push, resources_merged}
 use Rattle.thes_base.proofs.ConditionLemmas.{owner_exists, ends_exist}
-use Rattle.thes_base.proofs.LinkSets.{link_inserted_cases, in_from_list, in_items, in_map, in_filter}
+use Rattle.thes_base.proofs.LinkSets.{link_inserted_cases, contracted_from}
 use Rattle.thes_base.proofs.MergedLabels.{labels_merged}
 use Rattle.thes_base.proofs.MachineLemmas.{sees, sees_rules}
 
@@ -107,11 +107,10 @@ module _ (base : List ℕ) (s : State) (legal : Legal base s) where
   -- the ends of the links that the merge leaves are those of before, and the target
   contracted_ends : (source target : ℕ) → Exists s.resources target → (m : Link) → HeldIn (contracted (is_outside s.resources) source target s.links) m → HasEnds s.resources m
   contracted_ends source target to m held =
-      let mapped = in_map (λ l. norm (is_outside s.resources) (sent_link source target l)) m _ (in_from_list _ m held) in
-      let l = mapped.0 in
-      let kept = in_filter (λ x. not (sent source target x.a == sent source target x.b)) l _ mapped.1 in
-      let known = held_ends l (in_items s.links l kept.0) in
-      subst (HasEnds s.resources) (sym mapped.2)
+      let merged = contracted_from (is_outside s.resources) source target s.links m held in
+      let l = merged.0 in
+      let known = held_ends l merged.1 in
+      subst (HasEnds s.resources) (sym merged.3)
       (norm_ends s.resources (is_outside s.resources) (sent_link source target l) (sent_exists s.resources source target l.a to known.0, sent_exists s.resources source target l.b to known.1))
 
   merge_seen : (source target : ℕ) → unless_pair s.resources source target accepted None → IsSeen base (merged source target s)

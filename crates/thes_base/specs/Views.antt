@@ -9,11 +9,14 @@ use Rattle.thes_base.specs.declared.data.Totals.{Totals}
 use Rattle.thes_base.specs.declared.data.LabelKind.{LabelKind}
 use Rattle.thes_base.specs.declared.data.LabelKind.TheVariants.{Pref, Alt, Hidden, Scope}
 use Rattle.thes_base.specs.declared.data.LinkKind.{LinkKind}
-use Rattle.thes_base.specs.declared.data.LinkKind.TheVariants.{Broader, Related, Exact, Close, Broad, Narrow, RelMatch, Member}
+use Rattle.thes_base.specs.declared.data.LinkKind.TheVariants.{Related, Exact, Close, Broad, Narrow, RelMatch, Member, BroaderGeneric, BroaderPartitive, BroaderInstantial}
+use Rattle.thes_base.specs.declared.data.TypedKind.{TypedKind}
+use Rattle.thes_base.specs.declared.data.TypedKind.TheVariants as typed
 use Rattle.thes_base.specs.Listing.{IsListing}
 use Rattle.thes_base.specs.Resources.{numbered}
 use Rattle.thes_base.specs.Labels.{HasLabel}
-use Rattle.thes_base.specs.Links.{Links, HeldIn}
+use Rattle.thes_base.specs.Links.{Links, HeldIn, IsHierarchical}
+use Rattle.thes_base.specs.Words.{link_word, typed_word}
 use Rattle.thes_base.specs.Postings.{stands_at, standing_count, accepted_count, withdrawn_count}
 use Rattle.thes_base.specs.State.{State}
 
@@ -22,7 +25,11 @@ use Rattle.thes_base.specs.State.{State}
 -- how many were accepted, how many of them were withdrawn, and how many stand
 abbrev pub totals_of : List History → Totals
 totals_of histories =
-    record { accepted = accepted_count histories; withdrawn = withdrawn_count histories; standing = accepted_count histories - withdrawn_count histories }
+    record {
+      accepted = accepted_count histories;
+      withdrawn = withdrawn_count histories;
+      standing = accepted_count histories - withdrawn_count histories;
+    }
 
 -- the histories of the postings that stand at the concept, in the order of their numbers
 abbrev pub standing_histories : ℕ → List History → List History
@@ -43,20 +50,30 @@ IsMapping links n (Broad, m) = HasLink links Broad n m ⊎ HasLink links Narrow 
 IsMapping links n (Narrow, m) = HasLink links Narrow n m ⊎ HasLink links Broad m n
 IsMapping links n (_, m) = ⊥
 
--- where the kind's word stands: those of mappings first, broad, close, exact, narrow, relMatch
-abbrev pub word_place : LinkKind → ℕ
-word_place Broad = 1
-word_place Close = 2
-word_place Exact = 3
-word_place Narrow = 4
-word_place RelMatch = 5
-word_place Broader = 6
-word_place Related = 7
-word_place Member = 8
+-- by the word's bytes, then by number
+abbrev pub word_cmp : {K : Type 0} → (K → List ℕ) → K × ℕ → K × ℕ → Ordering
+word_cmp word x y = ordering_then (slice_cmp nat_cmp (word x.0) (word y.0)) (nat_cmp x.1 y.1)
 
--- by the kind's word, then by number
 abbrev pub mapping_cmp : LinkKind × ℕ → LinkKind × ℕ → Ordering
-mapping_cmp x y = ordering_then (nat_cmp (word_place x.0) (word_place y.0)) (nat_cmp x.1 y.1)
+mapping_cmp = word_cmp link_word
+
+-- Hierarchical links.
+
+-- b is broader than a within their scheme, by a link of whatever type
+abbrev pub HasBroader : Links → ℕ → ℕ → Type 0
+HasBroader links a b = (kind : LinkKind) × IsHierarchical kind × HasLink links kind a b
+
+-- Number n has this typed link, as seen from it: to the broader concept, or from the narrower one.
+abbrev pub IsTyped : Links → ℕ → TypedKind × ℕ → Type 0
+IsTyped links n (typed.BroaderGeneric, m) = HasLink links BroaderGeneric n m
+IsTyped links n (typed.BroaderPartitive, m) = HasLink links BroaderPartitive n m
+IsTyped links n (typed.BroaderInstantial, m) = HasLink links BroaderInstantial n m
+IsTyped links n (typed.NarrowerGeneric, m) = HasLink links BroaderGeneric m n
+IsTyped links n (typed.NarrowerPartitive, m) = HasLink links BroaderPartitive m n
+IsTyped links n (typed.NarrowerInstantial, m) = HasLink links BroaderInstantial m n
+
+abbrev pub typed_cmp : TypedKind × ℕ → TypedKind × ℕ → Ordering
+typed_cmp = word_cmp typed_word
 
 -- Concepts.
 
@@ -85,6 +102,7 @@ pub record ConceptShown : Type 0 where
   pub scheme : Option ℕ
   pub scope : List Tagged
   pub top : Bool
+  pub typed : List (TypedKind × ℕ)
 
 module _ (s : State) (n : ℕ) where
   -- these are the labels of the kind, in order
@@ -103,11 +121,12 @@ module _ (s : State) (n : ℕ) where
     pub alt : AreLabels Alt c.alt
     pub hidden : AreLabels Hidden c.hidden
     pub scope : AreLabels Scope c.scope
-    pub broader : IsListing nat_cmp (λ b. HasLink s.links Broader n b) c.broader
-    pub narrower : IsListing nat_cmp (λ a. HasLink s.links Broader a n) c.narrower
+    pub broader : IsListing nat_cmp (λ b. HasBroader s.links n b) c.broader
+    pub narrower : IsListing nat_cmp (λ a. HasBroader s.links a n) c.narrower
     pub related : IsListing nat_cmp (λ m. HasLink s.links Related n m ⊎ HasLink s.links Related m n) c.related
     pub collections : IsListing nat_cmp (λ k. HasLink s.links Member k n) c.collections
     pub mappings : IsListing mapping_cmp (IsMapping s.links n) c.mappings
     pub postings : c.postings ≡ standing_count n s.histories
     -- a live concept without a broader one
     pub top : c.top ≡ (resource.live && length c.broader == 0)
+    pub typed : IsListing typed_cmp (IsTyped s.links n) c.typed
