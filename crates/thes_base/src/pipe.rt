@@ -10,9 +10,6 @@ use std::io;
 use std::io::{ErrorKind, Read, Write};
 use std::marker::Model;
 
-#[cfg(test)]
-mod tests;
-
 /// How many reads and writes the call of an engine may still make, all its pipes together.
 #[derive(Drop)]
 pub struct Budget {
