@@ -48,7 +48,8 @@ fn fault_line(fault: PipeFault) -> Line
 /// Prints a text, and says whether all of it was written.
 pub fn print<W: Write>(writer: &mut Pipe<W>, text: &[u8]) -> bool
     requires { IsFresh writer.old }
-    ensures { MatchBool result (Appends (written W.contents writer.old) (written W.contents writer.new) text.now)
+    ensures { MatchBool result (Appends (written W.contents writer.old)
+        (written W.contents writer.new) text.now)
         (AppendsFront (written W.contents writer.old) (written W.contents writer.new) text.now
         × ((failed_of writer.new ≡ true) ⊎ (denied_of writer.new ≡ true))) }
 {

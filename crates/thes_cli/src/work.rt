@@ -27,7 +27,7 @@ const NOT_TEXT: &str = "thesaurus: a word of the command line is not UTF-8\n";
 fn new_store(alloc: Global) -> Result<Core, AllocError>
     ensures { IfOk result IsNewStore }
 {
-    // It has the form of a base, so only memory can be wanting.
+    // It has the form of a base, so the only cause of an error is memory.
     let base = Base::read(alloc, BASE).map_err(|_| AllocError)?;
     Ok(Core::new(alloc, base, Limits::default()))
 }

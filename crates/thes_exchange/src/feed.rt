@@ -71,7 +71,8 @@ impl Feed {
         requires { IsFresh reader.old }
         ensures byte { IfOk result (λ found. TakesByte found
             (left R.remaining self.old reader.old) (left R.remaining self.new reader.new) (ended_of reader.new)) }
-        ensures err { OnErr result (Keeps (left R.remaining self.old reader.old) (left R.remaining self.new reader.new)
+        ensures err { OnErr result (Keeps (left R.remaining self.old reader.old)
+            (left R.remaining self.new reader.new)
             × (ended_of reader.new ≡ false)) }
         ensures emptied { OnErr result (self.new ≡ []) }
         ensures failed { IsErrOf result Stop.Failed ↔ (failed_of reader.new ≡ true) }
@@ -96,9 +97,11 @@ impl Feed {
             (left R.remaining self.old reader.old) (left R.remaining self.new reader.new) (ended_of reader.new)) }
         ensures end { IfOk result (λ found. found ≡ Found.End → FindsEnd
             (left R.remaining self.old reader.old) (left R.remaining self.new reader.new) (ended_of reader.new)) }
-        ensures broken { IsErrOf result Stop.Failed → TakesPart (left R.remaining self.old reader.old) (unread R.remaining reader.new) }
+        ensures broken { IsErrOf result Stop.Failed →
+            TakesPart (left R.remaining self.old reader.old) (unread R.remaining reader.new) }
         ensures failed { IsErrOf result Stop.Failed ↔ (failed_of reader.new ≡ true) }
-        ensures too_long { IsErrOf result Stop.TooLong → (denied_of reader.new ≡ true) ⊎ IsTooLong (left R.remaining self.old reader.old) }
+        ensures too_long { IsErrOf result Stop.TooLong → (denied_of reader.new ≡ true)
+            ⊎ IsTooLong (left R.remaining self.old reader.old) }
         ensures denied { denied_of reader.new ≡ true → IsErrOf result Stop.TooLong }
         ensures paid { PaysCalls reader.old reader.new budget.old budget.new }
     {
@@ -133,8 +136,10 @@ impl Feed {
     fn refill<R: Read>(&mut self, reader: &mut Pipe<R>, budget: &mut Budget) -> Result<bool, Stop>
         requires fresh { IsFresh reader.old }
         requires used { self.old ≡ [] }
-        ensures more { IfOk result (λ more. more ≡ true → (self.new ≢ []) × (ended_of reader.new ≡ false)) }
-        ensures kept { Keeps (left R.remaining self.old reader.old) (left R.remaining self.new reader.new) }
+        ensures more { IfOk result (λ more. more ≡ true → (self.new ≢ [])
+            × (ended_of reader.new ≡ false)) }
+        ensures kept { Keeps (left R.remaining self.old reader.old)
+            (left R.remaining self.new reader.new) }
         ensures end { IfOk result (λ more. more ≡ false → (self.new ≡ [])
             × IsAtEnd (left R.remaining self.new reader.new) × (ended_of reader.new ≡ true)) }
         ensures err { OnErr result ((self.new ≡ []) × (ended_of reader.new ≡ false)) }

@@ -45,7 +45,8 @@ pub enum Request {
 
 // The number, if it is one that a resource may have.
 fn res_no(number: &Number) -> Result<ResNo, ReadStop>
-    ensures { let n = whole (number_view number.now) in Reads (IsNumber n) BadNumber (λ m. m ≡ n) result }
+    ensures { let n = whole (number_view number.now) in Reads (IsNumber n) BadNumber
+        (λ m. m ≡ n) result }
 {
     number
         .as_u64()
@@ -56,7 +57,8 @@ fn res_no(number: &Number) -> Result<ResNo, ReadStop>
 
 // The number, if it is one that a posting may have.
 fn post_no(number: &Number) -> Result<PostNo, ReadStop>
-    ensures { let n = whole (number_view number.now) in Reads (IsNumber n) BadNumber (λ m. m ≡ n) result }
+    ensures { let n = whole (number_view number.now) in Reads (IsNumber n) BadNumber
+        (λ m. m ≡ n) result }
 {
     number
         .as_u64()
@@ -67,7 +69,8 @@ fn post_no(number: &Number) -> Result<PostNo, ReadStop>
 
 // The numbers, if each is one that a posting may have.
 fn post_nos(alloc: Global, numbers: &[&Number]) -> Result<PostNos, ReadStop>
-    ensures { let ns = map whole (map (λ n. number_view n.now) numbers.now) in Reads (AreNumbers ns) BadNumber (λ ms. ms ≡ ns) result }
+    ensures { let ns = map whole (map (λ n. number_view n.now) numbers.now) in Reads
+        (AreNumbers ns) BadNumber (λ ms. ms ≡ ns) result }
 {
     let mut list = PostNos::new(alloc);
     for number in numbers {
@@ -131,7 +134,8 @@ fn outside_in(alloc: Global, value: &Value) -> Result<Command, ReadStop>
 
 // A label's value, of this kind.
 fn value_of_kind(alloc: Global, kind: LabelKind, text: &str) -> Result<LabelValue, ReadStop>
-    ensures { Reads (IsLabelText kind text.now) BadText (λ v. (kind_of v ≡ kind) × (text_of v ≡ text.now)) result }
+    ensures { Reads (IsLabelText kind text.now) BadText (λ v. (kind_of v ≡ kind)
+        × (text_of v ≡ text.now)) result }
 {
     Ok(match kind {
         LabelKind::Pref => LabelValue::Pref(Text::read(alloc, text)?),
@@ -396,7 +400,8 @@ fn request_in(alloc: Global, value: &Value) -> Result<Request, ReadStop>
 // What the bytes are as JSON.
 fn json_in(alloc: Global, bytes: &[u8]) -> Result<Value, ReadStop>
     ensures ok { IfOk result (λ v. json_in bytes.now ≡ Some (view v)) }
-    ensures err { IfErr result (λ e. (e ≡ ReadStop.OutOfMemory) ⊎ ((e ≡ ReadStop.Form NotJson) × (json_in bytes.now ≡ None))) }
+    ensures err { IfErr result (λ e. (e ≡ ReadStop.OutOfMemory)
+        ⊎ ((e ≡ ReadStop.Form NotJson) × (json_in bytes.now ≡ None))) }
 {
     match Value::from_slice(alloc, bytes) {
         Ok(value) => Ok(value),

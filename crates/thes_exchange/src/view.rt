@@ -179,7 +179,8 @@ fn put_labels(
     alloc: Global,
     concept: &ConceptView,
 ) -> Result<(), AllocError>
-    ensures { OnOk result (members_view members.new.entries ≡ with_labels concept.now (members_view members.old.entries)) }
+    ensures { OnOk result (members_view members.new.entries ≡ with_labels concept.now
+        (members_view members.old.entries)) }
 {
     put(members, alloc, "alt", labels_value(alloc, &concept.alt)?)?;
     put(
@@ -204,7 +205,8 @@ fn put_links(
     alloc: Global,
     concept: &ConceptView,
 ) -> Result<(), AllocError>
-    ensures { OnOk result (members_view members.new.entries ≡ with_links concept.now (members_view members.old.entries)) }
+    ensures { OnOk result (members_view members.new.entries ≡ with_links concept.now
+        (members_view members.old.entries)) }
 {
     put(
         members,
@@ -246,7 +248,8 @@ fn put_facts(
     alloc: Global,
     concept: &ConceptView,
 ) -> Result<(), AllocError>
-    ensures { OnOk result (members_view members.new.entries ≡ with_facts concept.now (members_view members.old.entries)) }
+    ensures { OnOk result (members_view members.new.entries ≡ with_facts concept.now
+        (members_view members.old.entries)) }
 {
     put(members, alloc, "live", Value::from(concept.live))?;
     put(members, alloc, "number", Value::from(concept.number.get()))?;
@@ -340,7 +343,8 @@ fn posting_value(alloc: Global, history: &History) -> Result<Value, AllocError>
 // The line of a value.
 #[tactic(auto, unfolding(crate::specs::ViewTexts::line_text))]
 fn value_line(alloc: Global, value: &Value) -> Result<Vec<u8>, AllocError>
-    ensures { IfOk result (λ text. has_float (view value.now) ≡ false → text.items ≡ line_text (view value.now)) }
+    ensures { IfOk result (λ text. has_float (view value.now) ≡ false →
+        text.items ≡ line_text (view value.now)) }
 {
     let mut text = value.to_vec(alloc)?;
     text.push(b'\n')?;

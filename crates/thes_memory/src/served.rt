@@ -110,7 +110,7 @@ fn is_kept(alloc: Global, written: &str) -> Result<bool, AllocError> {
     Ok(again.as_slice() == answers.as_bytes())
 }
 
-// Whether a script that met want of memory ended as it should: with each request answered, or with the one that closed the store.
+// Whether a script that ran out of memory ended as it should: with each request answered, or with the one that closed the store.
 fn is_ended(written: &str, ended: &Result<Ended, PipeFault>) -> bool {
     match ended {
         Ok(ended) => {
