@@ -6,8 +6,6 @@ ghost use Rattle.thes_cli.specs.Ending as ends;
 ghost use Rattle.thes_cli.specs.Parting.{parting_status};
 
 mod ending;
-#[cfg(test)]
-mod tests;
 mod words;
 
 use ending::{fault_of, status_of};

@@ -9,9 +9,6 @@ use std::marker::Model;
 use thes_base::fault::{Fault, FormFault, Refusal};
 use thes_base::request::Answer;
 
-#[cfg(test)]
-mod tests;
-
 /// What a request is answered with.
 #[derive(Clone, Copy, Debug, PartialEq, Eq)]
 pub enum Reply {

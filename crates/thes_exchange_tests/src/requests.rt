@@ -1,7 +1,8 @@
-use super::read_request;
+//! What lines are read as.
 use std::alloc::Global;
 use std::test::Fail;
 use thes_base::fault::{FormFault, ReadStop};
+use thes_exchange::request::read_request;
 
 // The form fault of a line, if it has one.
 fn fault_of(alloc: Global, line: &[u8]) -> Option<FormFault> {
