@@ -5,14 +5,13 @@ ghost use Rattle.serde_json.specs.Written.{has_float};
 ghost use Rattle.thes_base.specs.Postings.{place};
 ghost use Rattle.thes_core.specs.Shown.{tagged};
 ghost use Rattle.thes_exchange.specs.ConceptMembers.{with_labels, with_links, with_facts};
-ghost use Rattle.thes_exchange.specs.ViewTexts.{num, listed, number_or_null, tagged_data, mapping_data, move_data, row_data, totals_data, concept_data, postings_data, posting_data, line_text, view_text};
+ghost use Rattle.thes_exchange.specs.ViewTexts.{num, listed, number_or_null, tagged_data, mapping_data, typed_data, word_data, move_data, row_data, totals_data, concept_data, postings_data, posting_data, line_text, view_text};
 
 use crate::answer::refusal_line;
-use crate::words::link_word;
 use serde_json::{Map, Value, json, put};
 use std::alloc::{AllocError, Global};
 use std::marker::Model;
-use thes_base::data::{History, Label, LinkKind, Move, Totals};
+use thes_base::data::{History, Label, LinkKind, Move, Totals, TypedKind};
 use thes_base::fault::Refusal;
 use thes_base::number::ResNo;
 
@@ -34,6 +33,7 @@ pub struct ConceptView<'a> {
     pub scheme: Option<ResNo>,
     pub scope: Vec<&'a Label>,
     pub top: bool,
+    pub typed: Vec<(TypedKind, ResNo)>,
 }
 
 impl<'a> Model for ConceptView<'a> {
@@ -59,6 +59,7 @@ impl<'a> Model for ConceptView<'a> {
       scheme = c.scheme;
       scope = map (λ l. tagged l.now) c.scope.items;
       top = c.top;
+      typed = c.typed.items;
     } };
 }
 
@@ -137,21 +138,33 @@ fn labels_value(alloc: Global, labels: &[&Label]) -> Result<Value, AllocError>
     Ok(Value::Array(list))
 }
 
-// A mapping as JSON: its word and its other end.
-fn mapping_value(alloc: Global, mapping: (LinkKind, ResNo)) -> Result<Value, AllocError>
-    ensures { IfOk result (λ v. view v ≡ mapping_data mapping) }
+// A word and a number as JSON.
+fn word_value(alloc: Global, word: &str, number: ResNo) -> Result<Value, AllocError>
+    ensures { IfOk result (λ v. view v ≡ word_data word.now number) }
 {
-    let (kind, other) = mapping;
-    json!(in alloc; [link_word(kind), other.get()])
+    json!(in alloc; [word, number.get()])
 }
 
-// Mappings as JSON.
+// Mappings as JSON: of each its word and its other end.
 fn mappings_value(alloc: Global, mappings: &[(LinkKind, ResNo)]) -> Result<Value, AllocError>
     ensures { IfOk result (λ v. view v ≡ listed mapping_data mappings.now) }
 {
     let mut list = Vec::new(alloc);
     for mapping in mappings {
-        list.push(mapping_value(alloc, *mapping)?)?;
+        let (kind, other) = *mapping;
+        list.push(word_value(alloc, kind.word(), other)?)?;
+    }
+    Ok(Value::Array(list))
+}
+
+// Typed links as JSON: of each its word and its other end.
+fn typed_value(alloc: Global, typed: &[(TypedKind, ResNo)]) -> Result<Value, AllocError>
+    ensures { IfOk result (λ v. view v ≡ listed typed_data typed.now) }
+{
+    let mut list = Vec::new(alloc);
+    for link in typed {
+        let (kind, other) = *link;
+        list.push(word_value(alloc, kind.word(), other)?)?;
     }
     Ok(Value::Array(list))
 }
@@ -219,7 +232,8 @@ fn put_links(
         alloc,
         "related",
         numbers_value(alloc, &concept.related)?,
-    )
+    )?;
+    put(members, alloc, "typed", typed_value(alloc, &concept.typed)?)
 }
 
 // Adds what else is shown of it.

@@ -1,7 +1,7 @@
 //! The lines of views.
 use std::alloc::Global;
 use std::test::Fail;
-use thes_base::data::{History, Label, LabelValue, LinkKind, Move, Moves, Totals};
+use thes_base::data::{History, Label, LabelValue, LinkKind, Move, Moves, Totals, TypedKind};
 use thes_base::fault::Refusal;
 use thes_base::number::{MoveNo, PostNo, ResNo};
 use thes_base::text::{Key, Note, RecordName, Tag, Text};
@@ -135,6 +135,7 @@ fn unlinked(alloc: Global, pref: &[Label], alt: &[Label]) -> Result<Vec<u8>, Fai
         scheme,
         scope: Vec::new(alloc),
         top: true,
+        typed: Vec::new(alloc),
     });
     Ok(view_line(alloc, &view)?)
 }
@@ -147,7 +148,7 @@ fn a_concept(rt: HostRuntime) -> Result<(), Fail> {
     let line = unlinked(alloc, &pref, &alt)?;
     assert_eq!(rt;
         line.as_slice(),
-        b"{\"alt\":[[\"en\",\"Cats\"]],\"broader\":[],\"collections\":[],\"hidden\":[],\"live\":true,\"mappings\":[],\"narrower\":[],\"number\":3,\"postings\":1,\"pref\":[[\"en\",\"Mammals\"]],\"related\":[],\"replaced\":null,\"scheme\":1,\"scope\":[],\"top\":true}\n".as_slice()
+        b"{\"alt\":[[\"en\",\"Cats\"]],\"broader\":[],\"collections\":[],\"hidden\":[],\"live\":true,\"mappings\":[],\"narrower\":[],\"number\":3,\"postings\":1,\"pref\":[[\"en\",\"Mammals\"]],\"related\":[],\"replaced\":null,\"scheme\":1,\"scope\":[],\"top\":true,\"typed\":[]}\n".as_slice()
     );
     Ok(())
 }
@@ -169,6 +170,9 @@ fn full(alloc: Global, pref: &[Label], hidden: &[Label], scope: &[Label]) -> Res
     let mut mappings = Vec::new(alloc);
     mappings.push((LinkKind::Broad, res_no(6)?))?;
     mappings.push((LinkKind::RelMatch, res_no(7)?))?;
+    let mut typed = Vec::new(alloc);
+    typed.push((TypedKind::BroaderGeneric, res_no(4)?))?;
+    typed.push((TypedKind::NarrowerPartitive, res_no(8)?))?;
     let collections = one(alloc, 5)?;
     let narrower = one(alloc, 8)?;
     let related = one(alloc, 9)?;
@@ -191,6 +195,7 @@ fn full(alloc: Global, pref: &[Label], hidden: &[Label], scope: &[Label]) -> Res
         scheme,
         scope,
         top: false,
+        typed,
     });
     Ok(view_line(alloc, &view)?)
 }
@@ -204,7 +209,7 @@ fn a_full_concept(rt: HostRuntime) -> Result<(), Fail> {
     let line = full(alloc, &pref, &hidden, &scope)?;
     assert_eq!(rt;
         line.as_slice(),
-        b"{\"alt\":[],\"broader\":[3,4],\"collections\":[5],\"hidden\":[[\"en\",\"Katz\"]],\"live\":false,\"mappings\":[[\"broad\",6],[\"relMatch\",7]],\"narrower\":[8],\"number\":2,\"postings\":0,\"pref\":[[\"en\",\"a \\\"b\\\\c\"]],\"related\":[9],\"replaced\":3,\"scheme\":1,\"scope\":[[\"en\",\"Of any age.\"]],\"top\":false}\n".as_slice()
+        b"{\"alt\":[],\"broader\":[3,4],\"collections\":[5],\"hidden\":[[\"en\",\"Katz\"]],\"live\":false,\"mappings\":[[\"broad\",6],[\"relMatch\",7]],\"narrower\":[8],\"number\":2,\"postings\":0,\"pref\":[[\"en\",\"a \\\"b\\\\c\"]],\"related\":[9],\"replaced\":3,\"scheme\":1,\"scope\":[[\"en\",\"Of any age.\"]],\"top\":false,\"typed\":[[\"broaderGeneric\",4],[\"narrowerPartitive\",8]]}\n".as_slice()
     );
     Ok(())
 }

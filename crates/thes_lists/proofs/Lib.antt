@@ -1,3 +1,4 @@
 pub mod ChangeLemmas
-pub mod OrderLemmas
 pub mod ListingLemmas
+pub mod MemberLemmas
+pub mod OrderLemmas
