@@ -7,9 +7,6 @@ use crate::line::Line;
 use thes_base::fault::{Fault, FormFault, Refusal};
 use thes_base::request::Answer;
 
-#[cfg(test)]
-mod tests;
-
 /// What a request is answered with.
 #[derive(Clone, Copy, Debug, PartialEq, Eq)]
 pub enum Reply {

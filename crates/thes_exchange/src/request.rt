@@ -22,9 +22,6 @@ use thes_base::number::{PostNo, ResNo};
 use thes_base::request::{Command, PostNos};
 use thes_base::text::{Iri, Key, Note, RecordName, Tag, Text};
 
-#[cfg(test)]
-mod tests;
-
 const BAD_NUMBER: ReadStop = ReadStop::Form(FormFault::BadNumber);
 
 /// What a request asks to see.

@@ -16,9 +16,6 @@ use thes_base::fault::{Fault, PipeFault};
 use thes_base::pipe::{Budget, Pipe};
 use thes_base::request::Answer;
 
-#[cfg(test)]
-mod tests;
-
 /// How a script ended.
 #[derive(Clone, Copy, Debug, PartialEq, Eq)]
 pub struct Ended {

@@ -15,9 +15,6 @@ use thes_base::data::{History, Label, LinkKind, Move, Totals, TypedKind};
 use thes_base::fault::Refusal;
 use thes_base::number::ResNo;
 
-#[cfg(test)]
-mod tests;
-
 /// A concept with its labels, its links and the count of the postings that stand at it.
 #[derive(Drop)]
 pub struct ConceptView<'a> {

@@ -47,7 +47,8 @@ impl Desk {
     pub fn post(&mut self, key: &str, rec: &str, at: u32) -> Result<Answer, ReadStop> {
         let key = Key::read(self.alloc, key)?;
         let rec = RecordName::read(self.alloc, rec)?;
-        match self.book.judge_post(&key, &rec, concept(at)) {
+        let at = concept(at);
+        match self.book.judge_post(&key, &rec, at) {
             Some(Known::Again(number)) => return Ok(Answer::Again(number.get())),
             Some(Known::Reused) => return Ok(Answer::Reused),
             None => {}
@@ -55,15 +56,16 @@ impl Desk {
         if self.book.totals().accepted > 100 {
             return Ok(Answer::No(Refusal::TooMany));
         }
-        Ok(Answer::Number(self.book.post(&key, &rec, concept(at))?.get()))
+        Ok(Answer::Number(self.book.post(&key, &rec, at)?.get()))
     }
 
     /// Withdraws a posting that stands.
     pub fn withdraw(&mut self, number: u32) -> Answer {
-        if let Some(refusal) = self.book.judge_withdraw(posting(number)) {
+        let number = posting(number);
+        if let Some(refusal) = self.book.judge_withdraw(number) {
             return Answer::No(refusal);
         }
-        self.book.withdraw(posting(number));
+        self.book.withdraw(number);
         Answer::Done
     }
 

@@ -1,7 +1,12 @@
-use super::read_request;
-use std::alloc::Global;
+//! What lines are read as.
+use std::alloc::{AllocError, Global};
 use std::test::Fail;
+use thes_base::data::Label;
 use thes_base::fault::{FormFault, ReadStop};
+use thes_base::number::ResNo;
+use thes_base::request::{Command, PostNos};
+use thes_base::text::Text;
+use thes_exchange::request::{Query, Request, read_request};
 
 // The form fault of a line, if it has one.
 fn fault_of(alloc: Global, line: &[u8]) -> Option<FormFault> {
@@ -197,135 +202,163 @@ fn nesting_ends_at_127(rt: HostRuntime) -> Result<(), Fail> {
     Ok(())
 }
 
-// What a line asks for, as it is printed for debugging.
-fn shown(alloc: Global, line: &str) -> Result<String, Fail> {
-    let request = read_request(alloc, line.as_bytes())?;
-    Ok(format!(in alloc; "{request:?}")?)
+fn label_told(
+    alloc: Global,
+    word: &str,
+    owner: ResNo,
+    label: &Label,
+) -> Result<String, AllocError> {
+    let (kind, tag, text) = (label.kind(), label.tag.as_str(), label.text());
+    format!(in alloc; "{word} {} {kind:?} {tag} {text}", owner.get())
 }
 
-#[test]
-fn commands_with_numbers(rt: HostRuntime) -> Result<(), Fail> {
-    for (line, request) in [
-        (
-            r#"{"do":"merge","source":2,"target":3}"#,
-            "Do(Merge(ResNo { number: 2 }, ResNo { number: 3 }))",
-        ),
-        (
-            r#"{"do":"link","kind":"relMatch","a":2,"b":3}"#,
-            "Do(Link(RelMatch, ResNo { number: 2 }, ResNo { number: 3 }))",
-        ),
-        (
-            r#"{"do":"unlink","kind":"member","a":5,"b":4}"#,
-            "Do(Unlink(Member, ResNo { number: 5 }, ResNo { number: 4 }))",
-        ),
-        (
-            r#"{"do":"deprecate","concept":77}"#,
-            "Do(Deprecate(ResNo { number: 77 }))",
-        ),
-        (
-            r#"{"do":"withdraw","posting":7}"#,
-            "Do(Withdraw(PostNo { number: 7 }))",
-        ),
-        (r#" { "get" : "totals" } "#, "Get(Totals)"),
-        (
-            r#"{"get":"concept","number":3}"#,
-            "Get(Concept(ResNo { number: 3 }))",
-        ),
-        (
-            r#"{"get":"postings","concept":6}"#,
-            "Get(Postings(ResNo { number: 6 }))",
-        ),
-        (
-            r#"{"get":"posting","number":1}"#,
-            "Get(Posting(PostNo { number: 1 }))",
-        ),
-    ] {
-        assert_eq!(rt; shown(rt.alloc(), line)?.as_str(), request, "at {line}");
+fn split_told(
+    alloc: Global,
+    source: ResNo,
+    text: &Text,
+    postings: &PostNos,
+) -> Result<String, AllocError> {
+    let mut told = format!(in alloc; "split {} {}", source.get(), text.as_str())?;
+    for posting in postings.as_slice() {
+        write!(told, " {}", posting.get())?;
     }
-    Ok(())
+    Ok(told)
 }
 
-// Of a member that is written twice the last value counts, and escapes in its name are undone before.
-#[test]
-fn members_written_twice(rt: HostRuntime) -> Result<(), Fail> {
-    let line = r#"{"do":"fly","source":2,"\u0064o":"merge","target":3}"#;
-    assert_eq!(rt;
-        shown(rt.alloc(), line)?.as_str(),
-        "Do(Merge(ResNo { number: 2 }, ResNo { number: 3 }))"
-    );
-    Ok(())
-}
-
-// The texts of a request stand in its debugging text in this order.
-fn has_texts(alloc: Global, line: &str, texts: &[&str]) -> Result<bool, Fail> {
-    let shown = shown(alloc, line)?;
-    let mut rest = shown.as_str();
-    for text in texts {
-        match rest.split_once(*text) {
-            Some((_, after)) => rest = after,
-            None => return Ok(false),
+fn new_told(alloc: Global, command: &Command) -> Result<String, AllocError> {
+    match command {
+        Command::Scheme(tag, text) => {
+            format!(in alloc; "scheme {} {}", tag.as_str(), text.as_str())
         }
+        Command::Concept(scheme, tag, text) => {
+            format!(in alloc;
+                "concept {} {} {}",
+                scheme.get(),
+                tag.as_str(),
+                text.as_str()
+            )
+        }
+        Command::Collection(scheme, tag, text) => {
+            format!(in alloc;
+                "collection {} {} {}",
+                scheme.get(),
+                tag.as_str(),
+                text.as_str()
+            )
+        }
+        Command::Outside(iri) => format!(in alloc; "outside {}", iri.as_str()),
+        _ => format!(in alloc; "another request"),
     }
-    Ok(true)
 }
 
+fn command_told(alloc: Global, command: &Command) -> Result<String, AllocError> {
+    match command {
+        Command::AddLabel(owner, label) => label_told(alloc, "add", *owner, label),
+        Command::DropLabel(owner, label) => label_told(alloc, "drop", *owner, label),
+        Command::Relabel(owner, tag, text, keep) => {
+            let (tag, text) = (tag.as_str(), text.as_str());
+            format!(in alloc; "relabel {} {tag} {text} {keep}", owner.get())
+        }
+        Command::Link(kind, a, b) => format!(in alloc; "link {kind:?} {} {}", a.get(), b.get()),
+        Command::Unlink(kind, a, b) => format!(in alloc; "unlink {kind:?} {} {}", a.get(), b.get()),
+        Command::Deprecate(concept) => format!(in alloc; "deprecate {}", concept.get()),
+        Command::Merge(source, target) => {
+            format!(in alloc; "merge {} {}", source.get(), target.get())
+        }
+        Command::Split(source, _, text, postings) => split_told(alloc, *source, text, postings),
+        Command::Post(key, rec, concept) => {
+            format!(in alloc;
+                "post {} {:?} {}",
+                key.as_str(),
+                rec.as_str(),
+                concept.get()
+            )
+        }
+        Command::Withdraw(posting) => format!(in alloc; "withdraw {}", posting.get()),
+        _ => new_told(alloc, command),
+    }
+}
+
+fn query_told(alloc: Global, query: Query) -> Result<String, AllocError> {
+    match query {
+        Query::Totals => format!(in alloc; "totals"),
+        Query::Concept(number) => format!(in alloc; "concept {}", number.get()),
+        Query::Postings(concept) => format!(in alloc; "postings {}", concept.get()),
+        Query::Posting(number) => format!(in alloc; "posting {}", number.get()),
+    }
+}
+
+// What a line asks for, in short.
+fn told(alloc: Global, line: &str) -> Result<String, Fail> {
+    Ok(match read_request(alloc, line.as_bytes())? {
+        Request::Do(command) => command_told(alloc, &command)?,
+        Request::Get(query) => query_told(alloc, query)?,
+    })
+}
+
+// Lines, and what each asks for. Of a member that is written twice the last value counts, and escapes in its name are undone before.
+static TOLD: [(&str, &str); 19] = [
+    (r#"{"do":"merge","source":2,"target":3}"#, "merge 2 3"),
+    (
+        r#"{"do":"fly","source":2,"\u0064o":"merge","target":3}"#,
+        "merge 2 3",
+    ),
+    (
+        r#"{"do":"link","kind":"relMatch","a":2,"b":3}"#,
+        "link RelMatch 2 3",
+    ),
+    (
+        r#"{"do":"unlink","kind":"member","a":5,"b":4}"#,
+        "unlink Member 5 4",
+    ),
+    (r#"{"do":"deprecate","concept":77}"#, "deprecate 77"),
+    (r#"{"do":"withdraw","posting":7}"#, "withdraw 7"),
+    (r#" { "get" : "totals" } "#, "totals"),
+    (r#"{"get":"concept","number":3}"#, "concept 3"),
+    (r#"{"get":"postings","concept":6}"#, "postings 6"),
+    (r#"{"get":"posting","number":1}"#, "posting 1"),
+    (
+        r#"{"do":"scheme","tag":"EN-gb","text":"Animals"}"#,
+        "scheme en-gb Animals",
+    ),
+    (
+        r#"{"do":"concept","scheme":1,"tag":"en","text":"Cats"}"#,
+        "concept 1 en Cats",
+    ),
+    (
+        r#"{"do":"collection","scheme":1,"tag":"en","text":"Pets"}"#,
+        "collection 1 en Pets",
+    ),
+    (
+        r#"{"do":"outside","iri":"http://example.org/x"}"#,
+        "outside http://example.org/x",
+    ),
+    (
+        r#"{"do":"addLabel","owner":2,"kind":"scope","tag":"en","text":"Cats"}"#,
+        "add 2 Scope en Cats",
+    ),
+    (
+        r#"{"do":"dropLabel","owner":2,"kind":"alt","tag":"en","text":"Cats"}"#,
+        "drop 2 Alt en Cats",
+    ),
+    (
+        r#"{"do":"relabel","owner":2,"tag":"en","text":"Felines","keep":true}"#,
+        "relabel 2 en Felines true",
+    ),
+    (
+        r#"{"do":"split","source":2,"tag":"en","text":"Kittens","postings":[2,1]}"#,
+        "split 2 Kittens 2 1",
+    ),
+    (
+        r#"{"do":"post","key":"k1","record":"r 1","concept":2}"#,
+        "post k1 \"r 1\" 2",
+    ),
+];
+
 #[test]
-fn commands_with_texts(rt: HostRuntime) -> Result<(), Fail> {
-    for (line, texts) in [
-        (
-            r#"{"do":"scheme","tag":"EN-gb","text":"Animals"}"#,
-            ["Do(Scheme(", "\"en-gb\"", "\"Animals\""],
-        ),
-        (
-            r#"{"do":"concept","scheme":1,"tag":"en","text":"Cats"}"#,
-            ["Do(Concept(ResNo { number: 1 }", "\"en\"", "\"Cats\""],
-        ),
-        (
-            r#"{"do":"collection","scheme":1,"tag":"en","text":"Pets"}"#,
-            ["Do(Collection(ResNo { number: 1 }", "\"en\"", "\"Pets\""],
-        ),
-        (
-            r#"{"do":"outside","iri":"http://example.org/x"}"#,
-            ["Do(Outside(", "", "\"http://example.org/x\""],
-        ),
-        (
-            r#"{"do":"addLabel","owner":2,"kind":"scope","tag":"en","text":"Cats"}"#,
-            [
-                "Do(AddLabel(ResNo { number: 2 }",
-                "\"en\"",
-                "Scope(Note { text: Spelling { text: \"Cats\"",
-            ],
-        ),
-        (
-            r#"{"do":"dropLabel","owner":2,"kind":"alt","tag":"en","text":"Cats"}"#,
-            [
-                "Do(DropLabel(ResNo { number: 2 }",
-                "\"en\"",
-                "Alt(Text { text: Spelling { text: \"Cats\"",
-            ],
-        ),
-        (
-            r#"{"do":"relabel","owner":2,"tag":"en","text":"Felines","keep":true}"#,
-            [
-                "Do(Relabel(ResNo { number: 2 }",
-                "\"en\"",
-                "\"Felines\" } }, true",
-            ],
-        ),
-        (
-            r#"{"do":"split","source":2,"tag":"en","text":"Kittens","postings":[2,1]}"#,
-            [
-                "Do(Split(ResNo { number: 2 }",
-                "\"Kittens\"",
-                "[PostNo { number: 2 }, PostNo { number: 1 }]",
-            ],
-        ),
-        (
-            r#"{"do":"post","key":"k1","record":"r 1","concept":2}"#,
-            ["Do(Post(", "\"k1\"", "\"r 1\" } }, ResNo { number: 2 }"],
-        ),
-    ] {
-        assert!(rt; has_texts(rt.alloc(), line, &texts)?, "at {line}");
+fn a_line_is_read_as_the_request_that_it_asks_for(rt: HostRuntime) -> Result<(), Fail> {
+    for (line, wanted) in &TOLD {
+        assert_eq!(rt; told(rt.alloc(), line)?.as_str(), *wanted, "{line}");
     }
     Ok(())
 }

@@ -1,6 +1,7 @@
-use super::{Reply, reply_line};
+//! The lines of answers.
 use thes_base::fault::{Fault, FormFault, Refusal, Table};
 use thes_base::request::Answer;
+use thes_exchange::answer::{Reply, reply_line};
 
 #[test]
 fn lines(rt: HostRuntime) {

@@ -1,10 +1,11 @@
-use super::{ConceptView, PostingRows, View, view_line};
+//! The lines of views.
 use std::alloc::Global;
 use std::test::Fail;
 use thes_base::data::{History, Label, LabelValue, LinkKind, Move, Moves, Totals, TypedKind};
 use thes_base::fault::Refusal;
 use thes_base::number::{MoveNo, PostNo, ResNo};
 use thes_base::text::{Key, Note, RecordName, Tag, Text};
+use thes_exchange::view::{ConceptView, PostingRows, View, view_line};
 
 fn res_no(number: u32) -> Result<ResNo, Fail> {
     Ok(ResNo::from_u32(number).ok_or("zero")?)
