@@ -1,6 +1,6 @@
 -- What holds of every vocabulary is kept by each change.
 use Rattle.std.proofs.Common.{◌≡◌, ◌≢◌, ◌⊎◌, ◌<◌, ◌^◌, inl, inr, ℕ, zero, suc, get_or, ◌+◌, ◌-◌, length, List, [], ◌∷◌, ◌++◌, refl, sym, ap, ◌∙◌, subst, arith, Bool, true, false}
-use Rattle.std.specs.Prelude.{Option, None, Some, slice_get, option_and_then}
+use Rattle.std.specs.Prelude.{Option, None, Some, slice_get}
 use Rattle.std.specs.Option.{MatchOption}
 use Rattle.std.specs.Ordering.{nat_cmp}
 use Rattle.std.specs.Cmp.Lexicographic.{slice_cmp}
@@ -28,7 +28,7 @@ use Rattle.thes_base.proofs.LabelSets.{inserted_cases, inserted_kept, inserted_n
 use Rattle.thes_base.proofs.LabelsKept.{labels_made, labels_push, labels_added, labels_dropped, labels_renamed, labels_dead, removed_cases, MayOwn}
 use Rattle.thes_base.proofs.ResourcesKept.{resources_push, resources_push_outside, resources_dead}
 use Rattle.thes_base.proofs.Uniqueness.{made_unique, taken_breaks, live_before}
-use Rattle.thes_base.proofs.NumberedLemmas.{push_old, push_new, push_cases, numbered_bound, set_other}
+use Rattle.thes_base.proofs.NumberedLemmas.{numbered_bound}
 use Rattle.thes_base.proofs.ResourceLemmas.{same_or_not, one_resource, concept_of_live, live_of_live}
 use Rattle.thes_base.proofs.MergedLabels.{labels_merged}
 use Rattle.thes_base.specs.Listing.{IsListing}
