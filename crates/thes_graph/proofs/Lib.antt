@@ -23,3 +23,5 @@ mod ReaderLemmas
 mod WholeLemmas
 mod ClimbLemmas
 pub mod AnswerLemmas
+mod SideLemmas
+mod KindLemmas

@@ -9,6 +9,7 @@ ghost use Rattle.thes_graph.specs.Sight.{WouldBe, IsFit, LooksAsHeld};
 ghost use Rattle.thes_graph.specs.Local.{BreakNone, AwayFrom, IsFirstBrokenAt, CoversNear};
 ghost use Rattle.thes_graph.specs.Judge.{row_of_add, HasNeighbourhood};
 
+use crate::ends::is_harmless;
 use crate::links::Links;
 use crate::nodes::Nodes;
 use crate::relation::Relation;
@@ -131,6 +132,9 @@ fn judge_normal<L: Links>(
 {
     if links.holds(new) {
         return Ok(Some(Refusal::LinkThere));
+    }
+    if is_harmless(links, new) {
+        return Ok(None);
     }
     let sight = Sight::With(*new);
     let answer = probe(alloc, links, &sight, new.a)?;
