@@ -10,6 +10,7 @@ mod SightLemmas
 mod WalkLemmas
 mod ProbeLemmas
 mod JudgeLemmas
+mod NeighbourhoodLemmas
 pub mod NormLemmas
 pub mod SetLemmas
 pub mod ContractLemmas
