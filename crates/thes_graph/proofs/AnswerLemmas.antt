@@ -9,13 +9,14 @@ use Rattle.thes_base.specs.Rows.{Row, refused_if, found_or}
 use Rattle.thes_base.specs.Links.{Links, link_cmp, HeldIn, norm, sent, sent_link, contracted, unless_consistent}
 use Rattle.thes_base.proofs.LinkSets.{links_total, link_inserted_cases}
 use Rattle.thes_base.proofs.LinkLemmas.{row_of_first, first_of_row}
+use Rattle.thes_base.proofs.ListMembers.{Contains-map, Contains-from_map, Contains-filter, Contains-from_filter}
 use Rattle.thes_graph.specs.Judge.{row_of_add}
 use Rattle.thes_graph.specs.Reading.{EndsAt}
 use Rattle.thes_graph.specs.Local.{BreakNone, AwayFrom}
 use Rattle.thes_graph.specs.Net.{listed}
 use Rattle.thes_graph.proofs.PivotLemmas.{BreakNone-within}
 use Rattle.thes_graph.proofs.NormLemmas.{ends_norm}
-use Rattle.thes_graph.proofs.SetLemmas.{same_links, held_from_list, listed_of_held, held_of_item, item_of_held, Contains-map, Contains-from_map, Contains-filter, Contains-from_filter}
+use Rattle.thes_graph.proofs.SetLemmas.{same_links, held_from_list, listed_of_held, held_of_item, item_of_held}
 use Rattle.thes_graph.proofs.IndexLemmas.{held_of_listed, listed_held, listed_sorted, len_is}
 
 -- The answer of `judge_add`, or else as the rest says, is what the row says from LinkThere on; and the other way.

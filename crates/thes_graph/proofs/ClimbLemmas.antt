@@ -6,6 +6,7 @@ use Rattle.std.proofs.lemmas.List.Elements.{Contains-append_left, Contains-push,
 use Rattle.thes_base.specs.declared.data.Link.{Link}
 use Rattle.std.specs.List.{filter_map}
 use Rattle.thes_base.specs.Links.{Links, HeldIn, Path, Chain, broader_way, IsBroader}
+use Rattle.thes_base.proofs.ListMembers.{Contains-none, Contains-head, Contains-later, Contains-cons_cases}
 use Rattle.thes_graph.specs.declared.relation.Relation.TheVariants.{Broader}
 use Rattle.thes_graph.specs.Reading.{IsRow}
 use Rattle.thes_graph.specs.declared.climb.Stop.{Stop}
@@ -16,7 +17,7 @@ use Rattle.thes_graph.specs.Climb.{LeadsOn, IsClimb, still, to_do}
 use Rattle.thes_graph.proofs.PivotLemmas.{Chain-join, Chain-one}
 use Rattle.thes_graph.proofs.StepLemmas.{step_from_Leads, Leads-from_step, Leads-first}
 use Rattle.thes_graph.proofs.SightLemmas.{filter_map-from, filter_map-to}
-use Rattle.thes_graph.proofs.WeightLemmas.{Contains-none, Contains-head, Contains-later, Contains-cons_cases, take_next}
+use Rattle.thes_graph.proofs.WeightLemmas.{take_next}
 
 -- stops in a row
 

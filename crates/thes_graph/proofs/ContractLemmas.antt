@@ -6,10 +6,11 @@ use Rattle.thes_base.specs.declared.data.Link.{Link}
 use Rattle.thes_base.specs.declared.fault.Refusal.{Refusal}
 use Rattle.thes_base.specs.Links.{Links, HeldIn, norm, sent, sent_link, contracted, IsFirstBroken}
 use Rattle.thes_base.proofs.LinkSets.{link_inserted_cases}
+use Rattle.thes_base.proofs.ListMembers.{Contains-map, Contains-from_map, Contains-filter, Contains-from_filter}
 use Rattle.thes_graph.specs.declared.sight.Sight.TheVariants.{With, Merged}
 use Rattle.thes_graph.specs.Sight.{WouldBe, becomes}
 use Rattle.thes_graph.proofs.NormLemmas.{Says, Says-itself, norm-says, IsFirstBroken-same}
-use Rattle.thes_graph.proofs.SetLemmas.{held_from_list, listed_of_held, held_of_item, item_of_held, inserted_held, insert_keeps, Contains-map, Contains-from_map, Contains-filter, Contains-from_filter}
+use Rattle.thes_graph.proofs.SetLemmas.{held_from_list, listed_of_held, held_of_item, item_of_held, inserted_held, insert_keeps}
 
 pub IsFirstBroken-inserted : (held : Links) (new : Link) (r : Option Refusal) → IsFirstBroken (WouldBe (With new) held) r → IsFirstBroken (HeldIn (insert held new)) r
 IsFirstBroken-inserted held new = IsFirstBroken-same (WouldBe (With new) held) (HeldIn (insert held new)) to from

@@ -1,6 +1,6 @@
 -- A graph's set of links, and the rows by their ends.
-use Rattle.std.proofs.Common.{◌≡◌, ◌≢◌, ◌+◌, ◌⊎◌, inl, inr, ℕ, List, [], ◌∷◌, Bool, true, false, cond, ◌||◌, ◌==◌, ◌<◌, Contains, length, get_or, map, Less, Option, Some, None, slice_get, refl, sym, ap, subst, ◌∙◌, arith}
-use Rattle.std.specs.Prelude.{filter, option_map}
+use Rattle.std.proofs.Common.{◌≡◌, ◌≢◌, ◌+◌, ◌⊎◌, inl, inr, ℕ, List, [], ◌∷◌, Bool, true, false, cond, ◌||◌, ◌==◌, ◌<◌, Contains, length, get_or, map, Less, refl, sym, ap, subst, ◌∙◌, arith}
+use Rattle.std.specs.Prelude.{filter}
 use Rattle.std.specs.List.{list_any}
 use Rattle.std.specs.List.Sorted.{IsStrictlySortedBy}
 use Rattle.std.specs.Ordering.{nat_cmp, is_eq}
@@ -13,13 +13,15 @@ use Rattle.std.specs.Set.{remove_key}
 use Rattle.std.proofs.lemmas.Bool.Decides.{Decides-eqb}
 use Rattle.std.proofs.lemmas.List.{length-map, get_or-map, get_or_default}
 use Rattle.std.proofs.lemmas.Map.Keys.{sorted_tail, Less-from_sorted}
+use Rattle.std.proofs.lemmas.Bool.{false_from_ne_true}
 use Rattle.thes_base.specs.declared.data.Link.{Link}
 use Rattle.thes_base.specs.Links.{Links, link_cmp, HeldIn, norm}
 use Rattle.thes_base.specs.Listing.{IsListing}
 use Rattle.thes_base.proofs.LinkSets.{links_total, links_exact, link_inserted_cases}
+use Rattle.thes_base.proofs.ListMembers.{Contains-none, Contains-map, Contains-from_map, Contains-filter, Contains-from_filter}
 use Rattle.thes_lists.specs.declared.lists.Lists.{Lists}
 use Rattle.thes_lists.specs.Lists.{listed_at, AreSame, ChangesAt}
-use Rattle.thes_lists.proofs.MemberLemmas.{Has, Has-from, Contains-from}
+use Rattle.thes_lists.proofs.MemberLemmas.{Has-from, Contains-from}
 use Rattle.thes_lists.proofs.OrderLemmas.{sorted_none, above_head, insert_cases, insert_sorted, remove_had, remove_sorted, never_below_itself}
 use Rattle.thes_lists.proofs.OrderLemmas as order
 use Rattle.thes_lists.proofs.ListingLemmas.{insert_has, remove_apart, remove_keeps, listing_as, listing_insert, listing_remove, listing_same}
@@ -30,9 +32,8 @@ use Rattle.thes_graph.specs.Net.{ends_at, in_order, listed, arranged, standings_
 use Rattle.thes_graph.specs.Whole.{AreAll}
 use Rattle.thes_graph.specs.Index.{IsIndexed}
 use Rattle.thes_graph.proofs.PivotLemmas.{same_or_not}
-use Rattle.thes_graph.proofs.WeightLemmas.{Contains-none}
 use Rattle.thes_graph.proofs.LinkOrderLemmas.{computed, computed_is, arranging, arranging_is, standings_total, standings_exact}
-use Rattle.thes_graph.proofs.SetLemmas.{same_links, held_from_list, listed_of_held, held_of_item, item_of_held, inserted_held, insert_keeps, remove_keeps as remove_keeps_link, removed_cases, off_of_not, not_held_of, Contains-map, Contains-from_map, Contains-filter, Contains-from_filter}
+use Rattle.thes_graph.proofs.SetLemmas.{same_links, held_from_list, listed_of_held, held_of_item, item_of_held, inserted_held, insert_keeps, remove_keeps as remove_keeps_link, removed_cases}
 
 abbrev IsSorted : List Link → Type 0
 IsSorted = IsStrictlySortedBy link_cmp
@@ -298,7 +299,7 @@ pub len_is : (ks : List Link) → IsSorted ks → len (from_list {R = link_cmp} 
 len_is [] sorted = len-empty link_cmp
 len_is (k ∷ ks) sorted =
     len-insert links_total (from_list ks) k
-    ∙ ap (λ b. cond b (len (from_list {R = link_cmp} ks)) (len (from_list {R = link_cmp} ks) + 1)) (off_of_not (contains (from_list {R = link_cmp} ks) k) absent)
+    ∙ ap (λ b. cond b (len (from_list {R = link_cmp} ks)) (len (from_list {R = link_cmp} ks) + 1)) (false_from_ne_true (contains (from_list {R = link_cmp} ks) k) absent)
     ∙ one_more (len_is ks (sorted_tail link_cmp k ks sorted))
   where
     absent : HeldIn (from_list ks) k → ⊥

@@ -5,13 +5,14 @@ use Rattle.thes_base.specs.declared.data.Link.{Link}
 use Rattle.thes_base.specs.declared.data.LinkKind.{LinkKind}
 use Rattle.thes_base.specs.declared.fault.Refusal.{Refusal}
 use Rattle.thes_base.specs.Links.{Links, HeldIn, IsFirstBroken}
+use Rattle.thes_base.proofs.ListMembers.{Contains-cons_cases}
 use Rattle.thes_graph.specs.declared.sight.Sight.TheVariants.{AsHeld, With, Merged}
 use Rattle.thes_graph.specs.Reading.{HaveTwoEnds, EndsAt}
 use Rattle.thes_graph.specs.Sight.{place, WouldBe, TouchesAt}
 use Rattle.thes_graph.specs.Local.{BreakNone, AwayFrom, IsFirstBrokenAt, CoversNear}
 use Rattle.thes_graph.specs.Judge.{HasNeighbourhood}
 use Rattle.thes_graph.proofs.PivotLemmas.{BreakNone-within, IsFirstBroken-from_pivot}
-use Rattle.thes_graph.proofs.WeightLemmas.{cut, Contains-cons_cases}
+use Rattle.thes_graph.proofs.WeightLemmas.{cut}
 use Rattle.thes_graph.proofs.SightLemmas.{becomes-ends}
 
 pub link_same : (k k' : LinkKind) (a a' b b' : ℕ) → k ≡ k' → a ≡ a' → b ≡ b' → ◌≡◌ {A = Link} (record { kind = k; a = a; b = b }) (record { kind = k'; a = a'; b = b' })

@@ -1,11 +1,13 @@
 -- The mappings and the typed links of a concept in their order.
-use Rattle.std.proofs.Common.{◌≡◌, ◌≢◌, inl, inr, ◌==◌, ◌<◌, ◌≤◌, ℕ, List, Bool, true, false, length, Option, Some, None, Ordering, if◌then◌else◌, Result, Ok, Err, refl, sym, ap, subst, ◌∙◌}
+use Rattle.std.proofs.Common.{◌≡◌, ◌≢◌, inl, inr, ◌==◌, ◌<◌, ◌≤◌, ℕ, List, Bool, true, false, length, Some, Ordering, if◌then◌else◌, Result, Ok, Err, refl, sym, ap, subst, ◌∙◌}
 use Rattle.std.specs.List.{insert}
 use Rattle.std.specs.List.Sorted.{IsStrictlySortedBy, IsBinarySearchResult}
 use Rattle.std.specs.Ordering.{nat_cmp, ordering_then}
 use Rattle.std.specs.Cmp.Lexicographic.{slice_cmp}
 use Rattle.std.specs.BTreeSet.{insert_key}
 use Rattle.std.proofs.lemmas.Bool.Decides.{Decides-eqb}
+use Rattle.std.proofs.lemmas.Bool.{false_from_ne_true}
+use Rattle.std.proofs.lemmas.Option.{none-some, same_Some}
 use Rattle.thes_base.specs.declared.data.LinkKind.{LinkKind}
 use Rattle.thes_base.specs.declared.data.LinkKind.TheVariants.{Broader, Exact, Close, Broad, Narrow, RelMatch, BroaderGeneric, BroaderPartitive, BroaderInstantial}
 use Rattle.thes_base.specs.declared.data.TypedKind.{TypedKind}
@@ -19,7 +21,6 @@ use Rattle.thes_lists.proofs.OrderLemmas.{rising, insert_found, insert_missing}
 use Rattle.thes_graph.specs.Reading.{HaveTwoEnds, EndsAt}
 use Rattle.thes_graph.specs.Mapped.{seen, as_seen_from, typed_seen, as_typed_from, word_place}
 use Rattle.thes_graph.proofs.NumberLemmas.{same_of, other_of}
-use Rattle.thes_graph.proofs.SetLemmas.{off_of_not}
 use Rattle.thes_graph.proofs.ReaderLemmas.{IsSeen}
 
 -- the places of words are ordered as the words
@@ -48,28 +49,22 @@ module _ (list : List (LinkKind × ℕ)) (i : ℕ) (mapping : LinkKind × ℕ) (
 
 -- what a link at the node is, as seen from there
 
-none_some : {K : Type 0} (p : K) → None ≡ Some p → ⊥
-none_some p e = cc
-
-some_same : {K : Type 0} (p q : K) → Some p ≡ Some q → p ≡ q
-some_same p q e = cc
-
 module _ (links : Links) (n : ℕ) where
   seen_forward : (k : LinkKind) (m : ℕ) (p : LinkKind × ℕ) → HasLink links k n m → seen true k m ≡ Some p → IsMapping links n p
-  seen_forward Exact m p held e = subst (IsMapping links n) (some_same (Exact, m) p e) (inl held)
-  seen_forward Close m p held e = subst (IsMapping links n) (some_same (Close, m) p e) (inl held)
-  seen_forward RelMatch m p held e = subst (IsMapping links n) (some_same (RelMatch, m) p e) (inl held)
-  seen_forward Broad m p held e = subst (IsMapping links n) (some_same (Broad, m) p e) (inl held)
-  seen_forward Narrow m p held e = subst (IsMapping links n) (some_same (Narrow, m) p e) (inl held)
-  seen_forward _ m p held e = absurd (none_some p e)
+  seen_forward Exact m p held e = subst (IsMapping links n) (same_Some (Exact, m) p e) (inl held)
+  seen_forward Close m p held e = subst (IsMapping links n) (same_Some (Close, m) p e) (inl held)
+  seen_forward RelMatch m p held e = subst (IsMapping links n) (same_Some (RelMatch, m) p e) (inl held)
+  seen_forward Broad m p held e = subst (IsMapping links n) (same_Some (Broad, m) p e) (inl held)
+  seen_forward Narrow m p held e = subst (IsMapping links n) (same_Some (Narrow, m) p e) (inl held)
+  seen_forward _ m p held e = absurd (none-some p e)
 
   seen_backward : (k : LinkKind) (m : ℕ) (p : LinkKind × ℕ) → HasLink links k m n → seen false k m ≡ Some p → IsMapping links n p
-  seen_backward Exact m p held e = subst (IsMapping links n) (some_same (Exact, m) p e) (inr held)
-  seen_backward Close m p held e = subst (IsMapping links n) (some_same (Close, m) p e) (inr held)
-  seen_backward RelMatch m p held e = subst (IsMapping links n) (some_same (RelMatch, m) p e) (inr held)
-  seen_backward Broad m p held e = subst (IsMapping links n) (some_same (Narrow, m) p e) (inr held)
-  seen_backward Narrow m p held e = subst (IsMapping links n) (some_same (Broad, m) p e) (inr held)
-  seen_backward _ m p held e = absurd (none_some p e)
+  seen_backward Exact m p held e = subst (IsMapping links n) (same_Some (Exact, m) p e) (inr held)
+  seen_backward Close m p held e = subst (IsMapping links n) (same_Some (Close, m) p e) (inr held)
+  seen_backward RelMatch m p held e = subst (IsMapping links n) (same_Some (RelMatch, m) p e) (inr held)
+  seen_backward Broad m p held e = subst (IsMapping links n) (same_Some (Narrow, m) p e) (inr held)
+  seen_backward Narrow m p held e = subst (IsMapping links n) (same_Some (Broad, m) p e) (inr held)
+  seen_backward _ m p held e = absurd (none-some p e)
 
   pub seen_from : (l : Link) (p : LinkKind × ℕ) → HeldIn links l → EndsAt n l → as_seen_from n l ≡ Some p → IsMapping links n p
   seen_from l p held at e = go (l.a == n) refl e
@@ -87,7 +82,7 @@ module _ (links : Links) (n : ℕ) where
   seen_as_first k m = ap (λ t. seen t k (if t then m else n)) ((Decides-eqb n n).1 refl)
 
   seen_as_second : (k : LinkKind) (m : ℕ) → m ≢ n → as_seen_from n (record { kind = k; a = m; b = n }) ≡ seen false k m
-  seen_as_second k m other = ap (λ t. seen t k (if t then n else m)) (off_of_not (m == n) (λ e. other (same_of m n e)))
+  seen_as_second k m other = ap (λ t. seen t k (if t then n else m)) (false_from_ne_true (m == n) (λ e. other (same_of m n e)))
 
   module _ (two_ends : HaveTwoEnds (HeldIn links)) where
     first : (k : LinkKind) (m : ℕ) (p : LinkKind × ℕ) → HasLink links k n m → seen true k m ≡ Some p → (l : Link) × HeldIn links l × EndsAt n l × (as_seen_from n l ≡ Some p)
@@ -112,16 +107,16 @@ module _ (links : Links) (n : ℕ) where
   -- a typed link at the node
 
   typed_forward : (k : LinkKind) (m : ℕ) (p : TypedKind × ℕ) → HasLink links k n m → typed_seen true k m ≡ Some p → IsTyped links n p
-  typed_forward BroaderGeneric m p held e = subst (IsTyped links n) (some_same (typed.BroaderGeneric, m) p e) held
-  typed_forward BroaderPartitive m p held e = subst (IsTyped links n) (some_same (typed.BroaderPartitive, m) p e) held
-  typed_forward BroaderInstantial m p held e = subst (IsTyped links n) (some_same (typed.BroaderInstantial, m) p e) held
-  typed_forward _ m p held e = absurd (none_some p e)
+  typed_forward BroaderGeneric m p held e = subst (IsTyped links n) (same_Some (typed.BroaderGeneric, m) p e) held
+  typed_forward BroaderPartitive m p held e = subst (IsTyped links n) (same_Some (typed.BroaderPartitive, m) p e) held
+  typed_forward BroaderInstantial m p held e = subst (IsTyped links n) (same_Some (typed.BroaderInstantial, m) p e) held
+  typed_forward _ m p held e = absurd (none-some p e)
 
   typed_backward : (k : LinkKind) (m : ℕ) (p : TypedKind × ℕ) → HasLink links k m n → typed_seen false k m ≡ Some p → IsTyped links n p
-  typed_backward BroaderGeneric m p held e = subst (IsTyped links n) (some_same (typed.NarrowerGeneric, m) p e) held
-  typed_backward BroaderPartitive m p held e = subst (IsTyped links n) (some_same (typed.NarrowerPartitive, m) p e) held
-  typed_backward BroaderInstantial m p held e = subst (IsTyped links n) (some_same (typed.NarrowerInstantial, m) p e) held
-  typed_backward _ m p held e = absurd (none_some p e)
+  typed_backward BroaderGeneric m p held e = subst (IsTyped links n) (same_Some (typed.NarrowerGeneric, m) p e) held
+  typed_backward BroaderPartitive m p held e = subst (IsTyped links n) (same_Some (typed.NarrowerPartitive, m) p e) held
+  typed_backward BroaderInstantial m p held e = subst (IsTyped links n) (same_Some (typed.NarrowerInstantial, m) p e) held
+  typed_backward _ m p held e = absurd (none-some p e)
 
   pub typed_from : (p : TypedKind × ℕ) → IsSeen links n (as_typed_from n) p → IsTyped links n p
   typed_from p (l, held, at, e) = go (l.a == n) refl e
@@ -142,7 +137,7 @@ module _ (links : Links) (n : ℕ) where
     typed_down : (k : LinkKind) (m : ℕ) (p : TypedKind × ℕ) → HasLink links k m n → typed_seen false k m ≡ Some p → IsSeen links n (as_typed_from n) p
     typed_down k m p held gives =
         let other = two_ends (record { kind = k; a = m; b = n }) held in
-        (record { kind = k; a = m; b = n }, held, inr refl, ap (λ t. typed_seen t k (if t then n else m)) (off_of_not (m == n) (λ e. other (same_of m n e))) ∙ gives)
+        (record { kind = k; a = m; b = n }, held, inr refl, ap (λ t. typed_seen t k (if t then n else m)) (false_from_ne_true (m == n) (λ e. other (same_of m n e))) ∙ gives)
 
     pub typed_to : (p : TypedKind × ℕ) → IsTyped links n p → IsSeen links n (as_typed_from n) p
     typed_to (typed.BroaderGeneric, m) held = typed_up BroaderGeneric m (typed.BroaderGeneric, m) held refl

@@ -5,6 +5,7 @@ use Rattle.std.specs.Ordering.{nat_cmp, eq_by_cmp}
 use Rattle.std.specs.Cmp.{nat_cmp_total, nat_eq_equiv, unsigned_tied}
 use Rattle.std.specs.FinSet.{FinSet, insert, contains, from_list, same_set, contains-from_list, contains-insert, nat_cmp-IsAntisymmetric}
 use Rattle.std.specs.BTreeMap.{is_at}
+use Rattle.std.proofs.lemmas.Bool.{false_from_ne_true}
 use Rattle.thes_base.specs.declared.data.Link.{Link}
 use Rattle.thes_base.specs.Links.{HeldIn, is_symmetric, exchanged, norm}
 use Rattle.thes_graph.specs.Reading.{EndsAt}
@@ -12,7 +13,6 @@ use Rattle.thes_lists.specs.declared.lists.Lists.{Lists}
 use Rattle.thes_graph.specs.declared.side.Standing.{Standing}
 use Rattle.thes_graph.specs.Index.{IsIndexed}
 use Rattle.thes_graph.proofs.NumberLemmas.{same_of}
-use Rattle.thes_graph.proofs.SetLemmas.{off_of_not}
 
 -- one more number
 pub from_list_marked : (old new : List ℕ) (n : ℕ) → ((q : ℕ) → list_any (eq_by_cmp nat_cmp q) new ≡ cond (is_at (nat_cmp n) q) true (list_any (eq_by_cmp nat_cmp q) old))
@@ -31,7 +31,7 @@ from_list_marked old new n updates =
 still_marked : (s : FinSet nat_cmp) (n q : ℕ) → q ≢ n → contains (insert s n) q ≡ contains s q
 still_marked s n q other =
     contains-insert nat_cmp_total s n q
-    ∙ ap (λ b. b || contains s q) (off_of_not (eq_by_cmp nat_cmp q n) (λ e. other (same_of q n (sym (unsigned_tied q n) ∙ e))))
+    ∙ ap (λ b. b || contains s q) (false_from_ne_true (eq_by_cmp nat_cmp q n) (λ e. other (same_of q n (sym (unsigned_tied q n) ∙ e))))
 
 -- the norm asks for the two ends alone
 pub norm_same : (f g : ℕ → Bool) (l : Link) → f l.a ≡ g l.a → f l.b ≡ g l.b → norm f l ≡ norm g l

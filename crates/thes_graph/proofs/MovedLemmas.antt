@@ -7,8 +7,11 @@ use Rattle.std.proofs.lemmas.List.{take_more}
 use Rattle.std.proofs.lemmas.List.Elements.{filter_map-append}
 use Rattle.std.specs.FinSet.{contains}
 use Rattle.std.proofs.lemmas.Bool.Decides.{Decides-eqb}
+use Rattle.std.proofs.lemmas.Bool.{false_from_ne_true, both_ways}
+use Rattle.std.proofs.lemmas.Option.{none-some, same_Some}
 use Rattle.thes_base.specs.declared.data.Link.{Link}
 use Rattle.thes_base.specs.Links.{Links, HeldIn, norm, sent, sent_link, contracted, without_node}
+use Rattle.thes_base.proofs.ListMembers.{Contains-none, Contains-head, Contains-later, Contains-cons_cases}
 use Rattle.thes_graph.specs.Reading.{HaveTwoEnds, EndsAt}
 use Rattle.thes_graph.specs.Sight.{becomes}
 use Rattle.thes_graph.specs.declared.side.Standing.{Standing}
@@ -16,11 +19,10 @@ use Rattle.thes_graph.specs.Side.{standing_at}
 use Rattle.thes_graph.specs.Net.{Net, is_marked, standings_at}
 use Rattle.thes_graph.specs.Moved.{AreNormal, AreMoved, AreNew, merged_link, unless_held, with_all}
 use Rattle.thes_graph.proofs.PivotLemmas.{same_or_not}
-use Rattle.thes_graph.proofs.WeightLemmas.{Contains-none, Contains-head, Contains-later, Contains-cons_cases}
 use Rattle.thes_graph.proofs.SightLemmas.{becomes-ends, filter_map-from, filter_map-to}
 use Rattle.thes_graph.proofs.JudgeLemmas.{link_same}
 use Rattle.thes_graph.proofs.NormLemmas.{norm_ends, norm_two, norm_again}
-use Rattle.thes_graph.proofs.SetLemmas.{same_links, off_of_not, not_held_of}
+use Rattle.thes_graph.proofs.SetLemmas.{same_links}
 use Rattle.thes_graph.proofs.ContractLemmas.{contracted_from, contracted_to}
 use Rattle.thes_graph.proofs.IndexLemmas.{standings_from, standings_to}
 use Rattle.thes_graph.proofs.ChangeLemmas.{with_from, with_keeps, with_has, without_node_from, without_node_to}
@@ -33,21 +35,15 @@ Contains-take {X} (suc i) (y ∷ ys) x has = elim (Contains-cons_cases y (take i
   | inr later ↦ Contains-later y ys x (Contains-take i ys x later)
 ]
 
-none_some : {X : Type 0} (x : X) → None ≡ Some x → ⊥
-none_some x e = cc
-
-some_same : {X : Type 0} (x y : X) → Some x ≡ Some y → x ≡ y
-some_same x y e = cc
-
 unless_held-some : (links : Links) (l m : Link) → unless_held links l ≡ Some m → (l ≡ m) × (HeldIn links l → ⊥)
 unless_held-some links l m e = go (contains links l) refl e
   where
     go : (b : Bool) → contains links l ≡ b → (if b then None else Some l) ≡ Some m → (l ≡ m) × (HeldIn links l → ⊥)
-    go true is e = absurd (none_some m e)
-    go false is e = (some_same l m e, not_held_of (contains links l) is)
+    go true is e = absurd (none-some m e)
+    go false is e = (same_Some l m e, both_ways (contains links l) is)
 
 unless_held-new : (links : Links) (l : Link) → (HeldIn links l → ⊥) → unless_held links l ≡ Some l
-unless_held-new links l new = ap (λ b. if b then None else Some l) (off_of_not (contains links l) new)
+unless_held-new links l new = ap (λ b. if b then None else Some l) (false_from_ne_true (contains links l) new)
 
 module _ (net : Net) (source target : ℕ) where
   merged_from : (l m : Link) → merged_link net source target l ≡ Some m → (n : Link) × (becomes source target l ≡ Some n) × (m ≡ norm (is_marked net) n) × (HeldIn net.links m → ⊥)
@@ -55,7 +51,7 @@ module _ (net : Net) (source target : ℕ) where
     where
       go : (o : Option Link) → becomes source target l ≡ o → option_and_then (λ n. unless_held net.links (norm (is_marked net) n)) o ≡ Some m
           → (n : Link) × (becomes source target l ≡ Some n) × (m ≡ norm (is_marked net) n) × (HeldIn net.links m → ⊥)
-      go None is e = absurd (none_some m e)
+      go None is e = absurd (none-some m e)
       go (Some n) is e =
           let new = unless_held-some net.links (norm (is_marked net) n) m e in
           (n, is, sym new.0, λ held. new.1 (subst (HeldIn net.links) (sym new.0) held))
@@ -109,7 +105,7 @@ module _ (net : Net) (source target : ℕ) where
       sent_stays l off = link_same l.kind l.kind (sent source target l.a) l.a (sent source target l.b) l.b refl (sent_other l.a (off_a l off)) (sent_other l.b (off_b l off))
 
       apart : (l : Link) → HeldIn net.links l → (EndsAt source l → ⊥) → (sent source target l.a == sent source target l.b) ≡ false
-      apart l held off = off_of_not (sent source target l.a == sent source target l.b)
+      apart l held off = false_from_ne_true (sent source target l.a == sent source target l.b)
           (λ e. two_ends l held (sym (sent_other l.a (off_a l off)) ∙ (Decides-eqb (sent source target l.a) (sent source target l.b)).0 e ∙ sent_other l.b (off_b l off)))
 
       becomes_itself : (l : Link) → HeldIn net.links l → (EndsAt source l → ⊥) → becomes source target l ≡ Some l
@@ -131,7 +127,7 @@ module _ (net : Net) (source target : ℕ) where
           go (inr a) (inr b) = inr (λ at. elim at [ inl e ↦ a e | inr e ↦ b e ])
 
       held_or_not : (l : Link) → HeldIn net.links l ⊎ (HeldIn net.links l → ⊥)
-      held_or_not l = elim (contains net.links l) as (λ b. (b ≡ true) ⊎ (b ≡ true → ⊥)) [ true ↦ inl refl | false ↦ inr (λ e. not_held_of false refl e) ]
+      held_or_not l = elim (contains net.links l) as (λ b. (b ≡ true) ⊎ (b ≡ true → ⊥)) [ true ↦ inl refl | false ↦ inr (λ e. both_ways false refl e) ]
 
       pub merged_links : without_node source (with_all net.links moved) ≡ contracted (is_marked net) source target net.links
       merged_links = same_links (without_node source (with_all net.links moved)) (contracted (is_marked net) source target net.links) to from
@@ -152,7 +148,7 @@ module _ (net : Net) (source target : ℕ) where
             | inl old ↦ with_keeps net.links moved (norm (is_marked net) n) old
             | inr new ↦ elim (ends_or_not l) [
               | inl at ↦ with_has net.links moved (norm (is_marked net) n) (moved_to l n held at gives new)
-              | inr off ↦ absurd (new (subst (HeldIn net.links) (sym (ap (norm (is_marked net)) (some_same n l (sym gives ∙ becomes_itself l held off)) ∙ normal l held)) held))
+              | inr off ↦ absurd (new (subst (HeldIn net.links) (sym (ap (norm (is_marked net)) (same_Some n l (sym gives ∙ becomes_itself l held off)) ∙ normal l held)) held))
             ]
           ]
 

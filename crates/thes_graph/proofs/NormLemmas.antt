@@ -7,7 +7,7 @@ use Rattle.thes_base.specs.declared.data.Direction.TheVariants.{Either}
 use Rattle.thes_base.specs.declared.fault.Refusal.{Refusal}
 use Rattle.thes_base.specs.Links.{broader_way, related_way, exact_way, apart_way, is_symmetric, exchanged, norm, Leads, Joined, IsBroader, IsAbove, IsRelated, IsExact, IsApart, NoCycle, S27, S46, IsFirstBroken}
 use Rattle.thes_base.specs.declared.fault.Refusal.TheVariants as no
-use Rattle.thes_base.specs.declared.data.LinkKind.TheVariants.{Broader, Related, Exact, Close, Broad, Narrow, RelMatch, Member}
+use Rattle.thes_base.specs.declared.data.LinkKind.TheVariants.{Related, Exact, Close, RelMatch}
 use Rattle.thes_graph.specs.Reading.{EndsAt}
 use Rattle.thes_graph.proofs.PivotLemmas.{Chain-map}
 

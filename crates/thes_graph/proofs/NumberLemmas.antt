@@ -1,17 +1,10 @@
 -- What tests on numbers say.
 use Rattle.std.proofs.Common.{◌≡◌, ◌≢◌, ℕ, Bool, true, false, not, nat_eq, sym, ◌∙◌}
+use Rattle.std.proofs.lemmas.Bool.{not-true, not-false}
 use Rattle.std.proofs.lemmas.Bool.Decides.{Decides-eqb}
 
 true_false : true ≡ false → ⊥
 true_false e = cc
-
-not_false : (b : Bool) → not b ≡ false → b ≡ true
-not_false true e = cc
-not_false false e = cc
-
-not_true : (b : Bool) → not b ≡ true → b ≡ false
-not_true true e = cc
-not_true false e = cc
 
 pub same_of : (a b : ℕ) → nat_eq a b ≡ true → a ≡ b
 same_of a b e = (Decides-eqb a b).0 e
@@ -27,7 +20,7 @@ pub eq_other : (r : Bool) (a b : ℕ) → r ≡ nat_eq a b → r ≡ false → a
 eq_other r a b is e = other_of a b (sym is ∙ e)
 
 pub ne_other : (r : Bool) (a b : ℕ) → r ≡ not (nat_eq a b) → r ≡ true → a ≢ b
-ne_other r a b is e = other_of a b (not_true (nat_eq a b) (sym is ∙ e))
+ne_other r a b is e = other_of a b (not-true (nat_eq a b) (sym is ∙ e))
 
 pub ne_same : (r : Bool) (a b : ℕ) → r ≡ not (nat_eq a b) → r ≡ false → a ≡ b
-ne_same r a b is e = same_of a b (not_false (nat_eq a b) (sym is ∙ e))
+ne_same r a b is e = same_of a b (not-false (nat_eq a b) (sym is ∙ e))

@@ -4,12 +4,12 @@ use Rattle.thes_base.specs.declared.data.Link.{Link}
 use Rattle.thes_base.specs.declared.data.Direction.{Direction}
 use Rattle.thes_base.specs.declared.data.Direction.TheVariants.{Forward, Backward, Either, Never}
 use Rattle.thes_base.specs.Links.{broader_way, related_way, apart_way, Leads, Path, Chain, IsBroader, IsAbove, IsRelated, IsApart}
+use Rattle.thes_base.proofs.ListMembers.{Contains-head, Contains-cons_cases, Contains-none}
 use Rattle.thes_graph.specs.Steps.{turned, Steps, Reaches, Ties}
 use Rattle.thes_graph.specs.Local.{UpTo, Alike, NoCycleAt, NoS27At, NoS46At, IsGathered, IsNear}
 use Rattle.thes_graph.specs.declared.relation.Relation.TheVariants.{Broader, Narrower, Related, Exact, Apart}
 use Rattle.thes_graph.proofs.StepLemmas.{Leads-first}
 use Rattle.thes_graph.proofs.PivotLemmas.{Reaches-turn, Reaches-then_chain}
-use Rattle.thes_graph.proofs.WeightLemmas.{Contains-head, Contains-cons_cases, Contains-none}
 
 -- the last step of a chain
 module _ (S : ℕ → ℕ → Type 0) where

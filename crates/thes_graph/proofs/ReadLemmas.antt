@@ -5,11 +5,12 @@ use Rattle.std.proofs.lemmas.List.Elements.{Contains-append_left, Contains-appen
 use Rattle.std.proofs.lemmas.List.Sums.{sum_by-cons}
 use Rattle.thes_base.specs.declared.data.Link.{Link}
 use Rattle.thes_base.specs.Links.{Links, HeldIn}
+use Rattle.thes_base.proofs.ListMembers.{Contains-none}
 use Rattle.thes_graph.specs.declared.sight.Sight.{Sight}
 use Rattle.thes_graph.specs.declared.sight.Sight.TheVariants.{AsHeld, Merged}
 use Rattle.thes_graph.specs.Reading.{EndsAt, IsRow}
 use Rattle.thes_graph.specs.Sight.{place, TouchesAt, touches, IsReadOf, CoversAt}
-use Rattle.thes_graph.proofs.WeightLemmas.{length-apart, Contains-none}
+use Rattle.thes_graph.proofs.WeightLemmas.{length-apart}
 
 -- one where the numbers are equal
 abbrev pub one_at : ℕ → ℕ → ℕ

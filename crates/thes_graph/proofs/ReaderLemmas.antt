@@ -1,7 +1,6 @@
 -- What the readers list: what the links at a node are seen as, each once and in order.
 use Rattle.std.proofs.Common.{◌≡◌, ◌⊎◌, inl, inr, ◌+◌, ◌<◌, ◌++◌, ℕ, List, [], ◌∷◌, Contains, take, length, get_or, Option, Some, None, Ordering, Result, Ok, Err, IfOk, refl, sym, ap, subst, ◌∙◌, append-nil}
 use Rattle.std.specs.List.{filter_map}
-use Rattle.std.specs.Ordering.{nat_cmp}
 use Rattle.std.specs.Cmp.{IsTotalOrder}
 use Rattle.std.specs.FinSet.{IsAntisymmetric}
 use Rattle.std.specs.BTreeSet.{insert_key}
@@ -10,7 +9,6 @@ use Rattle.thes_base.specs.declared.data.Link.{Link}
 use Rattle.thes_base.specs.declared.data.LinkKind.{LinkKind}
 use Rattle.thes_base.specs.declared.data.LinkKind.TheVariants.{Broader, Related, Member, BroaderGeneric, BroaderPartitive, BroaderInstantial}
 use Rattle.thes_base.specs.declared.data.Direction.{Direction}
-use Rattle.thes_base.specs.declared.data.Direction.TheVariants.{Forward, Backward, Either}
 use Rattle.thes_base.specs.Links.{Links, HeldIn, Leads, IsHierarchical}
 use Rattle.thes_base.specs.Listing.{IsListing}
 use Rattle.thes_base.specs.Views.{HasLink, HasBroader}

@@ -1,12 +1,12 @@
 -- Where links lead from a node, and the parts of its row.
-use Rattle.std.proofs.Common.{◌≡◌, ◌≢◌, ◌⊎◌, inl, inr, ◌==◌, ◌+◌, ◌-◌, ◌<◌, ◌≤◌, ℕ, List, Bool, true, false, Contains, AllPairs, length, get_or, take, drop, map, min, Less, Equal, Greater, Option, Some, None, slice_get, sum_by, if◌then◌else◌, refl, sym, ap, subst, ◌∙◌, arith}
+use Rattle.std.proofs.Common.{◌≡◌, ◌≢◌, ◌⊎◌, inl, inr, ◌==◌, ◌<◌, ◌≤◌, ℕ, List, true, false, length, get_or, Less, Equal, Greater, Option, Some, None, slice_get, if◌then◌else◌, refl, sym, ap, subst, ◌∙◌, arith}
 use Rattle.std.specs.Prelude.{option_map}
-use Rattle.std.specs.List.Sorted.{IsStrictlySortedBy, IsNonDecreasingBy, IsPartitionedBy, IsPartitionPoint}
+use Rattle.std.specs.List.Sorted.{IsNonDecreasingBy, IsPartitionedBy, IsPartitionPoint}
 use Rattle.std.proofs.lemmas.List.Sorted.{IsPartitionedBy-ltb, IsPartitionedBy-leb}
 use Rattle.std.specs.Ordering.{nat_cmp, ordering_then, MatchOrdering}
 use Rattle.std.specs.declared.cmp.Ordering.{Ordering}
 use Rattle.std.proofs.Math.Dec.{ltb, leb}
-use Rattle.std.proofs.lemmas.Bool.{leb-true, le-leb}
+use Rattle.std.proofs.lemmas.Bool.{leb-true, le-leb, false_from_ne_true}
 use Rattle.std.proofs.lemmas.Bool.Decides.{Decides-eqb, Decides-ltb}
 use Rattle.std.proofs.lemmas.Cmp.{ranked}
 use Rattle.std.proofs.lemmas.Map.Keys.{Less-from_sorted}
@@ -14,7 +14,7 @@ use Rattle.std.proofs.lemmas.List.{length-map}
 use Rattle.std.proofs.lemmas.Option.{slice_get-map, slice_get_within, slice_get-get_or, get_or_from_slice_get}
 use Rattle.thes_base.specs.declared.data.Link.{Link}
 use Rattle.thes_base.specs.declared.data.LinkKind.{LinkKind}
-use Rattle.thes_base.specs.declared.data.LinkKind.TheVariants.{Broader, Related, Exact, RelMatch, Narrow}
+use Rattle.thes_base.specs.declared.data.LinkKind.TheVariants.{Broader, Related, Exact, RelMatch}
 use Rattle.thes_base.specs.declared.data.Direction.{Direction}
 use Rattle.thes_base.specs.declared.data.Direction.TheVariants.{Forward, Backward, Either, Never}
 use Rattle.thes_base.specs.Links.{Links, HeldIn, broader_way, related_way, exact_way, Leads}
@@ -28,8 +28,7 @@ use Rattle.thes_graph.specs.Side.{side_no, side_by, side_at, standing_cmp, IsPar
 use Rattle.thes_graph.specs.Reading.{HaveTwoEnds, IsRow}
 use Rattle.thes_graph.specs.Steps.{turned, way_of, Steps}
 use Rattle.thes_graph.specs.Net.{standings_at, links_at}
-use Rattle.thes_graph.proofs.NumberLemmas.{same_of, other_of}
-use Rattle.thes_graph.proofs.SetLemmas.{off_of_not}
+use Rattle.thes_graph.proofs.NumberLemmas.{same_of}
 use Rattle.thes_graph.proofs.StepLemmas.{Leads-first}
 use Rattle.thes_graph.proofs.IndexLemmas.{standings_sorted, standings_from}
 
@@ -169,7 +168,7 @@ module _ (a b n y : ℕ) (two : a ≢ b) where
   first_here = (Decides-eqb a n).1
 
   second_here : b ≡ n → (a == n) ≡ false
-  second_here at = off_of_not (a == n) (λ e. two (same_of a n e ∙ sym at))
+  second_here at = false_from_ne_true (a == n) (λ e. two (same_of a n e ∙ sym at))
 
   up_side : (k : LinkKind) → Leads (broader_way k) a b n y → side_by (broader_way k) (a == n) (related_way k) (exact_way k) ≡ Up
   up_side k leads = go (broader_way k) leads (never_either k)

@@ -1,9 +1,10 @@
 -- The weight of a list of nodes: the visits that reading each of them costs.
-use Rattle.std.proofs.Common.{◌≡◌, ◌≢◌, ◌+◌, ◌≤◌, ◌⊎◌, inl, inr, ℕ, zero, suc, List, [], ◌∷◌, ◌++◌, length, take, ap, sym, subst, ◌∙◌, arith, Some, None, slice_get, refl, Contains, AllPairs, sum_by}
-use Rattle.std.proofs.lemmas.Option.{slice_get_within, slice_get_cases, get_or_from_slice_get}
+use Rattle.std.proofs.Common.{◌≡◌, ◌≢◌, ◌+◌, ◌≤◌, inl, inr, ℕ, suc, List, [], ◌∷◌, ◌++◌, length, take, ap, sym, subst, ◌∙◌, arith, Some, None, slice_get, Contains, AllPairs, sum_by}
+use Rattle.std.proofs.lemmas.Option.{slice_get_within, slice_get_cases, get_or_from_slice_get, none-some}
 use Rattle.std.proofs.lemmas.List.{take_more}
 use Rattle.std.proofs.lemmas.List.Elements.{Contains-append_left, Contains-append_right, Contains-append_cases}
 use Rattle.std.proofs.lemmas.List.Sums.{sum_by-append, sum_by-cons}
+use Rattle.thes_base.proofs.ListMembers.{Contains-none, Contains-head, Contains-later, Contains-cons_cases}
 
 -- the item that a read gave is the next
 pub take_next : {X : Type 0} (xs : List X) (i : ℕ) (x : X) → Some x ≡ slice_get xs i → take (i + 1) xs ≡ take i xs ++ x ∷ []
@@ -12,25 +13,9 @@ take_next xs i x e =
 
 -- there is no item past the end
 pub past_of_none : {X : Type 0} (xs : List X) (i : ℕ) → slice_get xs i ≡ None → length xs ≤ i
-past_of_none xs i none = elim (slice_get_cases xs i).1 [ inl (x, inside, is, _) ↦ absurd (none_some x (sym none ∙ is)) | inr (past, _) ↦ past ]
-  where
-    none_some : {X : Type 0} (x : X) → None ≡ Some x → ⊥
-    none_some x e = cc
+past_of_none xs i none = elim (slice_get_cases xs i).1 [ inl (x, inside, is, _) ↦ absurd (none-some x (sym none ∙ is)) | inr (past, _) ↦ past ]
 
 module _ {X : Type 0} where
-  pub Contains-none : (x : X) → Contains [] x → ⊥
-  Contains-none x (k, lt, e) = absurd (omega arith)
-
-  pub Contains-head : (x : X) (xs : List X) → Contains (x ∷ xs) x
-  Contains-head x xs = (0, omega arith, refl)
-
-  pub Contains-later : (x : X) (xs : List X) (y : X) → Contains xs y → Contains (x ∷ xs) y
-  Contains-later x xs y (k, lt, e) = (suc k, omega arith, e)
-
-  pub Contains-cons_cases : (x : X) (xs : List X) (y : X) → Contains (x ∷ xs) y → (x ≡ y) ⊎ Contains xs y
-  Contains-cons_cases x xs y (zero, lt, e) = inl e
-  Contains-cons_cases x xs y (suc k, lt, e) = inr (k, omega arith, e)
-
   -- an element's place cuts the list
   pub cut : (xs : List X) (x : X) → Contains xs x → (before : List X) × (after : List X) × (xs ≡ before ++ x ∷ after)
   cut [] x has = absurd (Contains-none x has)

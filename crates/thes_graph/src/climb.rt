@@ -63,8 +63,10 @@ fn go_on<L: Links>(
     ensures held { L.held links.new ≡ L.held links.old }
     ensures met { OnOk result ((n : ℕ) → Contains met.old n → Contains met.new n) }
     ensures done { OnOk result ((n : ℕ) → Contains done.old n → Contains done.new n) }
-    ensures found { IfOk result (λ found. MatchBool found (IsSomeCycle (HeldIn (L.held links.old))) (IsClimb (HeldIn (L.held links.old)) met.new done.new way.new.items)) }
-    ensures less { IfOk result (λ found. found ≡ false → to_do met.new way.new.items < to_do met.old (way.old.items ++ last ∷ [])) }
+    ensures found { IfOk result (λ found. MatchBool found (IsSomeCycle (HeldIn (L.held links.old)))
+        (IsClimb (HeldIn (L.held links.old)) met.new done.new way.new.items)) }
+    ensures less { IfOk result (λ found. found ≡ false
+        → to_do met.new way.new.items < to_do met.old (way.old.items ++ last ∷ [])) }
 {
     let Some(high) = last.above.last().copied() else {
         done.meet(last.node)?;
@@ -96,7 +98,8 @@ pub fn climb<L: Links>(
     ensures held { L.held links.new ≡ L.held links.old }
     ensures found { IfOk result (λ found. MatchBool found (IsSomeCycle (HeldIn (L.held links.old))) (Contains done.new start)) }
     ensures kept { OnOk result ((n : ℕ) → Contains done.old n → Contains done.new n) }
-    ensures done { IfOk result (λ found. found ≡ false → (n : ℕ) → Contains done.new n → NoCycleAt (HeldIn (L.held links.old)) n) }
+    ensures done { IfOk result (λ found. found ≡ false → (n : ℕ) → Contains done.new n
+        → NoCycleAt (HeldIn (L.held links.old)) n) }
 {
     let mut met = Nodes::only(alloc, start)?;
     let first = stop_at(alloc, links, start)?;

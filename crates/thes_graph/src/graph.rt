@@ -175,7 +175,8 @@ impl Graph {
 
     /// The concepts related to this one in its own scheme, their numbers rising.
     pub fn related_of(&self, alloc: Global, n: ResNo) -> Result<Vec<ResNo>, AllocError>
-        ensures { IfOk result (λ found. IsListing nat_cmp (λ m. HasLink self.now.links kinds.Related n m ⊎ HasLink self.now.links kinds.Related m n) found.items) }
+        ensures { IfOk result (λ found. IsListing nat_cmp
+            (λ m. HasLink self.now.links kinds.Related n m ⊎ HasLink self.now.links kinds.Related m n) found.items) }
     {
         self.linked(alloc, n, Linked::Related)
     }
@@ -216,7 +217,10 @@ impl Graph {
     /// Adds the link. One that is held stays as it is.
     pub fn add(&mut self, link: &Link) -> Result<(), AllocError>
         requires { link.now.a ≢ link.now.b }
-        ensures ok { OnOk result (self.new ≡ record self.old { links = insert self.old.links (norm (is_marked self.old) link.now) }) }
+        ensures ok { OnOk result (self.new ≡ record self.old {
+          links = insert self.old.links (norm
+              (is_marked self.old) link.now);
+        }) }
         ensures err { OnErr result (self.new ≡ self.old) }
     {
         let new = self.normal(link);
@@ -299,7 +303,8 @@ impl Graph {
 
     // A link with an end at the node.
     fn last_at(&self, n: ResNo) -> Option<Link>
-        ensures { MatchOption result ((l : Link) → HeldIn self.now.links l → EndsAt n l → ⊥) (λ l. HeldIn self.now.links l × EndsAt n l) }
+        ensures { MatchOption result ((l : Link) → HeldIn self.now.links l → EndsAt n l
+            → ⊥) (λ l. HeldIn self.now.links l × EndsAt n l) }
     {
         match self.at(n).last() {
             Some(standing) => Some(standing.link),
@@ -319,7 +324,10 @@ impl Graph {
     /// Replaces the source by the target in each link.
     pub fn contract(&mut self, source: ResNo, target: ResNo) -> Result<(), AllocError>
         requires { source ≢ target }
-        ensures ok { OnOk result (self.new ≡ record self.old { links = contracted (is_marked self.old) source target self.old.links }) }
+        ensures ok { OnOk result (self.new ≡ record self.old {
+          links = contracted
+              (is_marked self.old) source target self.old.links;
+        }) }
         ensures err { OnErr result (self.new ≡ self.old) }
     {
         let moved = self.moved(source, target)?;

@@ -48,8 +48,8 @@ fn normal<L: Links>(links: &L, link: &Link) -> Link
     in_order(link, links.is_outside(link.a) || links.is_outside(link.b))
 }
 
-/// The first rule that the links that would be break by a chain or pair through the pivot.
-pub fn probe<L: Links>(
+// The first rule that the links that would be break by a chain or pair through the pivot.
+fn probe<L: Links>(
     alloc: Global,
     links: &mut L,
     sight: &Sight,
@@ -61,7 +61,8 @@ pub fn probe<L: Links>(
     ensures rows { L.links_of links.new ≡ L.links_of links.old }
     ensures two_ends { OnOk result (LooksAsHeld sight.now → HaveTwoEnds (HeldIn (L.held links.old))) }
     ensures first { IfOk result (IsFirstBrokenAt (WouldBe sight.now (L.held links.old)) pivot) }
-    ensures count { OnOk result ((ns : List Link) → CoversNear sight.now (L.held links.old) pivot ns → L.count links.new ≤ L.count links.old + 6 * length ns) }
+    ensures count { OnOk result ((ns : List Link) → CoversNear sight.now (L.held links.old) pivot ns
+        → L.count links.new ≤ L.count links.old + 6 * length ns) }
 {
     let up = gather(alloc, links, sight, pivot, Relation::Broader)?;
     let here = Nodes::only(alloc, pivot)?;
@@ -92,7 +93,8 @@ pub fn check_at<L: Links>(
     ensures held { L.held links.new ≡ L.held links.old }
     ensures outside { L.outside links.new ≡ L.outside links.old }
     ensures first { IfOk result (IsFirstBroken (HeldIn (L.held links.old))) }
-    ensures count { OnOk result (AreFewVisits (L.outside links.old) (Check pivot) (L.held links.old) (L.count links.old) (L.count links.new)) }
+    ensures count { OnOk result (AreFewVisits (L.outside links.old) (Check pivot) (L.held links.old)
+        (L.count links.old) (L.count links.new)) }
 {
     let answer = probe(alloc, links, &Sight::AsHeld, pivot)?;
     Ok(answer)
@@ -111,7 +113,8 @@ pub fn judge_add<L: Links>(
     ensures held { L.held links.new ≡ L.held links.old }
     ensures outside { L.outside links.new ≡ L.outside links.old }
     ensures answer { IfOk result (row_of_add (L.held links.old) (norm (L.outside links.old) link.now)) }
-    ensures count { let edit = Add (norm (L.outside links.old) link.now) in OnOk result (AreFewVisits (L.outside links.old) edit (L.held links.old) (L.count links.old) (L.count links.new)) }
+    ensures count { let edit = Add (norm (L.outside links.old) link.now) in OnOk result (AreFewVisits
+        (L.outside links.old) edit (L.held links.old) (L.count links.old) (L.count links.new)) }
 {
     let new = normal(links, link);
     let answer = judge_normal(alloc, links, &new)?;
@@ -129,7 +132,9 @@ fn judge_normal<L: Links>(
     ensures held { L.held links.new ≡ L.held links.old }
     ensures outside { L.outside links.new ≡ L.outside links.old }
     ensures answer { IfOk result (row_of_add (L.held links.old) new.now) }
-    ensures count { OnOk result ((ns : List Link) → Contains ns new.now → HasNeighbourhood (With new.now) (L.held links.old) new.now.a ns → L.count links.new ≤ L.count links.old + 6 * length ns) }
+    ensures count { OnOk result ((ns : List Link) → Contains ns new.now
+        → HasNeighbourhood (With new.now) (L.held links.old) new.now.a ns
+        → L.count links.new ≤ L.count links.old + 6 * length ns) }
 {
     if links.holds(new) {
         return Ok(Some(Refusal::LinkThere));
@@ -156,7 +161,8 @@ pub fn judge_contract<L: Links>(
     ensures held { L.held links.new ≡ L.held links.old }
     ensures outside { L.outside links.new ≡ L.outside links.old }
     ensures first { IfOk result (IsFirstBroken (HeldIn (contracted (L.outside links.old) source target (L.held links.old)))) }
-    ensures count { OnOk result (AreFewVisits (L.outside links.old) (Merge source target) (L.held links.old) (L.count links.old) (L.count links.new)) }
+    ensures count { OnOk result (AreFewVisits (L.outside links.old) (Merge source target) (L.held links.old)
+        (L.count links.old) (L.count links.new)) }
 {
     let sight = Sight::Merged(source, target);
     let answer = probe(alloc, links, &sight, target)?;

@@ -66,7 +66,8 @@ fn read<L: Links>(
     ensures rows { L.links_of links.new ≡ L.links_of links.old }
     ensures two_ends { OnOk result (LooksAsHeld sight.now → HaveTwoEnds (HeldIn (L.held links.old))) }
     ensures read { IfOk result (λ row. IsReadOf sight.now (L.held links.old) node row.items) }
-    ensures count { OnOk result ((ns : List Link) → CoversAt sight.now (L.held links.old) node ns → L.count links.new ≤ L.count links.old + sum_by (touches sight.now node) ns) }
+    ensures count { OnOk result ((ns : List Link) → CoversAt sight.now (L.held links.old) node ns
+        → L.count links.new ≤ L.count links.old + sum_by (touches sight.now node) ns) }
 {
     match sight {
         Sight::AsHeld => {
@@ -97,7 +98,8 @@ fn read_merged<L: Links>(
     ensures outside { L.outside links.new ≡ L.outside links.old }
     ensures rows { L.links_of links.new ≡ L.links_of links.old }
     ensures read { IfOk result (λ row. IsReadOf (Merged source target) (L.held links.old) node row.items) }
-    ensures count { OnOk result ((ns : List Link) → CoversAt (Merged source target) (L.held links.old) node ns → L.count links.new ≤ L.count links.old + sum_by (touches (Merged source target) node) ns) }
+    ensures count { OnOk result ((ns : List Link) → CoversAt (Merged source target)
+        (L.held links.old) node ns → L.count links.new ≤ L.count links.old + sum_by (touches (Merged source target) node) ns) }
 {
     if node == source {
         return Ok(Vec::new(alloc));
@@ -132,8 +134,10 @@ pub fn gather<L: Links>(
     ensures outside { L.outside links.new ≡ L.outside links.old }
     ensures rows { L.links_of links.new ≡ L.links_of links.old }
     ensures two_ends { OnOk result (LooksAsHeld sight.now → HaveTwoEnds (HeldIn (L.held links.old))) }
-    ensures gathered { IfOk result (λ got. IsGathered (WouldBe sight.now (L.held links.old)) relation start got.nodes got.links.items) }
-    ensures count { IfOk result (λ got. (ns : List Link) → ((n : ℕ) → Contains got.nodes n → CoversAt sight.now (L.held links.old) n ns) → L.count links.new ≤ L.count links.old + 2 * length ns) }
+    ensures gathered { IfOk result (λ got. IsGathered (WouldBe sight.now
+        (L.held links.old)) relation start got.nodes got.links.items) }
+    ensures count { IfOk result (λ got. (ns : List Link) → ((n : ℕ) → Contains got.nodes n
+        → CoversAt sight.now (L.held links.old) n ns) → L.count links.new ≤ L.count links.old + 2 * length ns) }
 {
     let mut nodes = Nodes::only(alloc, start)?;
     let mut found = Vec::new(alloc);
@@ -169,7 +173,8 @@ fn ties(relation: Relation, link: &Link, xs: &Nodes, ys: &Nodes) -> bool
 
 /// Whether some link leads from one of `xs` to one of `ys`.
 pub fn some_ties(relation: Relation, links: &[Link], xs: &Nodes, ys: &Nodes) -> bool
-    ensures { MatchBool result ((l : Link) × Contains links.now l × Ties relation l xs.now ys.now) ((l : Link) → Contains links.now l → Ties relation l xs.now ys.now → ⊥) }
+    ensures { MatchBool result ((l : Link) × Contains links.now l × Ties relation l xs.now ys.now)
+        ((l : Link) → Contains links.now l → Ties relation l xs.now ys.now → ⊥) }
 {
     for link in links {
         if ties(relation, link, xs, ys) {

@@ -1,11 +1,11 @@
 //! The check of all links: cycles by one climb from each node, exact classes each once, and what is above related concepts.
-ghost use Rattle.std.specs.Prelude.{◌≡◌, ◌⊎◌, ℕ, true, Contains, Ok, IfOk, OnOk, MatchBool};
+ghost use Rattle.std.specs.Prelude.{◌≡◌, ℕ, true, Contains, Ok, IfOk, OnOk, MatchBool};
 ghost use Rattle.thes_base.specs.declared.data.Link.{Link};
 ghost use Rattle.thes_base.specs.Links.{HeldIn, NoCycle, S27, S46, IsFirstBroken};
 ghost use Rattle.thes_graph.specs.Reading.{HaveTwoEnds};
 ghost use Rattle.thes_graph.specs.Steps.{GrowsBy};
 ghost use Rattle.thes_graph.specs.Local.{UpTo, NoS46At};
-ghost use Rattle.thes_graph.specs.Whole.{AreAll, HasWay, IsSomeCycle, IsSomeS27, IsSomeS46};
+ghost use Rattle.thes_graph.specs.Whole.{AreAll, HasWay, HasEndAbove, HasNoEndAbove, IsSomeCycle, IsSomeS27, IsSomeS46};
 
 use crate::climb::climb;
 use crate::links::Links;
@@ -22,7 +22,8 @@ use thes_base::number::ResNo;
 fn has_cycle<L: Links>(alloc: Global, links: &mut L, all: &[Link]) -> Result<bool, AllocError>
     requires { AreAll (L.held links.old) all.now }
     ensures held { L.held links.new ≡ L.held links.old }
-    ensures cycle { IfOk result (λ found. MatchBool found (IsSomeCycle (HeldIn (L.held links.old))) (NoCycle (HeldIn (L.held links.old)))) }
+    ensures cycle { IfOk result (λ found. MatchBool found (IsSomeCycle (HeldIn (L.held links.old)))
+        (NoCycle (HeldIn (L.held links.old)))) }
 {
     let mut done = Nodes::none(alloc);
     for link in all {
@@ -36,7 +37,8 @@ fn has_cycle<L: Links>(alloc: Global, links: &mut L, all: &[Link]) -> Result<boo
 // Whether the second node is the first one or above it.
 fn is_up<L: Links>(alloc: Global, links: &mut L, x: ResNo, y: ResNo) -> Result<bool, AllocError>
     ensures held { L.held links.new ≡ L.held links.old }
-    ensures up { IfOk result (λ found. MatchBool found (UpTo (HeldIn (L.held links.old)) x y) (UpTo (HeldIn (L.held links.old)) x y → ⊥)) }
+    ensures up { IfOk result (λ found. MatchBool found (UpTo (HeldIn (L.held links.old)) x y) (UpTo
+        (HeldIn (L.held links.old)) x y → ⊥)) }
 {
     let up = gather(alloc, links, &Sight::AsHeld, x, Relation::Broader)?;
     let found = up.nodes.has(y);
@@ -46,7 +48,8 @@ fn is_up<L: Links>(alloc: Global, links: &mut L, x: ResNo, y: ResNo) -> Result<b
 // Whether one end of the link is above the other.
 fn has_end_above<L: Links>(alloc: Global, links: &mut L, link: &Link) -> Result<bool, AllocError>
     ensures held { L.held links.new ≡ L.held links.old }
-    ensures above { IfOk result (λ found. MatchBool found (UpTo (HeldIn (L.held links.old)) link.now.a link.now.b ⊎ UpTo (HeldIn (L.held links.old)) link.now.b link.now.a) ((UpTo (HeldIn (L.held links.old)) link.now.a link.now.b → ⊥) × (UpTo (HeldIn (L.held links.old)) link.now.b link.now.a → ⊥))) }
+    ensures above { IfOk result (λ found. MatchBool found (HasEndAbove (HeldIn
+        (L.held links.old)) link.now) (HasNoEndAbove (HeldIn (L.held links.old)) link.now)) }
 {
     if is_up(alloc, links, link.a, link.b)? {
         return Ok(true);
@@ -70,7 +73,8 @@ fn breaks_s27<L: Links>(alloc: Global, links: &mut L, all: &[Link]) -> Result<bo
     requires all { AreAll (L.held links.old) all.now }
     requires two_ends { HaveTwoEnds (HeldIn (L.held links.old)) }
     ensures held { L.held links.new ≡ L.held links.old }
-    ensures s27 { IfOk result (λ found. MatchBool found (IsSomeS27 (HeldIn (L.held links.old))) (S27 (HeldIn (L.held links.old)))) }
+    ensures s27 { IfOk result (λ found. MatchBool found (IsSomeS27 (HeldIn (L.held links.old))) (S27
+        (HeldIn (L.held links.old)))) }
 {
     for link in all {
         if counts(Relation::Related, link) && has_end_above(alloc, links, link)? {
@@ -117,7 +121,8 @@ fn breaks_s46<L: Links>(alloc: Global, links: &mut L, all: &[Link]) -> Result<bo
     requires all { AreAll (L.held links.old) all.now }
     requires two_ends { HaveTwoEnds (HeldIn (L.held links.old)) }
     ensures held { L.held links.new ≡ L.held links.old }
-    ensures s46 { IfOk result (λ found. MatchBool found (IsSomeS46 (HeldIn (L.held links.old))) (S46 (HeldIn (L.held links.old)))) }
+    ensures s46 { IfOk result (λ found. MatchBool found (IsSomeS46 (HeldIn (L.held links.old))) (S46
+        (HeldIn (L.held links.old)))) }
 {
     let mut done = Nodes::none(alloc);
     for link in all {

@@ -1,8 +1,8 @@
 use Rattle.std.proofs.Common.{[], ◌∷◌, ℕ, List, sym, subst, ◌∙◌}
 use Rattle.thes_base.specs.Links.{HeldIn}
+use Rattle.thes_base.proofs.ListMembers.{Contains-head}
 use Rattle.thes_graph.specs.Climb.{IsClimb}
 use Rattle.thes_graph.specs.declared.climb.Stop.{Stop}
-use Rattle.thes_graph.proofs.WeightLemmas.{Contains-head}
 use Rattle.thes_graph.proofs.ClimbLemmas.{IsClimb-start, IsClimb-end, no_stops}
 use Rattle.thes_graph.proofs.climb.climb.Goals as goal
 

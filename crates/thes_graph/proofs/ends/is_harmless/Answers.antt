@@ -1,4 +1,3 @@
-use Rattle.std.proofs.Common.{refl}
 use Rattle.thes_base.specs.Links.{HeldIn}
 use Rattle.thes_graph.proofs.KindLemmas.{unbroken_loose}
 use Rattle.thes_graph.proofs.ends.is_harmless.Goals as goal

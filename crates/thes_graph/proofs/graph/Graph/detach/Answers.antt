@@ -1,8 +1,9 @@
 use Rattle.std.proofs.Common.{true, ap, sym, ◌∙◌}
 use Rattle.std.specs.FinSet.{remove, from_list}
+use Rattle.std.proofs.lemmas.Bool.{both_ways}
 use Rattle.thes_base.specs.Links.{Links}
 use Rattle.thes_graph.specs.Net.{Net}
-use Rattle.thes_graph.proofs.SetLemmas.{remove_absent, not_held_of}
+use Rattle.thes_graph.proofs.SetLemmas.{remove_absent}
 use Rattle.thes_graph.proofs.IndexLemmas.{looked_up, row_sorted, other_sorted, IsIndexed-taken, from_list_without, without_computed}
 use Rattle.thes_graph.proofs.graph.Graph.detach.Goals as goal
 
@@ -35,5 +36,5 @@ pub returns-else-remove : goal.returns-else-remove
 returns-else-remove c =
     ap (λ (links : Links). record { links = links; outside = from_list c.self.inside.marked.keys })
     (ap from_list c.if-remove.ensures.unchanged
-    ∙ sym (remove_absent (from_list c.self.inside.held.keys) c.args.link.now (not_held_of _ (sym (looked_up c.self.inside.held.keys c.args.link.now _ c.if-remove.ensures.test)))))
+    ∙ sym (remove_absent (from_list c.self.inside.held.keys) c.args.link.now (both_ways _ (sym (looked_up c.self.inside.held.keys c.args.link.now _ c.if-remove.ensures.test)))))
     ∙ ap (λ (net : Net). record { links = remove net.links c.args.link.now; outside = net.outside }) c.self.view_is

@@ -1,10 +1,6 @@
-use Rattle.std.proofs.Common.{ℕ, Option, Some, None, Contains, ◌∙◌, subst}
-use Rattle.std.specs.Option.{MatchOption}
-use Rattle.thes_base.specs.declared.data.Link.{Link}
-use Rattle.thes_base.specs.Links.{Links, HeldIn}
+use Rattle.std.proofs.Common.{Some, None, Contains}
 use Rattle.thes_graph.specs.declared.side.Standing.{Standing}
 use Rattle.thes_graph.specs.Side.{standing_at}
-use Rattle.thes_graph.specs.Reading.{EndsAt}
 use Rattle.thes_graph.specs.Net.{standings_at}
 use Rattle.thes_graph.proofs.ChangeLemmas.{last_of}
 use Rattle.thes_graph.proofs.IndexLemmas.{standings_from, standings_to}

@@ -5,9 +5,9 @@ use Rattle.thes_graph.specs.Steps.{step_in}
 use Rattle.thes_graph.specs.Linked.{led_to}
 use Rattle.std.specs.Cmp.{nat_cmp_total}
 use Rattle.std.specs.FinSet.{nat_cmp-IsAntisymmetric}
+use Rattle.thes_base.proofs.ListMembers.{Contains-none}
 use Rattle.thes_lists.proofs.ListingLemmas.{listing_none}
 use Rattle.thes_graph.specs.declared.side.Standing.{Standing}
-use Rattle.thes_graph.proofs.WeightLemmas.{Contains-none}
 use Rattle.thes_graph.proofs.ReaderLemmas.{ListsSeen, seen_more, seen_no_more, seen_listing, linked_from, linked_to}
 use Rattle.thes_graph.proofs.graph.Graph.linked.Goals as goal
 use Rattle.thes_graph.proofs.graph.Graph.linked.Goals.{in-Some+in_ok-list_in, in_default}

@@ -3,10 +3,10 @@ use Rattle.std.proofs.Math.Seq.{take-length}
 use Rattle.thes_base.specs.Views.{mapping_cmp}
 use Rattle.thes_graph.specs.Mapped.{as_seen_from}
 use Rattle.thes_base.proofs.WordOrders.{mapping_total, mapping_exact}
+use Rattle.thes_base.proofs.ListMembers.{Contains-none}
 use Rattle.thes_graph.proofs.MappingLemmas.{seen_from, seen_to}
 use Rattle.thes_lists.proofs.ListingLemmas.{listing_none}
 use Rattle.thes_graph.specs.declared.side.Standing.{Standing}
-use Rattle.thes_graph.proofs.WeightLemmas.{Contains-none}
 use Rattle.thes_graph.proofs.ReaderLemmas.{ListsSeen, seen_more, seen_no_more, seen_listing}
 use Rattle.thes_graph.proofs.graph.Graph.mapped.Goals as goal
 use Rattle.thes_graph.proofs.graph.Graph.mapped.Goals.{in-Some+in_ok-list_mapping, in_default}

@@ -3,11 +3,11 @@ use Rattle.std.proofs.Math.Seq.{take-length}
 use Rattle.thes_base.specs.Views.{typed_cmp}
 use Rattle.thes_graph.specs.Mapped.{as_typed_from}
 use Rattle.thes_base.proofs.WordOrders.{typed_total, typed_exact}
+use Rattle.thes_base.proofs.ListMembers.{Contains-none}
 use Rattle.thes_graph.proofs.MappingLemmas.{typed_from, typed_to}
 use Rattle.thes_lists.proofs.ListingLemmas.{listing_none}
 use Rattle.thes_graph.specs.declared.side.Standing.{Standing}
 use Rattle.thes_graph.proofs.LinkOrderLemmas.{typed_inserted, typed_rises}
-use Rattle.thes_graph.proofs.WeightLemmas.{Contains-none}
 use Rattle.thes_graph.proofs.ReaderLemmas.{ListsSeen, seen_more, seen_no_more, seen_listing}
 use Rattle.thes_graph.proofs.graph.Graph.typed_of.Goals as goal
 use Rattle.thes_graph.proofs.graph.Graph.typed_of.Goals.{in-Some+in_ok-list_in, in_default}

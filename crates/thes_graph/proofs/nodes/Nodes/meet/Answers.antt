@@ -1,4 +1,5 @@
-use Rattle.std.proofs.Common.{◌≡◌, Bool, true, false, not, sym, ◌∙◌}
+use Rattle.std.proofs.Common.{sym, ◌∙◌}
+use Rattle.std.proofs.lemmas.Bool.{not-true, not-false}
 use Rattle.thes_graph.proofs.MetLemmas.{has_of_test, IsMet-push}
 use Rattle.thes_graph.proofs.StepLemmas.{GrowsBy-push, GrowsBy-there}
 use Rattle.thes_graph.proofs.nodes.Nodes.meet.Goals as goal
@@ -10,17 +11,9 @@ invariant_of-self-in-Continue-branch-3 c =
 pub returns-in_ok-push-clause-grows : goal.returns-in_ok-push-clause-grows
 returns-in_ok-push-clause-grows c =
     rw (c.in_ok-push.ensures.items, c.reserve.ensures.items, ← c.self.view_is)
-    (GrowsBy-push c.self.inside.list.items c.args.n (sym (c.self.invariant c.args.n) ∙ off _ (sym c.in_ok-insert.ensures.added ∙ c.if-branch.true)))
-  where
-    off : (b : Bool) → not b ≡ true → b ≡ false
-    off true e = cc
-    off false e = cc
+    (GrowsBy-push c.self.inside.list.items c.args.n (sym (c.self.invariant c.args.n) ∙ not-true _ (sym c.in_ok-insert.ensures.added ∙ c.if-branch.true)))
 
 pub returns-else-branch-clause-grows : goal.returns-else-branch-clause-grows
 returns-else-branch-clause-grows c =
     rw (c.reserve.ensures.items, ← c.self.view_is)
-    (GrowsBy-there c.self.inside.list.items c.args.n (has_of_test _ _ (sym (c.self.invariant c.args.n) ∙ on _ (sym c.in_ok-insert.ensures.added ∙ c.if-branch.false))))
-  where
-    on : (b : Bool) → not b ≡ false → b ≡ true
-    on true e = cc
-    on false e = cc
+    (GrowsBy-there c.self.inside.list.items c.args.n (has_of_test _ _ (sym (c.self.invariant c.args.n) ∙ not-false _ (sym c.in_ok-insert.ensures.added ∙ c.if-branch.false))))
