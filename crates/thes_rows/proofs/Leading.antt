@@ -38,7 +38,9 @@ use Rattle.thes_rows.specs.Tables.{Tables, IsRowsOf, IsIn, Lists, IsLabelOf, Are
 use Rattle.thes_rows.specs.Rows.{changed, all_changed, Fits, FitAll, without_row, with_posting, withdrawn_row, placed_row, moved_row}
 use Rattle.thes_rows.specs.Changes.{changes_of, changes_made, changes_relabelled, new_moves, add_link, drop_link, coming, links_changed}
 use Rattle.thes_rows.specs.Leads.{Leads, IsFresh}
-use Rattle.thes_rows.proofs.Sets.{in_append, append_nil, decided, clash, absent, inserted_cases, inserted_union, removed_cases, coming_same, coming_absent, Absent, row_new, listed_push, listed_drop, listed_all}
+use Rattle.std.proofs.lemmas.List.{append-nil}
+use Rattle.std.proofs.lemmas.Bool.{cases_Bool}
+use Rattle.thes_rows.proofs.Sets.{in_append, clash, absent, inserted_cases, inserted_union, removed_cases, coming_same, coming_absent, Absent, row_new, listed_push, listed_drop, listed_all}
 use Rattle.thes_rows.proofs.Steps.{all_append, fit_append}
 use Rattle.thes_rows.proofs.LinkRows.{LinkRows, links_of, relinked, added_only, dropped_only, link_in, link_out, link_fits, drop_fits, turned_only, turned_rows, turned_fit}
 use Rattle.thes_rows.proofs.MoveRows.{bounded, moves_more, moves_posted, moves_set, rises_new, map_set, map_numbered, with_at, rows_moved, placed_all, NumberedFrom, numbered_from, rows_placed}
@@ -52,7 +54,7 @@ ascends_push above (r ∷ rows) row up lt below = (up.0, ascends_push r.0 rows r
 -- the row's number has an IRI
 found_row : (rows : List (ℕ × List ℕ)) (row : ℕ × List ℕ) → IsIn row rows → (iri : List ℕ) × (dict.find nat_cmp row.0 rows ≡ Some iri)
 found_row [] row h = absurd h
-found_row (r ∷ rows) row h = elim (decided (eq_by_cmp nat_cmp row.0 r.0)) [
+found_row (r ∷ rows) row h = elim (cases_Bool (eq_by_cmp nat_cmp row.0 r.0)) [
   | inl tie ↦ (r.1, ap (λ b. cond b (Some r.1) (dict.find nat_cmp row.0 rows)) tie)
   | inr apart ↦ elim h [
     | inl e ↦ clash (eq_by_cmp nat_cmp row.0 r.0) (ap (λ (x : ℕ × List ℕ). eq_by_cmp nat_cmp row.0 x.0) (sym e) ∙ ap is_eq (tied_itself nat_cmp_total row.0)) apart
@@ -63,11 +65,11 @@ found_row (r ∷ rows) row h = elim (decided (eq_by_cmp nat_cmp row.0 r.0)) [
 -- Lists of changes.
 
 labels_added_all : (ls : List Label) (t : Tables) → all_changed (map change.AddLabel ls) t ≡ record t { label = t.label ++ ls }
-labels_added_all [] t = ap (λ l. record t { label = l }) (sym (append_nil t.label))
+labels_added_all [] t = ap (λ l. record t { label = l }) (sym (append-nil t.label))
 labels_added_all (r ∷ rows) t = labels_added_all rows (record t { label = t.label ++ r ∷ [] }) ∙ ap (λ l. record t { label = l }) (append_assoc t.label (r ∷ []) rows)
 
 moves_added_all : (rows : List MoveRow) (t : Tables) → all_changed (map change.AddMove rows) t ≡ record t { move = t.move ++ rows }
-moves_added_all [] t = ap (λ l. record t { move = l }) (sym (append_nil t.move))
+moves_added_all [] t = ap (λ l. record t { move = l }) (sym (append-nil t.move))
 moves_added_all (r ∷ rows) t = moves_added_all rows (record t { move = t.move ++ r ∷ [] }) ∙ ap (λ l. record t { move = l }) (append_assoc t.move (r ∷ []) rows)
 
 abbrev set_place : MoveRow → Change

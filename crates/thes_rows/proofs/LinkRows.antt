@@ -19,7 +19,8 @@ use Rattle.thes_rows.specs.declared.change.Change.TheVariants as change
 use Rattle.thes_rows.specs.Tables.{Tables, IsRowsOf, IsIn, Lists, IsHierOf, IsLinkOf, hier_kind, hier_link, hier_type}
 use Rattle.thes_rows.specs.Rows.{changed, all_changed, FitAll, Fits, without_hier}
 use Rattle.thes_rows.specs.Changes.{hier_row, add_link, drop_link, coming, without_all, links_going, links_changed}
-use Rattle.thes_rows.proofs.Sets.{decided, clash, not_true, not_false, inserted_cases, inserted_kept, inserted_new, removed_cases, removed_kept, tied, inserted, Absent, coming_same, coming_absent, turned, lists_push, lists_filter, lists_drop, lists_same}
+use Rattle.std.proofs.lemmas.Bool.{cases_Bool, not-true, not_from_false}
+use Rattle.thes_rows.proofs.Sets.{clash, inserted_cases, inserted_kept, inserted_new, removed_cases, removed_kept, tied, inserted, Absent, coming_same, coming_absent, turned, lists_push, lists_filter, lists_drop, lists_same}
 use Rattle.thes_rows.proofs.Steps.{all_append, fit_append}
 
 -- Rows of hier and the links that they tell.
@@ -132,8 +133,8 @@ module _ (l : Link) (links : Links) (t : Tables) where
   drop_hier typ e are = record {
     link = lists_same t.link (λ q h. (less_kept q (other q h.1) h.0, h.1)) (λ q h. ((less_cases q h.0).1, h.1)) are.link;
     hier = lists_filter (λ x. not (eq_by_cmp link_cmp (hier_link x) (hier_link (hier_row typ l)))) t.hier
-        (λ row h. let c = less_cases (hier_link row) h in (c.1, not_false _ (elim (decided (eq_by_cmp link_cmp (hier_link row) (hier_link (hier_row typ l)))) [ inl same ↦ absurd (c.0 (tied links_total links_exact _ _ same ∙ told l typ e)) | inr ne ↦ ne ])))
-        (λ row h passes. less_kept (hier_link row) (λ same. clash (eq_by_cmp link_cmp (hier_link row) (hier_link (hier_row typ l))) (ap (eq_by_cmp link_cmp (hier_link row)) (told l typ e ∙ sym same) ∙ ap is_eq (tied_itself links_total (hier_link row))) (not_true _ passes)) h)
+        (λ row h. let c = less_cases (hier_link row) h in (c.1, not_from_false _ (elim (cases_Bool (eq_by_cmp link_cmp (hier_link row) (hier_link (hier_row typ l)))) [ inl same ↦ absurd (c.0 (tied links_total links_exact _ _ same ∙ told l typ e)) | inr ne ↦ ne ])))
+        (λ row h passes. less_kept (hier_link row) (λ same. clash (eq_by_cmp link_cmp (hier_link row) (hier_link (hier_row typ l))) (ap (eq_by_cmp link_cmp (hier_link row)) (told l typ e ∙ sym same) ∙ ap is_eq (tied_itself links_total (hier_link row))) (not-true _ passes)) h)
         are.hier;
   }
     where

@@ -1,5 +1,7 @@
 -- Sets that change element by element.
 use Rattle.std.proofs.Common.{◌≡◌, ◌⊎◌, ℕ, List, [], ◌∷◌, ◌++◌, refl, sym, ap, ◌∙◌, subst, inl, inr, Bool, true, false, not, ◌&&◌, ◌||◌, cond, T, map, append_assoc}
+use Rattle.std.proofs.lemmas.Bool.{cases_Bool, or_cases, or_left, or_right, and_from, not-true, not_from_false}
+use Rattle.std.proofs.lemmas.List.{append-nil}
 use Rattle.std.specs.Prelude.{filter, if◌then◌else◌}
 use Rattle.std.specs.List.{list_any}
 use Rattle.std.specs.declared.cmp.Ordering.{Ordering}
@@ -13,28 +15,8 @@ use Rattle.thes_rows.specs.Tables.{IsIn, Once, Lists}
 use Rattle.thes_rows.specs.Rows.{without_row}
 use Rattle.thes_rows.specs.Changes.{coming, without_all}
 
-pub decided : (b : Bool) → (b ≡ true) ⊎ (b ≡ false)
-decided true = inl refl
-decided false = inr refl
-
 pub clash : {A : Type 0} (b : Bool) → b ≡ true → b ≡ false → A
 clash b e f = absurd (cc)
-
-or_cases : (a b : Bool) → (a || b) ≡ true → (a ≡ true) ⊎ (b ≡ true)
-or_cases true b e = inl refl
-or_cases false b e = inr e
-
-or_left : (a b : Bool) → a ≡ true → (a || b) ≡ true
-or_left true b e = refl
-or_left false b e = absurd (cc)
-
-or_right : (a b : Bool) → b ≡ true → (a || b) ≡ true
-or_right true b e = refl
-or_right false b e = e
-
-and_both : (a b : Bool) → a ≡ true → b ≡ true → (a && b) ≡ true
-and_both true b e f = f
-and_both false b e f = absurd (cc)
 
 and_first : (a b : Bool) → (a && b) ≡ true → a ≡ true
 and_first true b e = refl
@@ -44,19 +26,7 @@ and_second : (a b : Bool) → (a && b) ≡ true → b ≡ true
 and_second true b e = e
 and_second false b e = absurd (cc)
 
-pub not_true : (b : Bool) → not b ≡ true → b ≡ false
-not_true true e = absurd (cc)
-not_true false e = refl
-
-pub not_false : (b : Bool) → b ≡ false → not b ≡ true
-not_false true e = absurd (cc)
-not_false false e = refl
-
 -- Lists.
-
-pub append_nil : {A : Type 0} (xs : List A) → xs ++ [] ≡ xs
-append_nil [] = refl
-append_nil (x ∷ xs) = ap (λ l. x ∷ l) (append_nil xs)
 
 pub in_filter : {A : Type 0} (test : A → Bool) (x : A) (xs : List A) → IsIn x (filter test xs) → IsIn x xs × (test x ≡ true)
 in_filter test x [] h = absurd h
@@ -160,10 +130,10 @@ module _ {K : Type 0} {R : K → K → Ordering} (o : IsTotalOrder R) (exact : I
   pub removed_cases : (s : FinSet R) (k q : K) → set.contains (set.remove s k) q ≡ true → (q ≡ k → ⊥) × (set.contains s q ≡ true)
   removed_cases s k q e =
       let both = sym (set.contains-remove o s k q) ∙ e in
-      (λ same. clash (eq_by_cmp R q k) (ap (eq_by_cmp R q) (sym same) ∙ itself q) (not_true _ (and_first _ _ both)), and_second _ _ both)
+      (λ same. clash (eq_by_cmp R q k) (ap (eq_by_cmp R q) (sym same) ∙ itself q) (not-true _ (and_first _ _ both)), and_second _ _ both)
 
   pub removed_kept : (s : FinSet R) (k q : K) → (q ≡ k → ⊥) → set.contains s q ≡ true → set.contains (set.remove s k) q ≡ true
-  removed_kept s k q ne e = set.contains-remove o s k q ∙ and_both _ _ (not_false _ (other (decided (eq_by_cmp R q k)))) e
+  removed_kept s k q ne e = set.contains-remove o s k q ∙ and_from _ _ (not_from_false _ (other (cases_Bool (eq_by_cmp R q k)))) e
     where
       other : (eq_by_cmp R q k ≡ true) ⊎ (eq_by_cmp R q k ≡ false) → eq_by_cmp R q k ≡ false
       other (inl same) = absurd (ne (tied q k same))
@@ -171,7 +141,7 @@ module _ {K : Type 0} {R : K → K → Ordering} (o : IsTotalOrder R) (exact : I
 
   -- not in the set, where it can't be
   pub absent : (s : FinSet R) (q : K) → (set.contains s q ≡ true → ⊥) → set.contains s q ≡ false
-  absent s q never = elim (decided (set.contains s q)) [ inl h ↦ absurd (never h) | inr h ↦ h ]
+  absent s q never = elim (cases_Bool (set.contains s q)) [ inl h ↦ absurd (never h) | inr h ↦ h ]
 
   -- one after another, more and less
   abbrev pub inserted : List K → FinSet R → FinSet R
@@ -218,9 +188,9 @@ module _ {K : Type 0} {R : K → K → Ordering} (o : IsTotalOrder R) (exact : I
         | inl new ↦ held_item t q new
         | inr old ↦
             let both = gone_cases (filter (λ l. not (set.contains t l)) (set.items s)) s q old in
-            elim (decided (set.contains t q)) [
+            elim (cases_Bool (set.contains t q)) [
               | inl there ↦ there
-              | inr out ↦ absurd (both.0 (filter_in (λ l. not (set.contains t l)) q (set.items s) (item_held s q both.1) (not_false _ out)))
+              | inr out ↦ absurd (both.0 (filter_in (λ l. not (set.contains t l)) q (set.items s) (item_held s q both.1) (not_from_false _ out)))
             ]
       ])
       (λ h. all_new (set.items t) _ q (item_held t q h)))
@@ -231,7 +201,7 @@ module _ {K : Type 0} {R : K → K → Ordering} (o : IsTotalOrder R) (exact : I
   -- those that come, and the rest that is there already
   pub coming_same : (ks : List K) (s : FinSet R) → inserted (coming s ks) s ≡ inserted ks s
   coming_same [] s = refl
-  coming_same (k ∷ ks) s = elim (decided (set.contains s k)) [
+  coming_same (k ∷ ks) s = elim (cases_Bool (set.contains s k)) [
     | inl held ↦ ap (λ b. inserted (cond b (coming s ks) (k ∷ coming (set.insert s k) ks)) s) held ∙ coming_same ks s ∙ ap (inserted ks) (sym (insert_held s k held))
     | inr new ↦ ap (λ b. inserted (cond b (coming s ks) (k ∷ coming (set.insert s k) ks)) s) new ∙ coming_same ks (set.insert s k)
   ]
@@ -243,7 +213,7 @@ module _ {K : Type 0} {R : K → K → Ordering} (o : IsTotalOrder R) (exact : I
 
   pub coming_absent : (ks : List K) (s : FinSet R) → Absent (coming s ks) s
   coming_absent [] s = tt
-  coming_absent (k ∷ ks) s = elim (decided (set.contains s k)) [
+  coming_absent (k ∷ ks) s = elim (cases_Bool (set.contains s k)) [
     | inl held ↦ subst (λ b. Absent (cond b (coming s ks) (k ∷ coming (set.insert s k) ks)) s) (sym held) (coming_absent ks s)
     | inr new ↦ subst (λ b. Absent (cond b (coming s ks) (k ∷ coming (set.insert s k) ks)) s) (sym new) (new, coming_absent ks (set.insert s k))
   ]
@@ -251,8 +221,8 @@ module _ {K : Type 0} {R : K → K → Ordering} (o : IsTotalOrder R) (exact : I
   -- the rows without one
   pub lists_drop : {Has Less : K → Type 0} (rows : List K) (k : K) → ((q : K) → Less q → (q ≡ k → ⊥) × Has q) → ((q : K) → (q ≡ k → ⊥) → Has q → Less q) → Lists Has rows → Lists Less (without_row R k rows)
   lists_drop rows k less more are = lists_filter (λ x. not (eq_by_cmp R x k)) rows
-      (λ q h. let l = less q h in (l.1, not_false _ (elim (decided (eq_by_cmp R q k)) [ inl e ↦ absurd (l.0 (tied q k e)) | inr ne ↦ ne ])))
-      (λ q h passes. more q (λ e. clash (eq_by_cmp R q k) (ap (eq_by_cmp R q) (sym e) ∙ itself q) (not_true _ passes)) h)
+      (λ q h. let l = less q h in (l.1, not_from_false _ (elim (cases_Bool (eq_by_cmp R q k)) [ inl e ↦ absurd (l.0 (tied q k e)) | inr ne ↦ ne ])))
+      (λ q h passes. more q (λ e. clash (eq_by_cmp R q k) (ap (eq_by_cmp R q) (sym e) ∙ itself q) (not-true _ passes)) h)
       are
 
   -- Rows that list a set.
@@ -270,5 +240,5 @@ module _ {K : Type 0} {R : K → K → Ordering} (o : IsTotalOrder R) (exact : I
   listed_drop s rows k are = lists_drop rows k (λ q h. removed_cases s k q h) (λ q ne h. removed_kept s k q ne h) are
 
   pub listed_all : (ks : List K) (s : FinSet R) (rows : List K) → Lists (Held s) rows → Absent ks s → Lists (Held (inserted ks s)) (rows ++ ks)
-  listed_all [] s rows are a = subst (Lists (Held s)) (sym (append_nil rows)) are
+  listed_all [] s rows are a = subst (Lists (Held s)) (sym (append-nil rows)) are
   listed_all (k ∷ ks) s rows are a = subst (Lists (Held (inserted (k ∷ ks) s))) (append_assoc rows (k ∷ []) ks) (listed_all ks (set.insert s k) (rows ++ k ∷ []) (listed_push s rows k are a.0) a.1)
