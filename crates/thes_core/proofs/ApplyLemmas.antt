@@ -18,6 +18,7 @@ use Rattle.thes_base.specs.Postings.{stands_at, standing_count, move_count}
 use Rattle.thes_base.specs.State.{State}
 use Rattle.thes_base.specs.Changes.{marked_dead, dead, made, outside_made, histories_split, scheme_resource, collection_resource, split_off, is_listed, concept_resource, outside_resource, next_number}
 use Rattle.thes_base.specs.Legal.{Legal}
+use Rattle.thes_base.specs.Texts.{HasForms}
 use Rattle.thes_base.specs.Machine.{next_state}
 use Rattle.thes_base.specs.Refusals.{Setting, IsSetting, unless_within, unless_unique, unless_owner, unless_listed, unless_live_concept}
 use Rattle.thes_base.proofs.RowLemmas.{passed_unless}
@@ -37,7 +38,7 @@ use Rattle.thes_core.specs.Kept.{Kept}
 use Rattle.thes_core.specs.Decides.{Accepts}
 use Rattle.thes_core.specs.Requests.{command_of, is_foreign}
 use Rattle.thes_core.specs.View.{state_of, setting_of, IsKept, Becomes, KnowsOutside}
-use Rattle.thes_core.proofs.NextLemmas.{next_legal}
+use Rattle.thes_core.proofs.NextLemmas.{next_sound, next_legal}
 
 -- The parts after a change, each as it is known, make the state.
 pub becomes : (old new : Thesaurus) (s : State) (v : Vocabulary) (g : Net) (b : List History) → new.vocab ≡ v → new.graph ≡ g → new.book ≡ b → new.limits ≡ old.limits
@@ -49,10 +50,10 @@ becomes old new s v g b is_v is_g is_b is_l is_s base knows = record {
 }
 
 -- What is kept after an accepted request.
-pub kept_after : (old new : Thesaurus) (command : Command) → IsKept old → Accepts (setting_of old) (state_of old) command → Becomes old (next_state command (state_of old)) new → IsKept new
-kept_after old new command kept ok made = record {
+pub kept_after : (old new : Thesaurus) (command : Command) → HasForms command → IsKept old → Accepts (setting_of old) (state_of old) command → Becomes old (next_state command (state_of old)) new → IsKept new
+kept_after old new command forms kept ok made = record {
   fit = subst IsSetting (sym made.setting) kept.fit;
-  legal = subst (λ (x : List ℕ). Legal x (state_of new)) (sym (ap (λ (x : Setting). x.base) made.setting)) (subst (Legal old.vocab.base) (sym made.state) (next_legal (setting_of old) kept.fit (state_of old) command kept.legal ok));
+  legal = subst (λ (x : List ℕ). Legal x (state_of new)) (sym (ap (λ (x : Setting). x.base) made.setting)) (subst (Legal old.vocab.base) (sym made.state) (next_legal (setting_of old) kept.fit (state_of old) command forms kept.legal ok));
   outside = made.outside;
 }
 
@@ -165,7 +166,7 @@ live_owner rs owner row =
 module _ (t : Thesaurus) (kept : IsKept t) where
   pub merge_fits : (source target : ℕ) → Accepts (setting_of t) (state_of t) (request.Merge source target) → move_count t.book + standing_count source t.book < 2 ^ 32
   merge_fits source target ok =
-      let few = (next_legal (setting_of t) kept.fit (state_of t) (request.Merge source target) kept.legal ok).postings.few_moves in
+      let few = (next_sound (setting_of t) kept.fit (state_of t) (request.Merge source target) kept.legal ok).postings.few_moves in
       let count = count_moved (stands_at source) target (move_count t.book + 1) t.book in
       omega (arith, few, count)
 
@@ -204,14 +205,14 @@ module _ (t : Thesaurus) (kept : IsKept t) where
 
     pub split_fits : move_count t.book + length postings < 2 ^ 32
     split_fits =
-        let few = (next_legal (setting_of t) kept.fit (state_of t) (request.Split source tag text postings) kept.legal ok).postings.few_moves in
+        let few = (next_sound (setting_of t) kept.fit (state_of t) (request.Split source tag text postings) kept.legal ok).postings.few_moves in
         let count = count_moved (is_listed postings) (next_number (state_of t)) (move_count t.book + 1) t.book in
         let listed = listed_count t.vocab.base (state_of t) source postings kept.legal split_listed in
         omega (arith, few, count, listed)
 
     pub split_room : length t.vocab.resources + 1 < 2 ^ 32
     split_room =
-        let few = (next_legal (setting_of t) kept.fit (state_of t) (request.Split source tag text postings) kept.legal ok).resources.few in
+        let few = (next_sound (setting_of t) kept.fit (state_of t) (request.Split source tag text postings) kept.legal ok).resources.few in
         let l = length-append t.vocab.resources (concept_resource (scheme_of t.vocab.resources source) ∷ []) in
         omega (arith, few, l)
 
@@ -251,6 +252,6 @@ none_outside (suc n) = refl
 pub kept_empty : (t : Thesaurus) (base : List ℕ) → IsSetting (record { base = base; limits = t.limits }) → t.vocab ≡ empty_vocabulary base → t.graph ≡ record { links = set.empty; outside = set.empty } → t.book ≡ [] → IsKept t
 kept_empty t base fit vocab graph book = record {
   fit = subst IsSetting (λ i. record { base = (sym vocab i).base; limits = t.limits }) fit;
-  legal = subst (λ (p : Vocabulary × (Net × List History)). Legal p.0.base (record { resources = p.0.resources; iris = p.0.iris; labels = p.0.labels; links = p.1.0.links; histories = p.1.1 })) (λ i. (sym vocab i, (sym graph i, sym book i))) (legal_empty base);
+  legal = subst (λ (p : Vocabulary × (Net × List History)). Legal p.0.base (record { resources = p.0.resources; iris = p.0.iris; labels = p.0.labels; links = p.1.0.links; histories = p.1.1 })) (λ i. (sym vocab i, (sym graph i, sym book i))) (legal_empty base fit.base_form);
   outside = λ n. ap (λ (g : Net). set.contains g.outside n) graph ∙ set.contains-empty nat_cmp n ∙ sym (none_outside n) ∙ ap (λ (v : Vocabulary). is_outside v.resources n) (sym vocab);
 }

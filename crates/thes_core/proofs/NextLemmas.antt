@@ -9,8 +9,10 @@ use Rattle.thes_base.specs.declared.request.Answer.TheVariants as reply
 use Rattle.thes_base.specs.State.{State}
 use Rattle.thes_base.specs.Refusals.{Setting, IsSetting}
 use Rattle.thes_base.specs.Legal.{Legal}
+use Rattle.thes_base.specs.Texts.{HasForms}
 use Rattle.thes_base.specs.Machine.{Step, Run, next_state, answer_of, row_of}
-use Rattle.thes_base.proofs.MachineLemmas.{step_legal}
+use Rattle.thes_base.proofs.Sound.{IsSound, sound_of_legal}
+use Rattle.thes_base.proofs.MachineLemmas.{step_sound, step_legal}
 use Rattle.thes_core.specs.Decides.{Accepts, IsFresh, KnownAnswer}
 
 -- the machine's step, where nothing refuses it
@@ -64,8 +66,13 @@ step_of_known setting s (request.Merge source target) answer known = absurd know
 step_of_known setting s (request.Split source tag text postings) answer known = absurd known
 step_of_known setting s (request.Withdraw posting) answer known = absurd known
 
-pub next_legal : (setting : Setting) → IsSetting setting → (s : State) (command : Command) → Legal setting.base s → Accepts setting s command → Legal setting.base (next_state command s)
-next_legal setting fit s command legal ok = step_legal setting fit s (next_state command s) command (answer_of command s) legal (step_of_accepted setting s command ok)
+pub next_sound : (setting : Setting) → IsSetting setting → (s : State) (command : Command) → Legal setting.base s → Accepts setting s command → IsSound setting.base (next_state command s)
+next_sound setting fit s command legal ok =
+    step_sound setting fit s (next_state command s) command (answer_of command s) (sound_of_legal setting.base s legal) (step_of_accepted setting s command ok)
+
+pub next_legal : (setting : Setting) → IsSetting setting → (s : State) (command : Command) → HasForms command → Legal setting.base s → Accepts setting s command → Legal setting.base (next_state command s)
+next_legal setting fit s command forms legal ok =
+    step_legal setting fit s (next_state command s) command (answer_of command s) forms legal (step_of_accepted setting s command ok)
 
 -- a run goes on by one step
 pub run_push : (setting : Setting) (commands : List Command) (answers : List Answer) (s t u : State) (command : Command) (answer : Answer) → Run setting s commands answers t → Step setting t command answer u → Run setting s (commands ++ command ∷ []) (answers ++ answer ∷ []) u

@@ -90,6 +90,8 @@ impl Core {
         ensures made { Makes self.old (next_state command.now self.old.state) (answer_of command.now self.old.state) result self.new }
         ensures in_order { OnOk result (IsInOrder self.new.setting.base self.new.state) }
     {
+        // That its texts have their forms is known from here on.
+        command.forms();
         self.spent = true;
         match self.thesaurus.change(command) {
             Ok(answer) => {

@@ -33,15 +33,17 @@ use Rattle.thes_base.proofs.ResourceLemmas.{same_or_not, one_resource, concept_o
 use Rattle.thes_base.proofs.MergedLabels.{labels_merged}
 use Rattle.thes_base.specs.Listing.{IsListing}
 use Rattle.thes_vocab.specs.declared.names.Names.{Names}
-use Rattle.thes_vocab.specs.declared.concepts.Concepts.{Concepts}
+use Rattle.thes_lists.specs.declared.lists.Lists.{Lists}
+use Rattle.thes_lists.specs.Lists as lists
+use Rattle.thes_lists.specs.Lists.{listed_at, AreListings}
+use Rattle.thes_lists.proofs.ListingLemmas.{listing_none, listings_same}
 use Rattle.thes_vocab.specs.Vocabulary.{IsConceptIn, IsConceptOf, IsHolder, IsReplacement}
 use Rattle.thes_vocab.specs.Named.{holder_in, IsPut, AreSame, IsNoted, IsKindNoted, IsLabelNoted}
-use Rattle.thes_vocab.specs.Listed as index
-use Rattle.thes_vocab.specs.Listed.{listed_in, IsAdded, IsRemoved}
+use Rattle.thes_vocab.specs.Listed.{IsAdded, IsRemoved}
 use Rattle.thes_vocab.specs.Requests.{IsNamed, IsFree}
 use Rattle.thes_vocab.specs.Kept.{IsKept}
 use Rattle.thes_vocab.proofs.NameLemmas.{same_or_not as same_key}
-use Rattle.thes_vocab.proofs.ListedLemmas.{listed_here, listed_there, listing_none, listing_as, listing_push, listing_without}
+use Rattle.thes_vocab.proofs.ListedLemmas.{same_some, scheme_at, concept_cases, listed_made, listed_dead}
 use Rattle.thes_vocab.proofs.TakenLemmas.{preferred_stays}
 use Rattle.thes_vocab.proofs.TableLemmas.{put_back}
 use Rattle.thes_vocab.proofs.JudgingLemmas.{owners_bound, relabelled_is, renamed_breaks_s13, renamed_cases, renamed_fresh, renamed_old}
@@ -79,9 +81,6 @@ found_forgotten old new scheme tag text put s n t x apart found = put.1 s t x ap
 -- a holder of the same name in the same scheme
 moved : (rs : List Resource) (labels : Labels) (s scheme n : ℕ) (t tag x text : List ℕ) → (s ≡ scheme) × (t ≡ tag) × (x ≡ text) → IsHolder rs labels s t x n → IsHolder rs labels scheme tag text n
 moved rs labels s scheme n t tag x text same h = subst (λ (p : ℕ × (List ℕ × List ℕ)). IsHolder rs labels p.0 p.1.0 p.1.1 n) (λ i. (same.0 i, (same.1 i, same.2 i))) h
-
-same_some : {A : Type 0} {x y : A} → Some x ≡ Some y → x ≡ y
-same_some e = cc
 
 -- the scheme of a concept
 one_scheme : (rs : List Resource) (n s t : ℕ) → IsConceptOf rs s n → scheme_of rs n ≡ Some t → t ≡ s
@@ -190,16 +189,6 @@ module _ (rs : List Resource) (labels : Labels) (owner : ℕ) (tag text was : Li
 
 -- One more resource.
 
-scheme_at : (rs : List Resource) (n : ℕ) (r : Resource) → numbered rs n ≡ Some r → scheme_of rs n ≡ r.scheme
-scheme_at rs n r e = ap (option_and_then (λ (x : Resource). x.scheme)) e
-
--- a concept of a scheme is the new resource, or was one
-concept_cases : (rs : List Resource) (r : Resource) (scheme n : ℕ) → IsConceptOf (rs ++ r ∷ []) scheme n → IsConceptOf rs scheme n ⊎ ((n ≡ length rs + 1) × IsConceptIn scheme r)
-concept_cases rs r scheme n c = elim (push_cases rs r c.0.0 n c.0.1) [
-  | inl was ↦ inl ((c.0.0, was, c.0.2), scheme_at rs n c.0.0 was ∙ sym (scheme_at (rs ++ r ∷ []) n c.0.0 c.0.1) ∙ c.1)
-  | inr new ↦ inr (new.0, subst (IsConceptIn scheme) new.1 (c.0.2, sym (scheme_at (rs ++ r ∷ []) n c.0.0 c.0.1) ∙ c.1))
-]
-
 module _ (rs : List Resource) (labels : Labels) (r : Resource) (tag text : List ℕ) (old : Names) (legal : LegalLabels rs labels) (finds : Finds rs labels old) where
   abbrev next : ℕ
   next = length rs + 1
@@ -245,76 +234,10 @@ module _ (rs : List Resource) (labels : Labels) (r : Resource) (tag text : List 
           | inr held ↦ absurd (not_next _ held at)
         ]
 
--- The index of live concepts.
-
-abbrev pub AreListed : List Resource → Concepts → Type 0
-AreListed rs concepts = (s : ℕ) → IsListing nat_cmp (IsConceptOf rs s) (listed_in concepts s)
-
--- One more resource: a concept stands at the end of its scheme's list.
-module _ (rs : List Resource) (r : Resource) (old new : Concepts) where
-  concept_stays : (s n : ℕ) → IsConceptOf rs s n → IsConceptOf (rs ++ r ∷ []) s n
-  concept_stays s n c = let at = push_old rs r c.0.0 n c.0.1 in ((c.0.0, at, c.0.2), scheme_at (rs ++ r ∷ []) n c.0.0 at ∙ sym (scheme_at rs n c.0.0 c.0.1) ∙ c.1)
-
-  concept_comes : (s : ℕ) → IsConceptIn s r → IsConceptOf (rs ++ r ∷ []) s (length rs + 1)
-  concept_comes s is = ((r, push_new rs r, is.0), scheme_at (rs ++ r ∷ []) (length rs + 1) r (push_new rs r) ∙ is.1)
-
-  -- in a scheme to which it doesn't belong
-  listed_apart : (s : ℕ) → (IsConceptIn s r → ⊥) → listed_in new s ≡ listed_in old s → IsListing nat_cmp (IsConceptOf rs s) (listed_in old s) → IsListing nat_cmp (IsConceptOf (rs ++ r ∷ []) s) (listed_in new s)
-  listed_apart s none same listed =
-      subst (IsListing nat_cmp (IsConceptOf (rs ++ r ∷ []) s)) (sym same)
-      (listing_as (IsConceptOf rs s) (IsConceptOf (rs ++ r ∷ []) s) (listed_in old s) (concept_stays s)
-      (λ n c. elim (concept_cases rs r s n c) [ inl was ↦ was | inr is ↦ absurd (none is.1) ]) listed)
-
-  -- and in the one to which it does
-  listed_end : (s : ℕ) → IsConceptIn s r → listed_in new s ≡ listed_in old s ++ (length rs + 1) ∷ [] → IsListing nat_cmp (IsConceptOf rs s) (listed_in old s) → IsListing nat_cmp (IsConceptOf (rs ++ r ∷ []) s) (listed_in new s)
-  listed_end s is same listed =
-      subst (IsListing nat_cmp (IsConceptOf (rs ++ r ∷ []) s)) (sym same)
-      (listing_as (λ n. IsConceptOf rs s n ⊎ (n ≡ length rs + 1)) (IsConceptOf (rs ++ r ∷ []) s) (listed_in old s ++ (length rs + 1) ∷ [])
-      (λ n c. elim c [ inl was ↦ concept_stays s n was | inr here ↦ subst (IsConceptOf (rs ++ r ∷ []) s) (sym here) (concept_comes s is) ])
-      (λ n c. elim (concept_cases rs r s n c) [ inl was ↦ inl was | inr new ↦ inr new.0 ])
-      (listing_push (IsConceptOf rs s) (listed_in old s) (length rs + 1) (λ n c. let b = numbered_bound rs n c.0.0 c.0.1 in omega (arith, b.1)) listed))
-
-  pub listed_made : (o : Option ℕ) → MatchOption o ((scheme : ℕ) → IsConceptIn scheme r → ⊥) (λ scheme. IsConceptIn scheme r) → IsAdded old new o (length rs + 1) → AreListed rs old → AreListed (rs ++ r ∷ []) new
-  listed_made None none same listed s = listed_apart s (none s) (same s) (listed s)
-  listed_made (Some scheme) is lists listed s = elim (same_or_not s scheme) [
-    | inl same ↦ subst (λ t. IsListing nat_cmp (IsConceptOf (rs ++ r ∷ []) t) (listed_in new t)) (sym same) (listed_end scheme is (listed_here old new scheme _ lists) (listed scheme))
-    | inr apart ↦ listed_apart s (λ other. apart (same_some (sym other.1 ∙ is.1))) (listed_there old new scheme _ lists s apart) (listed s)
-  ]
-
--- One dead: it leaves its scheme's list.
-module _ (rs : List Resource) (n : ℕ) (replaced : Option ℕ) (r : Resource) (at : numbered rs n ≡ Some r) (old new : Concepts) where
-  abbrev bereft : List Resource
-  bereft = set_numbered rs n (dead replaced r)
-
-  concept_before : (s m : ℕ) → IsConceptOf bereft s m → IsConceptOf rs s m × (m ≢ n)
-  concept_before s m c = let was = live_before rs n replaced r at m c.0 in ((was.1, sym was.2 ∙ c.1), was.0)
-
-  concept_survives : (s m : ℕ) → IsConceptOf rs s m → m ≢ n → IsConceptOf bereft s m
-  concept_survives s m c apart =
-      let stays = set_other rs (dead replaced r) c.0.0 n m (numbered_bound rs n r at).0 apart c.0.1 in
-      ((c.0.0, stays, c.0.2), scheme_at bereft m c.0.0 stays ∙ sym (scheme_at rs m c.0.0 c.0.1) ∙ c.1)
-
-  -- in a scheme to which it doesn't belong
-  listed_still : (s : ℕ) → (r.scheme ≡ Some s → ⊥) → listed_in new s ≡ listed_in old s → IsListing nat_cmp (IsConceptOf rs s) (listed_in old s) → IsListing nat_cmp (IsConceptOf bereft s) (listed_in new s)
-  listed_still s other same listed =
-      subst (IsListing nat_cmp (IsConceptOf bereft s)) (sym same)
-      (listing_as (IsConceptOf rs s) (IsConceptOf bereft s) (listed_in old s)
-      (λ m c. concept_survives s m c (λ e. other (sym (scheme_at rs n r at) ∙ subst (λ k. scheme_of rs k ≡ Some s) e c.1)))
-      (λ m c. (concept_before s m c).0) listed)
-
-  pub listed_dead : (o : Option ℕ) → r.scheme ≡ o → IsRemoved old new o n → AreListed rs old → AreListed bereft new
-  listed_dead None is same listed s = listed_still s (λ e. absurd (let f = sym is ∙ e in cc)) (same s) (listed s)
-  listed_dead (Some scheme) is lists listed s = elim (same_or_not s scheme) [
-    | inl same ↦ subst (λ t. IsListing nat_cmp (IsConceptOf bereft t) (listed_in new t)) (sym same)
-        (subst (IsListing nat_cmp (IsConceptOf bereft scheme)) (sym (listed_here old new scheme _ lists))
-        (listing_as (λ m. IsConceptOf rs scheme m × (m ≢ n)) (IsConceptOf bereft scheme) _ (λ m c. concept_survives scheme m c.0 c.1) (concept_before scheme) (listing_without (IsConceptOf rs scheme) (listed_in old scheme) n (listed scheme))))
-    | inr apart ↦ listed_still s (λ e. apart (same_some (sym e ∙ is))) (listed_there old new scheme _ lists s apart) (listed s)
-  ]
-
 -- Everything.
 
-pub kept_named : (base : List ℕ) (rs : List Resource) (iris : Iris) (labels : Labels) (names : Names) (concepts : Concepts) (r : Resource) (tag text : List ℕ) → LegalResources base rs iris → LegalLabels rs labels → IsNamed rs r → IsFree rs labels r tag text → length rs + 1 < 2 ^ 32 → Finds (rs ++ r ∷ []) (set.insert labels (label (length rs + 1) Pref tag text)) names
-    → AreListed (rs ++ r ∷ []) concepts → IsKept base (rs ++ r ∷ []) iris (set.insert labels (label (length rs + 1) Pref tag text)) names concepts
+pub kept_named : (base : List ℕ) (rs : List Resource) (iris : Iris) (labels : Labels) (names : Names) (concepts : Lists ℕ) (r : Resource) (tag text : List ℕ) → LegalResources base rs iris → LegalLabels rs labels → IsNamed rs r → IsFree rs labels r tag text → length rs + 1 < 2 ^ 32 → Finds (rs ++ r ∷ []) (set.insert labels (label (length rs + 1) Pref tag text)) names
+    → AreListings nat_cmp (IsConceptOf (rs ++ r ∷ [])) concepts → IsKept base (rs ++ r ∷ []) iris (set.insert labels (label (length rs + 1) Pref tag text)) names concepts
 kept_named base rs iris labels names concepts r tag text legal named is free few finds listed = record {
   legal = resources_push base rs iris r legal (record { live = is.live; replaced = is.replaced; scheme = is.scheme; no_scheme = no_scheme }) few inside;
   named = labels_made rs labels r tag text named is.owner (made_unique rs labels r tag text (owners_bound rs labels named) named.unique (λ scheme live e. free scheme (live, e)));
@@ -337,7 +260,7 @@ kept_named base rs iris labels names concepts r tag text legal named is free few
     no_scheme (inl e) = is.no_scheme e
     no_scheme (inr e) = absurd (let f = inside in cc)
 
-pub kept_outside : (base : List ℕ) (rs : List Resource) (iris : Iris) (labels : Labels) (names : Names) (concepts : Concepts) (iri : List ℕ) → IsKept base rs iris labels names concepts → length rs + 1 < 2 ^ 32 → (BeginsWith iri base → ⊥) → ((n : ℕ) → dict.get iris n ≢ Some iri)
+pub kept_outside : (base : List ℕ) (rs : List Resource) (iris : Iris) (labels : Labels) (names : Names) (concepts : Lists ℕ) (iri : List ℕ) → IsKept base rs iris labels names concepts → length rs + 1 < 2 ^ 32 → (BeginsWith iri base → ⊥) → ((n : ℕ) → dict.get iris n ≢ Some iri)
     → IsKept base (rs ++ outside_resource ∷ []) (dict.insert iris (length rs + 1) iri) labels names concepts
 kept_outside base rs iris labels names concepts iri kept few foreign fresh = record {
   legal = resources_push_outside base rs iris outside_resource kept.legal (record { live = refl; replaced = refl; scheme = λ k. absurd (no_kind k); no_scheme = λ _. refl }) iri few refl foreign fresh;
@@ -366,7 +289,7 @@ no_iri base rs iris legal = go (dict.get iris (length rs + 1)) refl
     go None e = e
     go (Some iri) e = absurd (let at = legal.outside.only (length rs + 1) iri e in let b = numbered_bound rs (length rs + 1) at.0 at.1 in omega (arith, b.1))
 
-pub kept_dead : (base : List ℕ) (rs : List Resource) (iris : Iris) (labels : Labels) (names : Names) (old new : Concepts) (n : ℕ) (replaced : Option ℕ) (r : Resource) → IsKept base rs iris labels names old → numbered rs n ≡ Some r → IsLiveConcept rs n → IsReplacement rs n replaced
+pub kept_dead : (base : List ℕ) (rs : List Resource) (iris : Iris) (labels : Labels) (names : Names) (old new : Lists ℕ) (n : ℕ) (replaced : Option ℕ) (r : Resource) → IsKept base rs iris labels names old → numbered rs n ≡ Some r → IsLiveConcept rs n → IsReplacement rs n replaced
     → IsRemoved old new r.scheme n → IsKept base (set_numbered rs n (dead replaced r)) iris labels names new
 kept_dead base rs iris labels names old new n replaced r kept at live fit removed = record {
   legal = resources_dead base rs iris n replaced r at kept.legal concept (fits replaced fit);
@@ -435,7 +358,7 @@ module _ (rs : List Resource) (labels : Labels) (r : Resource) (tag text : List 
 
 -- All of it, by the calls.
 
-module _ (base : List ℕ) (rs : List Resource) (iris : Iris) (labels : Labels) (old new : Names) (concepts : Concepts) (kept : IsKept base rs iris labels old concepts) where
+module _ (base : List ℕ) (rs : List Resource) (iris : Iris) (labels : Labels) (old new : Names) (concepts : Lists ℕ) (kept : IsKept base rs iris labels old concepts) where
   abbrev Same : Type 0
   Same = IsKept base rs iris labels new concepts
 
@@ -495,18 +418,18 @@ module _ (base : List ℕ) (rs : List Resource) (iris : Iris) (labels : Labels) 
     pub kept_new_noted : Same
     kept_new_noted = kept_finding (finds_new_noted rs labels r tag text old new kept.named kept.found free o at noted)
 
-    pub kept_new : length rs + 1 < 2 ^ 32 → (grown : Concepts) → IsAdded concepts grown o (length rs + 1) → IsKept base (rs ++ r ∷ []) iris (set.insert labels (label (length rs + 1) Pref tag text)) new grown
+    pub kept_new : length rs + 1 < 2 ^ 32 → (grown : Lists ℕ) → IsAdded concepts grown o (length rs + 1) → IsKept base (rs ++ r ∷ []) iris (set.insert labels (label (length rs + 1) Pref tag text)) new grown
     kept_new few grown added =
         kept_named base rs iris labels new grown r tag text kept.legal kept.named is free few (finds_new rs labels r tag text old new kept.named kept.found free o at noted)
         (listed_made rs r concepts grown o at added kept.listed)
 
 -- The indexes find and list the same as before.
-pub kept_same : (base : List ℕ) (rs : List Resource) (iris : Iris) (labels : Labels) (old new : Names) (was is : Concepts) → IsKept base rs iris labels old was → AreSame old new → index.AreSame was is → IsKept base rs iris labels new is
+pub kept_same : (base : List ℕ) (rs : List Resource) (iris : Iris) (labels : Labels) (old new : Names) (was is : Lists ℕ) → IsKept base rs iris labels old was → AreSame old new → lists.AreSame was is → IsKept base rs iris labels new is
 kept_same base rs iris labels old new was is kept same listed = record {
   legal = kept.legal;
   named = kept.named;
   found = finds_same rs labels old new same kept.found;
-  listed = λ s. subst (IsListing nat_cmp (IsConceptOf rs s)) (sym (listed s)) (kept.listed s);
+  listed = listings_same nat_cmp (IsConceptOf rs) (IsConceptOf rs) was is listed (λ s n c. c) (λ s n c. c) kept.listed;
 }
 
 -- a concept whose name nothing refuses is free to have it
@@ -515,7 +438,7 @@ free_concept rs labels scheme tag text row s is taken =
     taken_breaks rs labels scheme (concept_resource (Some scheme)) tag text refl refl (subst (λ k. IsTaken rs labels k tag text) (sym (same_some is.1)) taken) (passed_unless (passed_unless (passed_unless row).1).1).0
 
 -- Nothing at all.
-pub kept_empty : (base : List ℕ) (names : Names) (concepts : Concepts) → ((s : ℕ) → listed_in concepts s ≡ []) → IsKept base [] dict.empty set.empty names concepts
+pub kept_empty : (base : List ℕ) (names : Names) (concepts : Lists ℕ) → ((s : ℕ) → listed_at concepts s ≡ []) → IsKept base [] dict.empty set.empty names concepts
 kept_empty base names concepts bare = record {
   legal = record {
     few = omega arith;
@@ -536,7 +459,7 @@ kept_empty base names concepts bare = record {
     named = λ n o. absurd (no_owner n o);
   };
   found = λ s n t x h. absurd (no_label _ h.1);
-  listed = λ s. subst (IsListing nat_cmp (IsConceptOf [] s)) (sym (bare s)) (listing_none (IsConceptOf [] s) (λ n c. none n c.0.0 c.0.1));
+  listed = λ s. subst (IsListing nat_cmp (IsConceptOf [] s)) (sym (bare s)) (listing_none nat_cmp (IsConceptOf [] s) (λ n c. none n c.0.0 c.0.1));
 }
   where
     none : (n : ℕ) (r : Resource) → numbered [] n ≡ Some r → ⊥
@@ -571,7 +494,7 @@ numbered_at {A = A} xs (suc n) x y e f = go xs n e (f ∙ ap (λ k. get_or xs k 
     go (z ∷ xs) (suc n) e f = go xs n e f
 
 -- The target of a merge takes names.
-pub kept_merged : (base : List ℕ) (rs : List Resource) (iris : Iris) (labels : Labels) (names : Names) (concepts : Concepts) (source target : ℕ) → IsKept base rs iris labels names concepts → IsLiveConcept rs target → IsKept base rs iris (set.union labels (taken_labels source target labels)) names concepts
+pub kept_merged : (base : List ℕ) (rs : List Resource) (iris : Iris) (labels : Labels) (names : Names) (concepts : Lists ℕ) (source target : ℕ) → IsKept base rs iris labels names concepts → IsLiveConcept rs target → IsKept base rs iris (set.union labels (taken_labels source target labels)) names concepts
 kept_merged base rs iris labels names concepts source target kept live = record {
   legal = kept.legal;
   named = labels_merged rs labels source target kept.named (inr (inl (concept_of_live rs target live)));

@@ -2,20 +2,19 @@
 use Rattle.std.specs.Prelude.{◌≡◌, ℕ, List, Some}
 use Rattle.std.specs.Ordering.{nat_cmp}
 use Rattle.thes_base.specs.declared.data.Resource.{Resource}
-use Rattle.thes_base.specs.Listing.{IsListing}
 use Rattle.thes_base.specs.Resources.{Iris}
 use Rattle.thes_base.specs.Labels.{Labels}
 use Rattle.thes_base.specs.Legal.{LegalResources, LegalLabels}
 use Rattle.thes_vocab.specs.Vocabulary.{IsConceptOf, IsHolder}
 use Rattle.thes_vocab.specs.Named.{holder_in}
-use Rattle.thes_vocab.specs.Listed.{listed_in}
 use Rattle.thes_vocab.specs.declared.names.Names.{Names}
-use Rattle.thes_vocab.specs.declared.concepts.Concepts.{Concepts}
+use Rattle.thes_lists.specs.declared.lists.Lists.{Lists}
+use Rattle.thes_lists.specs.Lists.{AreListings}
 
 -- Resources and labels are legal, the holder of each preferred label is found, and the live concepts of each scheme are
 -- listed.
-pub record IsKept (base : List ℕ) (resources : List Resource) (iris : Iris) (labels : Labels) (names : Names) (concepts : Concepts) : Type 0 where
+pub record IsKept (base : List ℕ) (resources : List Resource) (iris : Iris) (labels : Labels) (names : Names) (concepts : Lists ℕ) : Type 0 where
   pub legal : LegalResources base resources iris
   pub named : LegalLabels resources labels
   pub found : (scheme n : ℕ) (tag text : List ℕ) → IsHolder resources labels scheme tag text n → holder_in names scheme tag text ≡ Some n
-  pub listed : (scheme : ℕ) → IsListing nat_cmp (IsConceptOf resources scheme) (listed_in concepts scheme)
+  pub listed : AreListings nat_cmp (IsConceptOf resources) concepts

@@ -11,6 +11,7 @@ ghost use Rattle.thes_vocab.specs.Vocabulary.{bare_state, vocabulary_of, with_la
 ghost use Rattle.thes_vocab.specs.Taken.{takes};
 ghost use Rattle.thes_vocab.specs.Requests.{unless_new, with_new, IsNamed, IsFree};
 
+use crate::concepts;
 use crate::vocab::{Vocab, concept_scheme, scheme_if_concept};
 use std::alloc::AllocError;
 use thes_base::data::{Label, LabelKind, LabelValue, NewResource, Resource, ResourceKind};
@@ -132,7 +133,7 @@ impl Vocab {
     {
         let place = n.get() as usize - 1;
         let resource = self.resources[place];
-        self.concepts.remove(resource.scheme, n);
+        concepts::remove(&mut self.concepts, resource.scheme, n);
         self.resources[place] = Resource {
             kind: resource.kind,
             scheme: resource.scheme,
@@ -159,12 +160,12 @@ impl Vocab {
     {
         let n = ResNo::new(self.resources.len() as u32 + 1);
         self.resources.try_reserve(1)?;
-        self.concepts.reserve(&resource)?;
+        concepts::make_room(&mut self.concepts, &resource)?;
         let scheme = scheme_if_concept(&resource);
         self.names.put(scheme, &tag, &text, n)?;
         let value = LabelValue::Pref(text);
         self.labels.insert(n, Label { tag, value })?;
-        self.concepts.push(&resource, n);
+        concepts::insert(&mut self.concepts, &resource, n);
         self.resources.push(resource).unwrap();
         Ok(n)
     }

@@ -31,7 +31,8 @@ impl Vocab {
         }
     }
 
-    fn judge_concept(&self, scheme: ResNo, tag: &Tag, text: &Text) -> Option<Refusal>
+    /// What refuses a new concept of the scheme, but for limits.
+    pub fn judge_concept(&self, scheme: ResNo, tag: &Tag, text: &Text) -> Option<Refusal>
         ensures { unless_new self.now (new_resource.Concept scheme tag.now text.now) accepted result }
     {
         let Some(resource) = resource_at(self.resources.as_slice(), scheme) else {
@@ -46,7 +47,8 @@ impl Vocab {
         None
     }
 
-    fn judge_collection(&self, scheme: ResNo) -> Option<Refusal>
+    /// What refuses a new collection of the scheme, but for limits.
+    pub fn judge_collection(&self, scheme: ResNo) -> Option<Refusal>
         ensures { unless_scheme self.now.resources scheme accepted result }
     {
         let Some(resource) = resource_at(self.resources.as_slice(), scheme) else {
@@ -58,7 +60,8 @@ impl Vocab {
         None
     }
 
-    fn judge_outside(&self, iri: &Iri) -> Option<Refusal>
+    /// What refuses a new outside concept, but for limits.
+    pub fn judge_outside(&self, iri: &Iri) -> Option<Refusal>
         ensures { unless_foreign self.now.base self.now.iris iri.now accepted result }
     {
         if iri.as_str().starts_with(self.base.as_str()) {

@@ -9,7 +9,6 @@ ghost use Rattle.thes_base.specs.Labels.{preferred_in, IsTaken};
 ghost use Rattle.thes_vocab.specs.LabelData.{AreLabelsOf};
 ghost use Rattle.thes_vocab.specs.Vocabulary.{empty_vocabulary, concept_scheme, IsConceptOf, IsConceptIn, IsHolder};
 
-use crate::concepts::Concepts;
 use crate::iris::IriTable;
 use crate::labels::LabelTable;
 use crate::names::Names;
@@ -18,6 +17,7 @@ use std::marker::Model;
 use thes_base::data::{Label, LabelKind, Resource, ResourceKind};
 use thes_base::number::ResNo;
 use thes_base::text::{Base, Iri, Tag, Text};
+use thes_lists::Lists;
 
 /// The resources of a thesaurus, with the IRIs of outside concepts and the labels of all others.
 ///
@@ -32,8 +32,8 @@ pub struct Vocab {
     pub(crate) labels: LabelTable,
     // Where the holder of a preferred label is found.
     pub(crate) names: Names,
-    // The live concepts of each scheme.
-    pub(crate) concepts: Concepts,
+    // The live concepts of each scheme, by their numbers.
+    pub(crate) concepts: Lists<ResNo>,
 }
 
 impl Model for Vocab {
@@ -66,7 +66,7 @@ impl Vocab {
             iris: IriTable::new(alloc),
             labels: LabelTable::new(alloc),
             names: Names::new(alloc),
-            concepts: Concepts::new(alloc),
+            concepts: Lists::new(alloc),
         }
     }
 
@@ -88,7 +88,7 @@ impl Vocab {
     pub fn live_of(&self, scheme: ResNo) -> &[ResNo]
         ensures { IsListing nat_cmp (IsConceptOf self.now.resources scheme) result.now }
     {
-        self.concepts.of_scheme(scheme)
+        self.concepts.at(scheme)
     }
 
     /// How many resources there are.

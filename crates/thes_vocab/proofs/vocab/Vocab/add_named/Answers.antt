@@ -21,10 +21,10 @@ invariant_of-self-in_err-insert c =
     let is = subst (λ (v : Vocabulary). IsNamed v.resources c.args.resource) (sym c.self.view_is) c.requires.named in
     let free = subst (λ (v : Vocabulary). IsFree v.resources v.labels c.args.resource c.args.tag c.args.text) (sym c.self.view_is) c.requires.free in
     let n : c.new-n.result ≡ length rs + 1 = search rules in
-    let reserved = kept_same inside.base rs inside.iris inside.labels inside.names inside.names inside.concepts c.reserve.new.self c.self.invariant (λ s t x. refl) c.reserve.ensures.same in
+    let reserved = kept_same inside.base rs inside.iris inside.labels inside.names inside.names inside.concepts c.make_room.new.concepts c.self.invariant (λ s t x. refl) c.make_room.ensures.same in
     let noted = subst (λ k. IsNoted inside.names c.put.new.self scheme c.args.tag c.args.text (Some k)) n c.in_ok-put.ensures.ok in
-    let kept = kept_new_noted inside.base rs inside.iris inside.labels inside.names c.put.new.self c.reserve.new.self reserved c.args.resource c.args.tag c.args.text is free scheme c.scheme_if_concept-scheme.ensures.scheme noted in
-    subst (λ (p : List Resource × Labels). IsKept inside.base p.0 inside.iris p.1 c.put.new.self c.reserve.new.self) (λ i. (sym c.try_reserve.ensures.items i, sym c.in_err-insert.ensures.err i)) kept
+    let kept = kept_new_noted inside.base rs inside.iris inside.labels inside.names c.put.new.self c.make_room.new.concepts reserved c.args.resource c.args.tag c.args.text is free scheme c.scheme_if_concept-scheme.ensures.scheme noted in
+    subst (λ (p : List Resource × Labels). IsKept inside.base p.0 inside.iris p.1 c.put.new.self c.make_room.new.concepts) (λ i. (sym c.try_reserve.ensures.items i, sym c.in_err-insert.ensures.err i)) kept
 
 pub invariant_of-self-2 : goal.invariant_of-self-2
 invariant_of-self-2 c =
@@ -34,11 +34,11 @@ invariant_of-self-2 c =
     let is = subst (λ (v : Vocabulary). IsNamed v.resources c.args.resource) (sym c.self.view_is) c.requires.named in
     let free = subst (λ (v : Vocabulary). IsFree v.resources v.labels c.args.resource c.args.tag c.args.text) (sym c.self.view_is) c.requires.free in
     let n : c.new-n.result ≡ length rs + 1 = search rules in
-    let reserved = kept_same inside.base rs inside.iris inside.labels inside.names inside.names inside.concepts c.reserve.new.self c.self.invariant (λ s t x. refl) c.reserve.ensures.same in
+    let reserved = kept_same inside.base rs inside.iris inside.labels inside.names inside.names inside.concepts c.make_room.new.concepts c.self.invariant (λ s t x. refl) c.make_room.ensures.same in
     let noted = subst (λ k. IsNoted inside.names c.put.new.self scheme c.args.tag c.args.text (Some k)) n c.in_ok-put.ensures.ok in
-    let added = subst (λ (p : Option ℕ × ℕ). IsAdded c.reserve.new.self c.push.new.self p.0 p.1) (λ i. (sym c.scheme_if_concept-scheme.ensures.value i, n i)) c.push.ensures in
+    let added = subst (λ (p : Option ℕ × ℕ). IsAdded c.make_room.new.concepts c.insert-2.new.concepts p.0 p.1) (λ i. (sym c.scheme_if_concept-scheme.ensures.value i, n i)) c.insert-2.ensures in
     let few = subst (λ (v : Vocabulary). length v.resources + 1 < 2 ^ 32) (sym c.self.view_is) c.requires.room in
-    let kept = kept_new inside.base rs inside.iris inside.labels inside.names c.put.new.self c.reserve.new.self reserved c.args.resource c.args.tag c.args.text is free scheme c.scheme_if_concept-scheme.ensures.scheme noted few c.push.new.self added in
-    let items : c.push-2.new.self.items ≡ rs ++ c.args.resource ∷ [] = search rules in
+    let kept = kept_new inside.base rs inside.iris inside.labels inside.names c.put.new.self c.make_room.new.concepts reserved c.args.resource c.args.tag c.args.text is free scheme c.scheme_if_concept-scheme.ensures.scheme noted few c.insert-2.new.concepts added in
+    let items : c.push.new.self.items ≡ rs ++ c.args.resource ∷ [] = search rules in
     let labels : c.insert.new.self ≡ set.insert inside.labels (label (length rs + 1) Pref c.args.tag c.args.text) = c.in_ok-insert.ensures.ok ∙ ap (λ k. set.insert inside.labels (label k Pref c.args.tag c.args.text)) n in
-    subst (λ (p : List Resource × Labels). IsKept inside.base p.0 inside.iris p.1 c.put.new.self c.push.new.self) (λ i. (sym items i, sym labels i)) kept
+    subst (λ (p : List Resource × Labels). IsKept inside.base p.0 inside.iris p.1 c.put.new.self c.insert-2.new.concepts) (λ i. (sym items i, sym labels i)) kept

@@ -6,8 +6,14 @@ use Rattle.thes_base.specs.Resources.{Iris, BeginsWith}
 use Rattle.thes_base.specs.Changes.{outside_resource}
 use Rattle.thes_vocab.specs.Vocabulary.{Vocabulary}
 use Rattle.thes_vocab.specs.Kept.{IsKept}
-use Rattle.thes_vocab.proofs.KeptLemmas.{kept_outside}
+use Rattle.thes_vocab.proofs.KeptLemmas.{kept_outside, no_iri}
 use Rattle.thes_vocab.proofs.vocab.Vocab.add_outside.Goals as goal
+
+pub insert-requires-clause-number : goal.insert-requires-clause-number
+insert-requires-clause-number c =
+    let inside = c.self.inside in
+    let n : c.new-n.result ≡ length inside.resources.items + 1 = search rules in
+    rw n (no_iri inside.base inside.resources.items inside.iris c.self.invariant.legal)
 
 pub invariant_of-self-2 : goal.invariant_of-self-2
 invariant_of-self-2 c =

@@ -18,9 +18,9 @@ invariant_of-self c =
     let fit = subst (λ (v : Vocabulary). IsReplacement v.resources c.args.n c.args.replaced) (sym c.self.view_is) c.requires.replacement in
     let at = numbered_at rs c.args.n r live.0 live.1 (c.index-resource.ensures ∙ ap (λ k. get_or rs (k - 1) r) c.get.ensures.value) in
     let new = ap (dead c.args.replaced) c.resource.view_is in
-    let removed = subst (λ (x : Resource). IsRemoved inside.concepts c.remove.new.self x.scheme c.args.n) c.resource.view_is c.remove.ensures in
-    subst (λ (x : List Resource). IsKept inside.base x inside.iris inside.labels inside.names c.remove.new.self) (λ i. set rs (sym c.get.ensures.value i - 1) (sym new i))
-    (kept_dead inside.base rs inside.iris inside.labels inside.names inside.concepts c.remove.new.self c.args.n c.args.replaced r c.self.invariant at live fit removed)
+    let removed = subst (λ (x : Resource). IsRemoved inside.concepts c.remove.new.concepts x.scheme c.args.n) c.resource.view_is c.remove.ensures in
+    subst (λ (x : List Resource). IsKept inside.base x inside.iris inside.labels inside.names c.remove.new.concepts) (λ i. set rs (sym c.get.ensures.value i - 1) (sym new i))
+    (kept_dead inside.base rs inside.iris inside.labels inside.names inside.concepts c.remove.new.concepts c.args.n c.args.replaced r c.self.invariant at live fit removed)
 
 pub returns : goal.returns
 returns c =

@@ -1,0 +1,255 @@
+//! The forms of texts.
+ghost use Rattle.std.specs.Prelude.{◌==◌, ◌↔◌, All, IsTrue, Bool, true, false, List, ℕ};
+ghost use Rattle.std.specs.List.{slice_split};
+ghost use Rattle.std.specs.Char.{IsAsciiAlphabetic, IsAsciiAlphanumeric};
+ghost use Rattle.thes_base.specs.Forms.{IsLine, IsTrimmedLine, IsText, IsKey, IsRecordName, IsNote, IsTag, IsPart, IsIri, IsBase, IsIriWithin, IsIriScheme, IsIriRest, IsKept, kept};
+ghost use Rattle.thes_base.specs.declared.fault.FormFault.{FormFault};
+ghost use Rattle.thes_base.specs.declared.fault.FormFault.TheVariants.{BadText, BadKey, BadRecord, BadTag, BadIri};
+
+use crate::fault::FormFault;
+
+/// A form of texts: which texts have it, and how they are kept.
+pub trait Form {
+    ghost is_form: { List ℕ → Type 0 };
+
+    ghost FAULT: { FormFault };
+
+    ghost LOWERED: { Bool };
+
+    /// The fault of a text that lacks the form.
+    const FAULT: FormFault;
+
+    /// Whether texts of the form are kept with their ASCII letters in lower case.
+    const LOWERED: bool;
+
+    /// Whether a text has the form. If it does, it has it as it is kept, too.
+    fn has_form(text: &str) -> bool
+        ensures form { IsTrue result ↔ is_form text.now }
+        ensures stays { IsTrue result → IsKept is_form LOWERED (kept LOWERED text.now) };
+}
+
+/// The form of a label's text.
+#[derive(Drop)]
+pub enum TextForm {}
+
+impl Form for TextForm {
+    ghost is_form = { IsText };
+
+    ghost FAULT = { BadText };
+
+    ghost LOWERED = { false };
+
+    const FAULT: FormFault = FormFault::BadText;
+
+    const LOWERED: bool = false;
+
+    fn has_form(text: &str) -> bool {
+        is_trimmed_line(256, text)
+    }
+}
+
+/// The form of a scope note.
+#[derive(Drop)]
+pub enum NoteForm {}
+
+impl Form for NoteForm {
+    ghost is_form = { IsNote };
+
+    ghost FAULT = { BadText };
+
+    ghost LOWERED = { false };
+
+    const FAULT: FormFault = FormFault::BadText;
+
+    const LOWERED: bool = false;
+
+    fn has_form(text: &str) -> bool {
+        is_trimmed_line(2000, text)
+    }
+}
+
+/// The form of the name of a catalogue record.
+#[derive(Drop)]
+pub enum RecordNameForm {}
+
+impl Form for RecordNameForm {
+    ghost is_form = { IsRecordName };
+
+    ghost FAULT = { BadRecord };
+
+    ghost LOWERED = { false };
+
+    const FAULT: FormFault = FormFault::BadRecord;
+
+    const LOWERED: bool = false;
+
+    fn has_form(text: &str) -> bool {
+        is_line(128, text)
+    }
+}
+
+/// The form of a sender's key for a posting.
+#[derive(Drop)]
+pub enum KeyForm {}
+
+impl Form for KeyForm {
+    ghost is_form = { IsKey };
+
+    ghost FAULT = { BadKey };
+
+    ghost LOWERED = { false };
+
+    const FAULT: FormFault = FormFault::BadKey;
+
+    const LOWERED: bool = false;
+
+    fn has_form(text: &str) -> bool {
+        is_key(text)
+    }
+}
+
+/// The form of a language tag.
+#[derive(Drop)]
+pub enum TagForm {}
+
+impl Form for TagForm {
+    ghost is_form = { IsTag };
+
+    ghost FAULT = { BadTag };
+
+    ghost LOWERED = { true };
+
+    const FAULT: FormFault = FormFault::BadTag;
+
+    const LOWERED: bool = true;
+
+    fn has_form(text: &str) -> bool {
+        is_tag(text)
+    }
+}
+
+/// The form of the IRI of an outside concept.
+#[derive(Drop)]
+pub enum IriForm {}
+
+impl Form for IriForm {
+    ghost is_form = { IsIri };
+
+    ghost FAULT = { BadIri };
+
+    ghost LOWERED = { false };
+
+    const FAULT: FormFault = FormFault::BadIri;
+
+    const LOWERED: bool = false;
+
+    fn has_form(text: &str) -> bool {
+        is_iri(512, text)
+    }
+}
+
+/// The form of what the IRIs of a store's own resources begin with.
+#[derive(Drop)]
+pub enum BaseForm {}
+
+impl Form for BaseForm {
+    ghost is_form = { IsBase };
+
+    ghost FAULT = { BadIri };
+
+    ghost LOWERED = { false };
+
+    const FAULT: FormFault = FormFault::BadIri;
+
+    const LOWERED: bool = false;
+
+    fn has_form(text: &str) -> bool {
+        is_iri(200, text)
+    }
+}
+
+// 1 to `most` bytes, and no control character.
+fn is_line(most: usize, text: &str) -> bool
+    ensures { IsTrue result ↔ IsLine most text.now }
+{
+    let bytes = text.as_bytes();
+    1 <= bytes.len() && bytes.len() <= most && bytes.iter().all(|b| 32 <= *b && *b != 127)
+}
+
+// Such a line, with no space first or last.
+fn is_trimmed_line(most: usize, text: &str) -> bool
+    ensures { IsTrue result ↔ IsTrimmedLine most text.now }
+{
+    is_line(most, text) && !text.starts_with(' ') && !text.ends_with(' ')
+}
+
+// 1 to 64 bytes, each a printed ASCII character other than the space.
+fn is_key(text: &str) -> bool
+    ensures { IsTrue result ↔ IsKey text.now }
+{
+    let bytes = text.as_bytes();
+    1 <= bytes.len() && bytes.len() <= 64 && bytes.iter().all(|b| 0x21 <= *b && *b <= 0x7e)
+}
+
+// At most 35 bytes: a part of letters, and then parts, with a hyphen between two.
+fn is_tag(text: &str) -> bool
+    ensures { IsTrue result ↔ IsTag text.now }
+{
+    text.len() <= 35
+        && match text.split_once('-') {
+            None => is_part_of_letters(text),
+            Some((first, rest)) => is_part_of_letters(first) && are_parts(rest),
+        }
+}
+
+// Parts with a hyphen between two.
+fn are_parts(text: &str) -> bool
+    ensures { IsTrue result ↔ All (IsPart IsAsciiAlphanumeric) (slice_split (λ b. b == 45) text.now) }
+{
+    text.split('-').all(is_part)
+}
+
+// 1 to 8 letters.
+fn is_part_of_letters(part: &str) -> bool
+    ensures { IsTrue result ↔ IsPart IsAsciiAlphabetic part.now }
+{
+    1 <= part.len() && part.len() <= 8 && part.as_bytes().iter().all(|b| b.is_ascii_alphabetic())
+}
+
+// 1 to 8 letters and digits.
+fn is_part(part: &str) -> bool
+    ensures { IsTrue result ↔ IsPart IsAsciiAlphanumeric part.now }
+{
+    1 <= part.len() && part.len() <= 8 && part.as_bytes().iter().all(|b| b.is_ascii_alphanumeric())
+}
+
+// An IRI of at most `most` bytes: a scheme, a colon and something more.
+fn is_iri(most: usize, text: &str) -> bool
+    ensures { IsTrue result ↔ IsIriWithin most text.now }
+{
+    text.len() <= most
+        && match text.split_once(':') {
+            None => false,
+            Some((scheme, rest)) => is_iri_scheme(scheme) && is_iri_rest(rest),
+        }
+}
+
+// A letter, and then letters, digits, `+`, `-` and `.`.
+fn is_iri_scheme(scheme: &str) -> bool
+    ensures { IsTrue result ↔ IsIriScheme scheme.now }
+{
+    let bytes = scheme.as_bytes();
+    bytes.first().is_some_and(|b| b.is_ascii_alphabetic())
+        && bytes.iter().all(|b| b.is_ascii_alphanumeric() || *b == b'+' || *b == b'-' || *b == b'.')
+}
+
+// At least one character, each of which may stand in an IRI.
+fn is_iri_rest(rest: &str) -> bool
+    ensures { IsTrue result ↔ IsIriRest rest.now }
+{
+    let bytes = rest.as_bytes();
+    1 <= bytes.len()
+        && bytes
+            .iter()
+            .all(|b| 33 <= *b && !b"<>\"{}|^`\\".contains(b))
+}

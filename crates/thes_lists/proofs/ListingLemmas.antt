@@ -1,0 +1,135 @@
+-- Rising lists of what has a property: with one value more, with one less, and that there is at most one such list.
+use Rattle.std.proofs.Common.{◌≡◌, ◌≢◌, ◌⊎◌, inl, inr, ℕ, List, [], ◌∷◌, Bool, true, false, cond, Contains, Ordering, Less, Equal, Greater, refl, sym, ap, subst, ◌∙◌}
+use Rattle.std.specs.List.Sorted.{IsStrictlySortedBy}
+use Rattle.std.specs.Ordering.{is_eq, match_ordering}
+use Rattle.std.specs.Cmp.{IsTotalOrder, tied_itself, Equal-is}
+use Rattle.std.specs.FinSet.{IsAntisymmetric}
+use Rattle.std.specs.BTreeMap.{is_at}
+use Rattle.std.specs.BTreeSet.{insert_key}
+use Rattle.std.specs.Set.{remove_key}
+use Rattle.std.proofs.lemmas.Map.Keys.{sorted_tail}
+use Rattle.std.proofs.lemmas.Bool.{cases_eq}
+use Rattle.thes_base.specs.Listing.{IsListing}
+use Rattle.thes_lists.specs.declared.lists.Lists.{Lists}
+use Rattle.thes_lists.specs.Lists.{listed_at, AreSame, ChangesAt, AllRise, AreListings}
+use Rattle.thes_lists.proofs.OrderLemmas.{Has, Has-from, Contains-from, sorted_none, above_head, insert_cases, insert_keeps, insert_sorted, remove_had, remove_sorted, never_below_itself}
+
+module _ {A : Type 0} (c : A → A → Ordering) where
+  pub listing_none : (P : A → Type 0) → ((x : A) → P x → ⊥) → IsListing c P []
+  listing_none P none = record { rises = sorted_none c; sound = λ x has. absurd (Has-from [] x has); complete = λ x p. absurd (none x p) }
+
+  pub listing_as : (P Q : A → Type 0) (xs : List A) → ((x : A) → P x → Q x) → ((x : A) → Q x → P x) → IsListing c P xs → IsListing c Q xs
+  listing_as P Q xs to from is = record { rises = is.rises; sound = λ x has. to x (is.sound x has); complete = λ x q. is.complete x (from x q) }
+
+  -- in each of the lists
+
+  pub listings_rise : (P : ℕ → A → Type 0) (lists : Lists A) → AreListings c P lists → AllRise c lists
+  listings_rise P lists are n = (are n).rises
+
+  pub rise_same : (old new : Lists A) → AreSame old new → AllRise c old → AllRise c new
+  rise_same old new same rise n = subst (IsStrictlySortedBy c) (sym (same n)) (rise n)
+
+  pub listings_same : (P Q : ℕ → A → Type 0) (old new : Lists A) → AreSame old new → ((n : ℕ) (x : A) → P n x → Q n x) → ((n : ℕ) (x : A) → Q n x → P n x) → AreListings c P old → AreListings c Q new
+  listings_same P Q old new same to from are n = subst (IsListing c (Q n)) (sym (same n)) (listing_as (P n) (Q n) (listed_at old n) (to n) (from n) (are n))
+
+  pub listings_changed : (P Q : ℕ → A → Type 0) (old new : Lists A) (n : ℕ) (values : List A) → ChangesAt old new n values → IsListing c (Q n) values
+      → ((m : ℕ) → m ≢ n → (x : A) → P m x → Q m x) → ((m : ℕ) → m ≢ n → (x : A) → Q m x → P m x) → AreListings c P old → AreListings c Q new
+  listings_changed P Q old new n values changes here to from are m = elim (cases_eq m n) [
+    | inl same ↦ subst (λ k. IsListing c (Q k) (listed_at new k)) (sym same) (subst (IsListing c (Q n)) (sym changes.here) here)
+    | inr apart ↦ subst (IsListing c (Q m)) (sym (changes.others m apart)) (listing_as (P m) (Q m) (listed_at old m) (to m apart) (from m apart) (are m))
+  ]
+
+module _ {A : Type 0} (c : A → A → Ordering) (o : IsTotalOrder c) (exact : IsAntisymmetric c) where
+  pub insert_has : (ks : List A) (x : A) → Has (insert_key c ks x) x
+  insert_has [] x = inl refl
+  insert_has (y ∷ ys) x = go (c x y) refl (insert_has ys x)
+    where
+      go : (r : Ordering) → c x y ≡ r → Has (insert_key c ys x) x → Has (match_ordering r (x ∷ y ∷ ys) (y ∷ ys) (y ∷ insert_key c ys x)) x
+      go Less below later = inl refl
+      go Equal tied later = inl (sym (exact x y tied))
+      go Greater above later = inr later
+
+  pub listing_insert : (P : A → Type 0) (xs : List A) (x : A) → IsListing c P xs → IsListing c (λ m. P m ⊎ (m ≡ x)) (insert_key c xs x)
+  listing_insert P xs x is = record {
+    rises = insert_sorted c o xs x is.rises;
+    sound = λ m has. elim (insert_cases c xs x m (Has-from (insert_key c xs x) m has)) [ inl same ↦ inr (sym same) | inr old ↦ inl (is.sound m (Contains-from xs m old)) ];
+    complete = λ m p. elim p [
+      | inl old ↦ Contains-from (insert_key c xs x) m (insert_keeps c xs x m (Has-from xs m (is.complete m old)))
+      | inr new ↦ subst (Contains (insert_key c xs x)) (sym new) (Contains-from (insert_key c xs x) x (insert_has xs x))
+    ];
+  }
+
+  -- a value taken out is there no more
+  pub remove_apart : (ks : List A) (x m : A) → IsStrictlySortedBy c ks → Has (remove_key (is_at (c x)) ks) m → m ≢ x
+  remove_apart [] x m sorted has = absurd has
+  remove_apart (y ∷ ys) x m sorted has = go (is_eq (c x y)) refl has (remove_apart ys x m (sorted_tail c y ys sorted))
+    where
+      go : (b : Bool) → is_eq (c x y) ≡ b → Has (cond b ys (y ∷ remove_key (is_at (c x)) ys)) m → (Has (remove_key (is_at (c x)) ys) m → m ≢ x) → m ≢ x
+      go true tied has later same = never_below_itself c o y (subst (λ z. c y z ≡ Less) (same ∙ exact x y ((Equal-is (c x y)).0 tied)) (above_head c y ys m sorted has))
+      go false apart (inl here) later same = let tied : is_eq (c x y) ≡ true = ap is_eq (subst (λ z. c x z ≡ Equal) (sym (here ∙ same)) (tied_itself o x)) in cc
+      go false apart (inr has) later same = later has same
+
+  pub remove_keeps : (ks : List A) (x m : A) → m ≢ x → Has ks m → Has (remove_key (is_at (c x)) ks) m
+  remove_keeps [] x m other has = absurd has
+  remove_keeps (y ∷ ys) x m other has = go (is_eq (c x y)) refl has (remove_keeps ys x m other)
+    where
+      go : (b : Bool) → is_eq (c x y) ≡ b → Has (y ∷ ys) m → (Has ys m → Has (remove_key (is_at (c x)) ys) m) → Has (cond b ys (y ∷ remove_key (is_at (c x)) ys)) m
+      go true tied (inl here) later = absurd (other (sym (exact x y ((Equal-is (c x y)).0 tied) ∙ here)))
+      go true tied (inr has) later = has
+      go false apart (inl here) later = inl here
+      go false apart (inr has) later = inr (later has)
+
+  pub listing_remove : (P : A → Type 0) (xs : List A) (x : A) → IsListing c P xs → IsListing c (λ m. P m × (m ≢ x)) (remove_key (is_at (c x)) xs)
+  listing_remove P xs x is = record {
+    rises = remove_sorted c o xs (is_at (c x)) is.rises;
+    sound = λ m has. let in_rest = Has-from (remove_key (is_at (c x)) xs) m has in (is.sound m (Contains-from xs m (remove_had c xs (is_at (c x)) m in_rest)), remove_apart xs x m is.rises in_rest);
+    complete = λ m p. Contains-from (remove_key (is_at (c x)) xs) m (remove_keeps xs x m p.1 (Has-from xs m (is.complete m p.0)));
+  }
+
+  -- the members tell the list
+
+  same_members : (xs ys : List A) → IsStrictlySortedBy c xs → IsStrictlySortedBy c ys → ((m : A) → Has xs m → Has ys m) → ((m : A) → Has ys m → Has xs m) → xs ≡ ys
+  same_members [] [] sx sy to from = refl
+  same_members [] (y ∷ ys) sx sy to from = absurd (from y (inl refl))
+  same_members (x ∷ xs) [] sx sy to from = absurd (to x (inl refl))
+  same_members (x ∷ xs) (y ∷ ys) sx sy to from =
+      let head = heads (to x (inl refl)) (from y (inl refl)) in
+      (λ i. head i ∷ same_members xs ys (sorted_tail c x xs sx) (sorted_tail c y ys sy) (rest x y xs ys head sx to) (rest y x ys xs (sym head) sy from) i)
+    where
+      heads : Has (y ∷ ys) x → Has (x ∷ xs) y → x ≡ y
+      heads (inl same) at_y = sym same
+      heads (inr later) (inl same) = same
+      heads (inr later) (inr after) = absurd (never_below_itself c o x (o.trans x y x (above_head c x xs y sx after) (above_head c y ys x sy later)))
+
+      rest : (v w : A) (vs ws : List A) → v ≡ w → IsStrictlySortedBy c (v ∷ vs) → ((m : A) → Has (v ∷ vs) m → Has (w ∷ ws) m) → (m : A) → Has vs m → Has ws m
+      rest v w vs ws same sorted to m has = elim (to m (inr has)) [
+        | inl here ↦ absurd (never_below_itself c o v (subst (λ z. c v z ≡ Less) (sym (same ∙ here)) (above_head c v vs m sorted has)))
+        | inr later ↦ later
+      ]
+
+  pub listing_same : (P : A → Type 0) (xs ys : List A) → IsListing c P xs → IsListing c P ys → xs ≡ ys
+  listing_same P xs ys one two = same_members xs ys one.rises two.rises
+      (λ m has. Has-from ys m (two.complete m (one.sound m (Contains-from xs m has))))
+      (λ m has. Has-from xs m (one.complete m (two.sound m (Contains-from ys m has))))
+
+  -- one list with a value more, and with one less
+  module _ (P Q : ℕ → A → Type 0) (old new : Lists A) (n : ℕ) (x : A) (are : AreListings c P old) where
+    pub listings_insert : ChangesAt old new n (insert_key c (listed_at old n) x) → Q n x → ((m : ℕ) (y : A) → P m y → Q m y) → ((m : ℕ) (y : A) → Q m y → P m y ⊎ ((m ≡ n) × (y ≡ x))) → AreListings c Q new
+    listings_insert changes new_one to from = listings_changed c P Q old new n _ changes
+        (listing_as c (λ y. P n y ⊎ (y ≡ x)) (Q n) _
+        (λ y p. elim p [ inl was ↦ to n y was | inr is ↦ subst (Q n) (sym is) new_one ])
+        (λ y q. elim (from n y q) [ inl was ↦ inl was | inr is ↦ inr is.1 ])
+        (listing_insert (P n) (listed_at old n) x (are n)))
+        (λ m apart. to m)
+        (λ m apart y q. elim (from m y q) [ inl was ↦ was | inr is ↦ absurd (apart is.0) ])
+        are
+
+    pub listings_remove : ChangesAt old new n (remove_key (is_at (c x)) (listed_at old n)) → (Q n x → ⊥) → ((m : ℕ) (y : A) → P m y → Q m y ⊎ ((m ≡ n) × (y ≡ x))) → ((m : ℕ) (y : A) → Q m y → P m y) → AreListings c Q new
+    listings_remove changes gone to from = listings_changed c P Q old new n _ changes
+        (listing_as c (λ y. P n y × (y ≢ x)) (Q n) _
+        (λ y p. elim (to n y p.0) [ inl q ↦ q | inr is ↦ absurd (p.1 is.1) ])
+        (λ y q. (from n y q, λ is. gone (subst (Q n) is q)))
+        (listing_remove (P n) (listed_at old n) x (are n)))
+        (λ m apart y p. elim (to m y p) [ inl q ↦ q | inr is ↦ absurd (apart is.0) ])
+        (λ m apart. from m)
+        are
