@@ -1,36 +1,22 @@
 -- A merge leaves at most as many links as there were.
-use Rattle.std.proofs.Common.{◌≡◌, ◌⊎◌, ◌≤◌, ℕ, ◌+◌, List, [], ◌∷◌, refl, sym, ap, ◌∙◌, inl, inr, arith, Bool, true, false, cond, not, ◌||◌, map}
+use Rattle.std.proofs.Common.{◌≡◌, ◌≤◌, ◌+◌, ℕ, List, [], ◌∷◌, inl, inr, sym, ap, subst, ◌∙◌, arith, Bool, true, false, cond, not, Contains, map}
 use Rattle.std.specs.Prelude.{◌==◌, filter}
-use Rattle.std.specs.Ordering.{eq_by_cmp, is_eq}
-use Rattle.std.specs.Cmp.{tied_itself}
 use Rattle.std.specs.FinSet as set
+use Rattle.std.proofs.lemmas.Bool.{cases_Bool}
 use Rattle.thes_base.specs.declared.data.Link.{Link}
 use Rattle.thes_base.specs.Links.{Links, HeldIn, link_cmp, norm, sent, sent_link, contracted}
-use Rattle.thes_base.proofs.LinkSets.{links_total, links_exact, IsIn, in_from_list}
-
-decided : (b : Bool) → (b ≡ true) ⊎ (b ≡ false)
-decided true = inl refl
-decided false = inr refl
-
-or_holds : (a b : Bool) → (a ≡ true) ⊎ (b ≡ true) → (a || b) ≡ true
-or_holds true b h = refl
-or_holds false b (inl e) = absurd (cc)
-or_holds false b (inr e) = e
-
--- the set has a link that is inserted, and what it had
-inserted_there : (links : Links) (l m : Link) → (m ≡ l) ⊎ HeldIn links m → HeldIn (set.insert links l) m
-inserted_there links l m (inl same) = set.contains-insert links_total links l m ∙ or_holds _ _ (inl (ap (λ x. eq_by_cmp link_cmp m x) (sym same) ∙ ap is_eq (tied_itself links_total m)))
-inserted_there links l m (inr old) = set.contains-insert links_total links l m ∙ or_holds _ _ (inr old)
-
--- a link that is there adds nothing, and any other adds one
-len_old : (links : Links) (l : Link) → HeldIn links l → set.len (set.insert links l) ≡ set.len links
-len_old links l there = set.len-insert links_total links l ∙ ap (λ b. cond b (set.len links) (set.len links + 1)) there
+use Rattle.thes_base.proofs.ListMembers.{Contains-map, Contains-filter}
+use Rattle.thes_base.proofs.LinkSets.{links_total, links_exact}
+use Rattle.thes_base.proofs.SetMembers.{len_inserted, len_there, from_list_of, from_list_has}
 
 len_new : (links : Links) (l : Link) → set.contains links l ≡ false → set.len (set.insert links l) ≡ set.len links + 1
-len_new links l fresh = set.len-insert links_total links l ∙ ap (λ b. cond b (set.len links) (set.len links + 1)) fresh
+len_new = len_inserted links_total links_exact
+
+len_old : (links : Links) (l : Link) → HeldIn links l → set.len (set.insert links l) ≡ set.len links
+len_old = len_there links_total links_exact
 
 len_grows : (links : Links) (l : Link) → (set.len links ≤ set.len (set.insert links l)) × (set.len (set.insert links l) ≤ set.len links + 1)
-len_grows links l = elim (decided (set.contains links l)) [
+len_grows links l = elim (cases_Bool (set.contains links l)) [
   | inl there ↦ let e = len_old links l there in (omega (arith, e), omega (arith, e))
   | inr fresh ↦ let e = len_new links l fresh in (omega (arith, e), omega (arith, e))
 ]
@@ -47,28 +33,23 @@ module _ (passes : Link → Bool) (send : Link → Link) where
   image_no l ls miss = ap (λ b. set.from_list {R = link_cmp} (map send (cond b (l ∷ filter passes ls) (filter passes ls)))) miss
 
   -- what is sent is there
-  in_image : (l : Link) (ls : List Link) → IsIn l ls → passes l ≡ true → HeldIn (image ls) (send l)
-  in_image l [] h hit = absurd h
-  in_image l (x ∷ ls) (inl same) hit = ap (λ s. set.contains s (send l)) (image_yes x ls (ap passes (sym same) ∙ hit)) ∙ inserted_there (image ls) (send x) (send l) (inl (ap send same))
-  in_image l (x ∷ ls) (inr later) hit =
-      let ih = in_image l ls later hit in
-      elim (decided (passes x)) [
-        | inl pass ↦ ap (λ s. set.contains s (send l)) (image_yes x ls pass) ∙ inserted_there (image ls) (send x) (send l) (inr ih)
-        | inr fail ↦ ap (λ s. set.contains s (send l)) (image_no x ls fail) ∙ ih
-      ]
+  in_image : (l : Link) (ls : List Link) → HeldIn (set.from_list ls) l → passes l ≡ true → HeldIn (image ls) (send l)
+  in_image l ls there hit =
+      from_list_has links_total links_exact (map send (filter passes ls)) (send l)
+      (Contains-map send (filter passes ls) l (Contains-filter passes ls l (from_list_of links_total links_exact ls l there) hit))
 
   image_fewer : (ls : List Link) → set.len (image ls) ≤ set.len (set.from_list {R = link_cmp} ls)
   image_fewer [] = omega arith
   image_fewer (l ∷ ls) =
       let ih = image_fewer ls in
       let before = len_grows (set.from_list ls) l in
-      elim (decided (passes l)) [
+      elim (cases_Bool (passes l)) [
         | inr miss ↦ let e = ap set.len (image_no l ls miss) in omega (arith, e, ih, before.0)
         | inl hit ↦
             let e = ap set.len (image_yes l ls hit) in
             let after = len_grows (image ls) (send l) in
-            elim (decided (set.contains (set.from_list {R = link_cmp} ls) l)) [
-              | inl there ↦ let same = len_old (image ls) (send l) (in_image l ls (in_from_list ls l there) hit) in omega (arith, e, ih, before.0, same)
+            elim (cases_Bool (set.contains (set.from_list {R = link_cmp} ls) l)) [
+              | inl there ↦ let same = len_old (image ls) (send l) (in_image l ls there hit) in omega (arith, e, ih, before.0, same)
               | inr fresh ↦ let more = len_new (set.from_list ls) l fresh in omega (arith, e, ih, after.1, more)
             ]
       ]

@@ -1,22 +1,15 @@
--- What reads and writes, one after another, do to the bytes that are known.
-use Rattle.std.proofs.Common.{◌≡◌, ◌∙◌, sym, ap, ℕ, ◌+◌, ◌≤◌, List, ◌++◌, length, take, drop, append-nil, take_all, le_refl, append_assoc, Option, Some, None, arith, ◌-◌, length-drop, length-append, []}
+-- What reads and writes, one after another, do to the bytes that are known, and to the counts of calls.
+use Rattle.std.proofs.Common.{◌≡◌, ◌∙◌, ℕ, ◌+◌, ◌≤◌, List, ◌++◌, length, take, drop, take_all, le_refl, Option, arith, ◌-◌, length-drop, length-append}
+use Rattle.std.proofs.KnownBytes.{Appends-trans}
 use Rattle.std.proofs.Math.Seq.{take-add, take-append-add}
-use Rattle.std.specs.Io.KnownBytes.{Appends, Consumes}
-use Rattle.thes_base.specs.declared.fault.PipeFault.{PipeFault}
-use Rattle.thes_base.specs.declared.fault.PipeFault.TheVariants.{Read, Write, TooLong, Fault}
-use Rattle.thes_base.specs.Pipe.{AppendsFront, AppendsUntil}
 use Rattle.std.proofs.lemmas.Grind.{common_steps}
-
--- two writes, one after the other
-pub appends_then : (a b c : Option (List ℕ)) (xs ys : List ℕ) → Appends a b xs → Appends b c ys → Appends a c (xs ++ ys)
-appends_then None b c xs ys f s = tt
-appends_then (Some v) None c xs ys f s = absurd f
-appends_then (Some v) (Some w) None xs ys f s = absurd s
-appends_then (Some v) (Some w) (Some z) xs ys f s = s ∙ (ap (λ t. t ++ ys) f ∙ append_assoc v xs ys)
+use Rattle.std.specs.Io.KnownBytes.{Appends}
+use Rattle.thes_base.specs.Pipe.{AppendsFront, calls_of, counted, calls_limit, PaysCalls, KeepsToLimit}
+use Rattle.thes_base.specs.declared.pipe.Pipe.{Pipe}
 
 -- the next n bytes of a list that is written from its front
 pub appends_more : (a b c : Option (List ℕ)) (s : List ℕ) (i n : ℕ) → Appends a b (take i s) → Appends b c (take n (drop i s)) → Appends a c (take (i + n) s)
-appends_more a b c s i n f g = rw (take-add i n s) (appends_then a b c (take i s) (take n (drop i s)) f g)
+appends_more a b c s i n f g = rw (take-add i n s) (Appends-trans a b c (take i s) (take n (drop i s)) f g)
 
 -- the rest of a list from i on, as `&s[i..]`, is all of what stands from i on
 pub rest_is : (s : List ℕ) (i : ℕ) → take (length s - i) (drop i s) ≡ drop i s
@@ -33,34 +26,46 @@ pub appends_front_then : (a b c : Option (List ℕ)) (xs ys : List ℕ) → Appe
 appends_front_then a b c xs ys f s = record {
   count = length xs + s.count;
   within = let h = s.within in rw (length-append xs ys) (omega (arith, h));
-  front = rw (take-append-add xs ys s.count) (appends_then a b c xs (take s.count ys) f s.front);
+  front = rw (take-append-add xs ys s.count) (Appends-trans a b c xs (take s.count ys) f s.front);
 }
-
--- two reads, one after the other
-pub consumes_then : (a b c : Option (List ℕ)) (xs ys : List ℕ) → Consumes a b xs → Consumes b c ys → Consumes a c (xs ++ ys)
-consumes_then None b c xs ys f s = tt
-consumes_then (Some v) None c xs ys f s = absurd f
-consumes_then (Some v) (Some w) None xs ys f s = absurd s
-consumes_then (Some v) (Some w) (Some z) xs ys f s = f ∙ (ap (λ t. xs ++ t) s ∙ sym (append_assoc xs ys z))
-
-pub appends_none : (a : Option (List ℕ)) → Appends a a []
-appends_none None = tt
-appends_none (Some v) = sym (append-nil v)
 
 -- all of a text is a front of it
 pub appends_front : (a b : Option (List ℕ)) (xs : List ℕ) → Appends a b xs → AppendsFront a b xs
 appends_front a b xs f = record { count = length xs; within = omega arith; front = rw (take_all (length xs) xs (le_refl (length xs))) f }
 
--- all that was to be written was written
-pub appends_until : (fault : PipeFault) (a b : Option (List ℕ)) (xs : List ℕ) → Appends a b xs → AppendsUntil fault a b xs
-appends_until Read a b xs f = f
-appends_until Write a b xs f = appends_front a b xs f
-appends_until TooLong a b xs f = appends_front a b xs f
-appends_until (Fault e) a b xs f = f
+-- An engine's call with two pipes has so much of its budget left.
+pub record HasLeft {R W : Type 0} (reader reader' : Pipe R) (writer writer' : Pipe W) (left : ℕ) : Type 0 where
+  pub reads : ℕ
+  pub writes : ℕ
+  pub all : reads + writes + left ≡ calls_limit
+  pub read : calls_of reader' ≡ counted (calls_of reader) reads
+  pub wrote : calls_of writer' ≡ counted (calls_of writer) writes
 
--- all of the first text, and then the second until it stopped
-pub until_then : (fault : PipeFault) (a b c : Option (List ℕ)) (xs ys : List ℕ) → Appends a b xs → AppendsUntil fault b c ys → AppendsUntil fault a c (xs ++ ys)
-until_then Read a b c xs ys f s = appends_then a b c xs ys f s
-until_then Write a b c xs ys f s = appends_front_then a b c xs ys f s
-until_then TooLong a b c xs ys f s = appends_front_then a b c xs ys f s
-until_then (Fault e) a b c xs ys f s = appends_then a b c xs ys f s
+counted_more : (calls m n : ℕ) → counted (counted calls m) n ≡ counted calls (m + n)
+counted_more calls m n = omega arith
+
+pub all_left : {R W : Type 0} (reader : Pipe R) (writer : Pipe W) (left : ℕ) → left ≡ calls_limit → HasLeft reader reader writer writer left
+all_left reader writer left e = record { reads = 0; writes = 0; all = omega (arith, e); read = omega arith; wrote = omega arith }
+
+pub left_after_reads : {R W : Type 0} {r r' r'' : Pipe R} {w w' : Pipe W} {left left' : ℕ} → HasLeft r r' w w' left → PaysCalls r' r'' left left' → HasLeft r r'' w w' left'
+left_after_reads {r = r} {left = left} {left' = left'} h p =
+    let all = h.all in let fell = p.fell in let more = counted_more (calls_of r) h.reads (left - left') in record {
+      reads = h.reads + (left - left');
+      writes = h.writes;
+      all = omega (arith, all, fell);
+      read = let calls = p.calls in let read = h.read in cc;
+      wrote = h.wrote;
+    }
+
+pub left_after_writes : {R W : Type 0} {r r' : Pipe R} {w w' w'' : Pipe W} {left left' : ℕ} → HasLeft r r' w w' left → PaysCalls w' w'' left left' → HasLeft r r' w w'' left'
+left_after_writes {w = w} {left = left} {left' = left'} h p =
+    let all = h.all in let fell = p.fell in let more = counted_more (calls_of w) h.writes (left - left') in record {
+      reads = h.reads;
+      writes = h.writes + (left - left');
+      all = omega (arith, all, fell);
+      read = h.read;
+      wrote = let calls = p.calls in let wrote = h.wrote in cc;
+    }
+
+pub keeps_to_limit : {R W : Type 0} {r r' : Pipe R} {w w' : Pipe W} {left : ℕ} → HasLeft r r' w w' left → KeepsToLimit r r' w w'
+keeps_to_limit {left = left} h = let all = h.all in record { reads = h.reads; writes = h.writes; within = omega (arith, all); read = h.read; wrote = h.wrote }

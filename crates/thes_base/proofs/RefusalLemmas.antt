@@ -12,7 +12,9 @@ use Rattle.thes_base.specs.State.{State}
 use Rattle.thes_base.specs.Triples.{Triple, Asserted}
 use Rattle.thes_base.specs.Skos as skos
 use Rattle.thes_base.specs.Changes.{link_added, dead, merged}
-use Rattle.thes_base.specs.Refusals.{Setting, unless_ends, unless_pair, unless_within, row_link, row_merge}
+use Rattle.thes_base.specs.Refusals.{Setting, unless_ends, unless_pair, unless_within}
+use Rattle.thes_base.specs.Machine.{row_of}
+use Rattle.thes_base.specs.declared.request.Command.TheVariants as request
 use Rattle.thes_base.specs.Legal.{Legal}
 use Rattle.thes_base.specs.Laws.{IsSeen, RefusesByTriples, unless_triples_consistent}
 use Rattle.thes_base.proofs.RowLemmas.{passed_if, passed_unless}
@@ -20,7 +22,7 @@ use Rattle.thes_base.proofs.RowParts.{ends_part, pair_part}
 use Rattle.thes_base.proofs.ResourceLemmas.{marked_dead_at, exists_dead}
 use Rattle.thes_base.proofs.ResourcesKept.{resources_merged}
 use Rattle.thes_base.proofs.ConditionLemmas.{owner_exists, ends_exist}
-use Rattle.thes_base.proofs.LinkSets.{link_inserted_cases, in_from_list, in_items, in_map, in_filter}
+use Rattle.thes_base.proofs.LinkSets.{link_inserted_cases, contracted_from}
 use Rattle.thes_base.proofs.MergedLabels.{labels_merged}
 use Rattle.thes_base.proofs.MachineLemmas.{sees_rules}
 
@@ -81,11 +83,10 @@ module _ (base : List ℕ) (s : State) (legal : Legal base s) where
   -- the ends of the links that the merge leaves are those of before, and the target
   contracted_ends : (source target : ℕ) → Exists s.resources target → (m : Link) → HeldIn (contracted (is_outside s.resources) source target s.links) m → HasEnds s.resources m
   contracted_ends source target to m held =
-      let mapped = in_map (λ l. norm (is_outside s.resources) (sent_link source target l)) m _ (in_from_list _ m held) in
-      let l = mapped.0 in
-      let kept = in_filter (λ x. not (sent source target x.a == sent source target x.b)) l _ mapped.1 in
-      let known = held_ends l (in_items s.links l kept.0) in
-      subst (HasEnds s.resources) (sym mapped.2)
+      let merged = contracted_from (is_outside s.resources) source target s.links m held in
+      let l = merged.0 in
+      let known = held_ends l merged.1 in
+      subst (HasEnds s.resources) (sym merged.3)
       (norm_ends s.resources (is_outside s.resources) (sent_link source target l) (sent_exists s.resources source target l.a to known.0, sent_exists s.resources source target l.b to known.1))
 
   merge_seen : (source target : ℕ) → unless_pair s.resources source target accepted None → IsSeen base (merged source target s)
@@ -139,7 +140,7 @@ module _ (setting : Setting) (s : State) (legal : Legal setting.base s) (answer 
     abbrev link_broken : Row
     link_broken = unless_consistent (HeldIn (link_added l s).links) (unless_within setting s (link_added l s))
 
-    link_by_triples : unless_ends s.resources l accepted None → (¬ is_there) → row_link setting s (link_added l s) l answer ↔ unless_triples_consistent (Asserted setting.base (link_added l s)) (unless_within setting s (link_added l s)) answer
+    link_by_triples : unless_ends s.resources l accepted None → (¬ is_there) → row_of setting s (link_added l s) (request.Link l.kind l.a l.b) answer ↔ unless_triples_consistent (Asserted setting.base (link_added l s)) (unless_within setting s (link_added l s)) answer
     link_by_triples ends new =
         let same = row_seen setting.base (link_added l s) (link_seen setting.base s legal l (passed_unless ends).0) (unless_within setting s (link_added l s)) answer in
         let rest : Row = refused_if is_there no.LinkThere link_broken in
@@ -149,7 +150,7 @@ module _ (setting : Setting) (s : State) (legal : Legal setting.base s) (answer 
     abbrev merge_broken : Row
     merge_broken = unless_consistent (HeldIn (merged source target s).links) (unless_within setting s (merged source target s))
 
-    merge_by_triples : unless_pair s.resources source target accepted None → row_merge setting s (merged source target s) source target answer ↔ unless_triples_consistent (Asserted setting.base (merged source target s)) (unless_within setting s (merged source target s)) answer
+    merge_by_triples : unless_pair s.resources source target accepted None → row_of setting s (merged source target s) (request.Merge source target) answer ↔ unless_triples_consistent (Asserted setting.base (merged source target s)) (unless_within setting s (merged source target s)) answer
     merge_by_triples pair =
         let same = row_seen setting.base (merged source target s) (merge_seen setting.base s legal source target pair) (unless_within setting s (merged source target s)) answer in
         (λ row. same.0 (past_pair s.resources source target merge_broken answer pair row), λ row. (pair_part s.resources source target).passes merge_broken answer pair (same.1 row))

@@ -8,7 +8,7 @@ use Rattle.thes_base.specs.declared.data.Link.{Link}
 use Rattle.thes_base.specs.declared.data.History.{History}
 use Rattle.thes_base.specs.declared.fault.Refusal.{Refusal}
 use Rattle.thes_base.specs.declared.fault.Refusal.TheVariants as no
-use Rattle.thes_base.specs.Rows.{Row, refused_if, refused_unless, accepted}
+use Rattle.thes_base.specs.Rows.{Row, refused_if, refused_unless, refused_for, accepted}
 use Rattle.thes_base.specs.Resources.{Iris, IsScheme}
 use Rattle.thes_base.specs.Labels.{Label, Labels}
 use Rattle.thes_base.specs.Refusals.{unless_unique, unless_known, unless_scheme, unless_foreign, unless_owner, unless_label, unless_dropped, unless_relabelled, unless_ends, unless_live_concept, unless_pair, unless_listed}
@@ -53,6 +53,21 @@ then_unless condition name part is = record { stops = stops; passes = passes; op
     opens rest (inl (holds_not, e)) = absurd (cc)
     opens rest (inr (holds, says)) = let o = is.opens rest says in (inr (holds, o.0), o.1)
 
+then_for : (sentence : ℕ → Type 0) (name : ℕ → Refusal) (part : Row → Row) → IsPart part → IsPart (λ rest. refused_for sentence name (part rest))
+then_for sentence name part is = record { stops = stops; passes = passes; opens = opens }
+  where
+    stops : (rest : Row) (other : Refusal) → refused_for sentence name (part accepted) (Some other) → refused_for sentence name (part rest) (Some other)
+    stops rest other (inl found) = inl found
+    stops rest other (inr (holds_not, says)) = inr (holds_not, is.stops rest other says)
+
+    passes : (rest : Row) (answer : Option Refusal) → refused_for sentence name (part accepted) None → rest answer → refused_for sentence name (part rest) answer
+    passes rest answer (inl (n, holds, e)) says = absurd (cc)
+    passes rest answer (inr (holds_not, part_passes)) says = inr (holds_not, is.passes rest answer part_passes says)
+
+    opens : (rest : Row) → refused_for sentence name (part rest) None → refused_for sentence name (part accepted) None × rest None
+    opens rest (inl (n, holds, e)) = absurd (cc)
+    opens rest (inr (holds_not, says)) = let o = is.opens rest says in (inr (holds_not, o.0), o.1)
+
 -- The parts of the rows.
 
 pub unique_part : (resources : List Resource) (labels : Labels) → IsPart (unless_unique resources labels)
@@ -69,19 +84,7 @@ pub concept_part : (resources : List Resource) (n : ℕ) (after : List Resource)
 concept_part resources n after labels = then_unless _ _ _ (then_unless _ _ _ (unique_part after labels))
 
 pub foreign_part : (base : List ℕ) (iris : Iris) (iri : List ℕ) → IsPart (unless_foreign base iris iri)
-foreign_part base iris iri = then_if _ _ (λ rest answer. ((n : ℕ) × (dict.get iris n ≡ Some iri) × (answer ≡ Some (no.OutsideKnown n))) ⊎ (((n : ℕ) → dict.get iris n ≢ Some iri) × rest answer)) (record { stops = stops; passes = passes; opens = opens })
-  where
-    stops : (rest : Row) (name : Refusal) → ((n : ℕ) × (dict.get iris n ≡ Some iri) × (Some name ≡ Some (no.OutsideKnown n))) ⊎ (((n : ℕ) → dict.get iris n ≢ Some iri) × accepted (Some name)) → ((n : ℕ) × (dict.get iris n ≡ Some iri) × (Some name ≡ Some (no.OutsideKnown n))) ⊎ (((n : ℕ) → dict.get iris n ≢ Some iri) × rest (Some name))
-    stops rest name (inl known) = inl known
-    stops rest name (inr (fresh, e)) = absurd (cc)
-
-    passes : (rest : Row) (answer : Option Refusal) → ((n : ℕ) × (dict.get iris n ≡ Some iri) × (None ≡ Some (no.OutsideKnown n))) ⊎ (((n : ℕ) → dict.get iris n ≢ Some iri) × accepted None) → rest answer → ((n : ℕ) × (dict.get iris n ≡ Some iri) × (answer ≡ Some (no.OutsideKnown n))) ⊎ (((n : ℕ) → dict.get iris n ≢ Some iri) × rest answer)
-    passes rest answer (inl (n, has, e)) says = absurd (cc)
-    passes rest answer (inr (fresh, _)) says = inr (fresh, says)
-
-    opens : (rest : Row) → ((n : ℕ) × (dict.get iris n ≡ Some iri) × (None ≡ Some (no.OutsideKnown n))) ⊎ (((n : ℕ) → dict.get iris n ≢ Some iri) × rest None) → (((n : ℕ) × (dict.get iris n ≡ Some iri) × (None ≡ Some (no.OutsideKnown n))) ⊎ (((n : ℕ) → dict.get iris n ≢ Some iri) × accepted None)) × rest None
-    opens rest (inl (n, has, e)) = absurd (cc)
-    opens rest (inr (fresh, says)) = (inr (fresh, refl), says)
+foreign_part base iris iri = then_if _ _ (refused_for (λ n. dict.get iris n ≡ Some iri) no.OutsideKnown) (then_for (λ n. dict.get iris n ≡ Some iri) no.OutsideKnown (λ rest. rest) nothing)
 
 pub owner_part : (resources : List Resource) (n : ℕ) → IsPart (unless_owner resources n)
 owner_part resources n = then_unless _ _ _ (then_unless _ _ _ (then_unless _ _ (λ rest. rest) nothing))

@@ -19,7 +19,7 @@ use Rattle.thes_base.specs.State.{State, empty_state}
 use Rattle.thes_base.specs.Texts.{IsLabelText, IsLabelForm, IsPostingForm, HasForms, HaveForms}
 use Rattle.thes_base.specs.Changes.{label, next_number, renamed, taken_kind, taken_labels, histories_withdrawn}
 use Rattle.thes_base.specs.Refusals.{Setting}
-use Rattle.thes_base.specs.Machine.{Step, Judged, next_state, owned}
+use Rattle.thes_base.specs.Machine.{Step, next_state, owned}
 use Rattle.thes_base.proofs.NumberedLemmas.{numbered_bound, push_cases, set_cases}
 use Rattle.thes_base.proofs.MoveLemmas.{Moved, numbered_moved}
 use Rattle.thes_base.proofs.LabelSets.{inserted_cases}
@@ -118,26 +118,10 @@ module _ (base : List ℕ) (s : State) (texts : HaveForms base s) where
   texts_next (request.Withdraw posting) form = record { base_form = texts.base_form; iris = texts.iris; labels = texts.labels; postings = forms_withdrawn s.histories posting texts.postings (numbered s.histories posting) refl }
 
 -- a request leaves the state as it is, or makes its next one
-judged_either : (setting : Setting) (s t : State) (command : Command) (answer : Answer) → Judged setting s command answer t → (t ≡ s) ⊎ (t ≡ next_state command s)
-judged_either setting s t command answer (inl (r, row, is, same)) = inl same
-judged_either setting s t command answer (inr (row, is, made)) = inr made
-
 step_either : (setting : Setting) (s t : State) (command : Command) (answer : Answer) → Step setting s command answer t → (t ≡ s) ⊎ (t ≡ next_state command s)
-step_either setting s t (request.Post key rec concept) answer (inl (h, is_key, again, same)) = inl same
-step_either setting s t (request.Post key rec concept) answer (inr (fresh, judged)) = judged_either setting s t (request.Post key rec concept) answer judged
-step_either setting s t (request.Scheme tag text) answer step = judged_either setting s t (request.Scheme tag text) answer step
-step_either setting s t (request.Concept scheme tag text) answer step = judged_either setting s t (request.Concept scheme tag text) answer step
-step_either setting s t (request.Collection scheme tag text) answer step = judged_either setting s t (request.Collection scheme tag text) answer step
-step_either setting s t (request.Outside iri) answer step = judged_either setting s t (request.Outside iri) answer step
-step_either setting s t (request.AddLabel owner l) answer step = judged_either setting s t (request.AddLabel owner l) answer step
-step_either setting s t (request.DropLabel owner l) answer step = judged_either setting s t (request.DropLabel owner l) answer step
-step_either setting s t (request.Relabel owner tag text keep) answer step = judged_either setting s t (request.Relabel owner tag text keep) answer step
-step_either setting s t (request.Link kind a b) answer step = judged_either setting s t (request.Link kind a b) answer step
-step_either setting s t (request.Unlink kind a b) answer step = judged_either setting s t (request.Unlink kind a b) answer step
-step_either setting s t (request.Deprecate concept) answer step = judged_either setting s t (request.Deprecate concept) answer step
-step_either setting s t (request.Merge source target) answer step = judged_either setting s t (request.Merge source target) answer step
-step_either setting s t (request.Split source tag text postings) answer step = judged_either setting s t (request.Split source tag text postings) answer step
-step_either setting s t (request.Withdraw posting) answer step = judged_either setting s t (request.Withdraw posting) answer step
+step_either setting s t command answer (inl (known, same)) = inl same
+step_either setting s t command answer (inr (new, inl (r, row, is, same))) = inl same
+step_either setting s t command answer (inr (new, inr (row, is, made))) = inr made
 
 pub step_texts : (setting : Setting) (s t : State) (command : Command) (answer : Answer) → HasForms command → HaveForms setting.base s → Step setting s command answer t → HaveForms setting.base t
 step_texts setting s t command answer forms texts step = elim (step_either setting s t command answer step) [

@@ -1,8 +1,10 @@
 -- What is noted of a reader or a writer.
-use Rattle.std.specs.Prelude.{◌≡◌, ℕ, ◌≤◌, Bool, false, List, length, take, Option}
+use Rattle.std.specs.Prelude.{◌≡◌, ℕ, ◌+◌, ◌-◌, ◌^◌, ◌≤◌, min, Bool, false, List, length, take, Option}
 use Rattle.std.specs.Io.KnownBytes.{Appends}
 use Rattle.thes_base.specs.declared.fault.PipeFault.{PipeFault}
-use Rattle.thes_base.specs.declared.fault.PipeFault.TheVariants.{Read, Write, TooLong, Fault}
+use Rattle.thes_base.specs.declared.fault.PipeFault.TheVariants.{Read, Write, TooLong}
+use Rattle.thes_base.specs.declared.pipe.Stop.{Stop}
+use Rattle.thes_base.specs.declared.pipe.Stop.TheVariants as stops
 use Rattle.thes_base.specs.declared.pipe.Pipe.{Pipe}
 
 -- the reader or writer itself
@@ -21,9 +23,38 @@ ended_of p = p.ended
 abbrev pub denied_of : {T : Type 0} → Pipe T → Bool
 denied_of p = p.denied
 
--- nothing was noted of the device yet
+-- nothing was noted of the device yet, and it was denied nothing
 abbrev pub IsFresh : {T : Type 0} → Pipe T → Type 0
-IsFresh p = (failed_of p ≡ false) × (ended_of p ≡ false)
+IsFresh p = (failed_of p ≡ false) × (ended_of p ≡ false) × (denied_of p ≡ false)
+
+-- Calls.
+
+-- how many reads or writes the device was asked for
+abbrev pub calls_of : {T : Type 0} → Pipe T → ℕ
+calls_of p = p.calls
+
+-- so many more calls, as far as the count goes
+abbrev pub counted : ℕ → ℕ → ℕ
+counted calls more = calls + min more (2 ^ 64 - 1 - calls)
+
+-- the most reads and writes of an engine's call, all its pipes together
+abbrev pub calls_limit : ℕ
+calls_limit = 100000000
+
+-- a budget fell by exactly the calls that the pipe made
+pub record PaysCalls {T : Type 0} (old new : Pipe T) (before after : ℕ) : Type 0 where
+  pub fell : after ≤ before
+  pub calls : calls_of new ≡ counted (calls_of old) (before - after)
+
+-- an engine's call with two pipes kept to the limit
+pub record KeepsToLimit {R W : Type 0} (reader reader' : Pipe R) (writer writer' : Pipe W) : Type 0 where
+  pub reads : ℕ
+  pub writes : ℕ
+  pub within : reads + writes ≤ calls_limit
+  pub read : calls_of reader' ≡ counted (calls_of reader) reads
+  pub wrote : calls_of writer' ≡ counted (calls_of writer) writes
+
+-- Bytes.
 
 -- the bytes that the device has still to give, where they are known
 abbrev pub unread : {R : Type 0} → (R → Option (List ℕ)) → Pipe R → Option (List ℕ)
@@ -39,9 +70,14 @@ pub record AppendsFront (old new : Option (List ℕ)) (bytes : List ℕ) : Type 
   pub within : count ≤ length bytes
   pub front : Appends old new (take count bytes)
 
--- what was written of a text where an engine is stopped: all of it, or a front where a write failed or was one too many
-abbrev pub AppendsUntil : PipeFault → Option (List ℕ) → Option (List ℕ) → List ℕ → Type 0
-AppendsUntil Read old new text = Appends old new text
-AppendsUntil Write old new text = AppendsFront old new text
-AppendsUntil TooLong old new text = AppendsFront old new text
-AppendsUntil (Fault f) old new text = Appends old new text
+-- Faults.
+
+-- the fault that an engine answers where its reader stopped
+abbrev pub reading_fault : Stop → PipeFault
+reading_fault stops.Failed = Read
+reading_fault stops.TooLong = TooLong
+
+-- the fault that an engine answers where its writer stopped
+abbrev pub writing_fault : Stop → PipeFault
+writing_fault stops.Failed = Write
+writing_fault stops.TooLong = TooLong

@@ -1,9 +1,9 @@
 //! A reader or a writer that notes what its device did.
-ghost use Rattle.std.specs.Prelude.{◌≡◌, ◌≢◌, ◌+◌, ◌<◌, ◌≤◌, ℕ, List, Option, length, true, false, IsTrue, IfOk, IfErr, OnOk, OnErr, IsErrOf, ◌↔◌, ◌⊎◌};
+ghost use Rattle.std.specs.Prelude.{◌≡◌, ◌≢◌, ◌+◌, ◌<◌, length, true, false, IsTrue, IfOk, IfErr, OnOk, OnErr, IsErrOf, ◌↔◌, ◌⊎◌};
 ghost use Rattle.std.specs.Io.{ReadsAtMost, WritesAtMost};
 ghost use Rattle.std.specs.Io.KnownBytes.{ReadConsumes, WriteAppends, Appends};
 ghost use Rattle.std.specs.IoError.{error_kind};
-ghost use Rattle.thes_base.specs.Pipe.{device_of, failed_of, ended_of, denied_of, IsFresh, unread, written, AppendsFront, AppendsUntil};
+ghost use Rattle.thes_base.specs.Pipe.{device_of, failed_of, ended_of, denied_of, calls_of, counted, IsFresh, PaysCalls, calls_limit, unread, written, AppendsFront, reading_fault, writing_fault};
 
 use crate::fault::PipeFault;
 use std::io;
@@ -30,19 +30,22 @@ impl Model for Budget {
 impl Budget {
     /// The budget of one call.
     pub fn new() -> Budget
-        ensures { result ≡ 100000000 }
+        ensures { result ≡ calls_limit }
     {
         Budget { left: 100_000_000 }
     }
 }
 
-/// A reader or writer, whether it failed, whether the end of its input was seen, and whether it was denied a read or a write.
+/// A reader or writer, with notes of what became of it: whether it failed, whether the end of its input was seen, whether
+/// it was denied a read or a write, and how many of them it was asked for.
 #[derive(Drop)]
 pub struct Pipe<T> {
     device: T,
     failed: bool,
     ended: bool,
     denied: bool,
+    // Stays at its greatest value.
+    calls: u64,
 }
 
 /// Why a pipe gave up.
@@ -55,10 +58,9 @@ pub enum Stop {
 }
 
 impl Stop {
-    /// What it is to an engine that read.
+    /// Returns the fault that an engine answers where its reader stopped.
     pub fn reading(self) -> PipeFault
-        ensures read { (result ≡ PipeFault.Read) ↔ (self ≡ Stop.Failed) }
-        ensures too_long { (result ≡ PipeFault.TooLong) ↔ (self ≡ Stop.TooLong) }
+        ensures { result ≡ reading_fault self }
     {
         match self {
             Stop::Failed => PipeFault::Read,
@@ -66,11 +68,9 @@ impl Stop {
         }
     }
 
-    /// What it is to an engine that wrote.
+    /// Returns the fault that an engine answers where its writer stopped.
     pub fn writing(self) -> PipeFault
-        ensures write { (result ≡ PipeFault.Write) ↔ (self ≡ Stop.Failed) }
-        ensures too_long { (result ≡ PipeFault.TooLong) ↔ (self ≡ Stop.TooLong) }
-        ensures front { (old new : Option (List ℕ)) (text : List ℕ) → AppendsFront old new text → AppendsUntil result old new text }
+        ensures { result ≡ writing_fault self }
     {
         match self {
             Stop::Failed => PipeFault::Write,
@@ -91,13 +91,14 @@ impl<T> Pipe<T> {
     pub fn new(device: T) -> Pipe<T>
         ensures device { device_of result ≡ device }
         ensures fresh { IsFresh result }
-        ensures denied { denied_of result ≡ false }
+        ensures calls { calls_of result ≡ 0 }
     {
         Pipe {
             device,
             failed: false,
             ended: false,
             denied: false,
+            calls: 0,
         }
     }
 
@@ -120,6 +121,13 @@ impl<T> Pipe<T> {
         ensures { result ≡ denied_of self.now }
     {
         self.denied
+    }
+
+    /// How many reads or writes were made. The number stays at 18,446,744,073,709,551,615.
+    pub fn calls(&self) -> u64
+        ensures { result ≡ calls_of self.now }
+    {
+        self.calls
     }
 
     /// The reader or writer back.
@@ -145,9 +153,11 @@ impl<R: Read> Pipe<R> {
         ensures failed { IfErr result (λ e. IsTrue (failed_of self.new) ↔ (IsTrue (failed_of self.old) ⊎ (error_kind e ≢ ErrorKind.Interrupted))) }
         ensures not_failed { OnOk result (failed_of self.new ≡ failed_of self.old) }
         ensures denied { denied_of self.new ≡ denied_of self.old }
-        ensures counted { budget.new + 1 ≡ budget.old }
+        ensures counted { calls_of self.new ≡ counted (calls_of self.old) 1 }
+        ensures paid { budget.new + 1 ≡ budget.old }
     {
         budget.left -= 1;
+        self.calls = self.calls.saturating_add(1);
         let result = self.device.read(buf);
         match &result {
             Ok(0) => self.ended = true,
@@ -166,10 +176,10 @@ impl<R: Read> Pipe<R> {
         ensures ended { IfOk result (λ n. IsTrue (ended_of self.new) ↔ (n ≡ 0)) }
         ensures not_ended { OnErr result (ended_of self.new ≡ false) }
         ensures failed { IsErrOf result Stop.Failed ↔ (failed_of self.new ≡ true) }
-        ensures denied { IsTrue (denied_of self.new) ↔ (IsTrue (denied_of self.old) ⊎ IsErrOf result Stop.TooLong) }
+        ensures denied { IsErrOf result Stop.TooLong ↔ (denied_of self.new ≡ true) }
         ensures too_long { IsErrOf result Stop.TooLong → budget.new ≡ 0 }
+        ensures paid { PaysCalls self.old self.new budget.old budget.new }
         ensures spent { OnOk result (budget.new < budget.old) }
-        ensures never_more { budget.new ≤ budget.old }
     {
         while budget.left > 0 {
             match self.read_once(budget, buf) {
@@ -199,9 +209,11 @@ impl<W: Write> Pipe<W> {
         ensures failed { IfErr result (λ e. IsTrue (failed_of self.new) ↔ (IsTrue (failed_of self.old) ⊎ (error_kind e ≢ ErrorKind.Interrupted))) }
         ensures ended { ended_of self.new ≡ ended_of self.old }
         ensures denied { denied_of self.new ≡ denied_of self.old }
-        ensures counted { budget.new + 1 ≡ budget.old }
+        ensures counted { calls_of self.new ≡ counted (calls_of self.old) 1 }
+        ensures paid { budget.new + 1 ≡ budget.old }
     {
         budget.left -= 1;
+        self.calls = self.calls.saturating_add(1);
         let result = self.device.write(bytes);
         match &result {
             Ok(0) => self.failed = true,
@@ -220,7 +232,7 @@ impl<W: Write> Pipe<W> {
         ensures failed { IsErrOf result Stop.Failed ↔ (failed_of self.new ≡ true) }
         ensures denied { IsTrue (denied_of self.new) ↔ (IsTrue (denied_of self.old) ⊎ IsErrOf result Stop.TooLong) }
         ensures too_long { IsErrOf result Stop.TooLong → budget.new ≡ 0 }
-        ensures never_more { budget.new ≤ budget.old }
+        ensures paid { PaysCalls self.old self.new budget.old budget.new }
     {
         let mut at = 0;
         while at < bytes.len() {

@@ -12,13 +12,14 @@ use Rattle.thes_base.specs.declared.data.LabelKind.TheVariants.{Pref}
 use Rattle.thes_base.specs.Labels.{Label, Labels, IsTaken}
 use Rattle.thes_base.specs.Links.{Links, HeldIn, norm, contracted, IsFirstBroken, unless_consistent}
 use Rattle.thes_base.specs.State.{State}
-use Rattle.thes_base.specs.Refusals.{Setting, unless_within, unless_unique, unless_owner, unless_label, unless_dropped, unless_relabelled, unless_ends, unless_pair, unless_live_concept, unless_listed, row_add_label, row_drop_label, row_relabel, row_link, row_unlink, row_merge, row_split, row_post}
+use Rattle.thes_base.specs.Refusals.{Setting, unless_within, unless_unique, unless_owner, unless_label, unless_dropped, unless_relabelled, unless_ends, unless_pair, unless_live_concept, unless_listed}
 use Rattle.thes_base.proofs.LinkLemmas.{row_of_first}
 use Rattle.thes_base.specs.declared.data.NewResource.{NewResource}
 use Rattle.thes_base.specs.declared.data.NewResource.TheVariants.{Scheme, Concept, Collection, Outside}
 use Rattle.thes_base.specs.Legal.{Legal, LegalLabels, LegalResources}
 use Rattle.thes_base.specs.Machine.{next_state, row_of, owned}
-use Rattle.thes_base.specs.Changes.{label, is_listed, made, outside_made, label_added, relabelled, link_added, merged, split_off, posted, scheme_resource, concept_resource, collection_resource}
+use Rattle.thes_base.specs.declared.request.Command.TheVariants as request
+use Rattle.thes_base.specs.Changes.{label, is_listed, made, outside_made, label_added, label_dropped, relabelled, link_added, link_dropped, merged, split_off, posted, scheme_resource, concept_resource, collection_resource}
 use Rattle.thes_base.proofs.RowParts.{concept_part, scheme_part, foreign_part, unique_part, owner_part, label_part, relabelled_part, ends_part, live_concept_part, pair_part, listed_part}
 use Rattle.thes_base.proofs.RowLemmas.{passed_if, passed_unless}
 use Rattle.thes_base.specs.Data.{LabelData}
@@ -109,18 +110,18 @@ module _ (t : Thesaurus) (kept : IsKept t) where
     abbrev add_row : LabelData → Row
     add_row l = unless_label t.vocab.labels t.vocab.resources (set.insert t.vocab.labels (owned owner l)) (owned owner l) (room (label_added (owned owner l) s))
 
-    pub add_stops : (l : LabelData) (r : Refusal) → unless_label t.vocab.labels t.vocab.resources (set.insert t.vocab.labels (owned owner l)) (owned owner l) accepted (Some r) → row_add_label (setting_of t) s (label_added (owned owner l) s) (owned owner l) (Some r)
+    pub add_stops : (l : LabelData) (r : Refusal) → unless_label t.vocab.labels t.vocab.resources (set.insert t.vocab.labels (owned owner l)) (owned owner l) accepted (Some r) → row_of (setting_of t) s (label_added (owned owner l) s) (request.AddLabel owner l) (Some r)
     add_stops l r says =
         (owner_part t.vocab.resources owner).passes (add_row l) (Some r) may
         ((label_part t.vocab.labels t.vocab.resources (set.insert t.vocab.labels (owned owner l)) (owned owner l)).stops (room (label_added (owned owner l) s)) r says)
 
-    pub add_passes : (l : LabelData) (answer : Option Refusal) → unless_label t.vocab.labels t.vocab.resources (set.insert t.vocab.labels (owned owner l)) (owned owner l) accepted None → HasRoomFor (growth_of 0 1 0 0 0) answer → row_add_label (setting_of t) s (label_added (owned owner l) s) (owned owner l) answer
+    pub add_passes : (l : LabelData) (answer : Option Refusal) → unless_label t.vocab.labels t.vocab.resources (set.insert t.vocab.labels (owned owner l)) (owned owner l) accepted None → HasRoomFor (growth_of 0 1 0 0 0) answer → row_of (setting_of t) s (label_added (owned owner l) s) (request.AddLabel owner l) answer
     add_passes l answer says free =
         (owner_part t.vocab.resources owner).passes (add_row l) answer may
         ((label_part t.vocab.labels t.vocab.resources (set.insert t.vocab.labels (owned owner l)) (owned owner l)).passes (room (label_added (owned owner l) s)) answer says
         (within_row (setting_of t) s (label_added (owned owner l) s) (growth_of 0 1 0 0 0) answer (label_grows s t.vocab.base kept.legal (owned owner l) (passed_if says).0) free))
 
-    pub drop_passes : (l : LabelData) (answer : Option Refusal) → unless_dropped t.vocab.labels (owned owner l) accepted answer → row_drop_label s (owned owner l) answer
+    pub drop_passes : (l : LabelData) (answer : Option Refusal) → unless_dropped t.vocab.labels (owned owner l) accepted answer → row_of (setting_of t) s (label_dropped (owned owner l) s) (request.DropLabel owner l) answer
     drop_passes l answer says = (owner_part t.vocab.resources owner).passes (unless_dropped t.vocab.labels (owned owner l) accepted) answer may says
 
     module _ (tag text : List ℕ) (keep : Bool) where
@@ -130,10 +131,10 @@ module _ (t : Thesaurus) (kept : IsKept t) where
       abbrev relabel_rest : Row
       relabel_rest = unless_relabelled t.vocab.labels t.vocab.resources after_relabel.labels owner tag (room after_relabel)
 
-      pub relabel_stops : (r : Refusal) → unless_relabelled t.vocab.labels t.vocab.resources after_relabel.labels owner tag accepted (Some r) → row_relabel (setting_of t) s after_relabel owner tag (Some r)
+      pub relabel_stops : (r : Refusal) → unless_relabelled t.vocab.labels t.vocab.resources after_relabel.labels owner tag accepted (Some r) → row_of (setting_of t) s after_relabel (request.Relabel owner tag text keep) (Some r)
       relabel_stops r says = (owner_part t.vocab.resources owner).passes relabel_rest (Some r) may ((relabelled_part t.vocab.labels t.vocab.resources after_relabel.labels owner tag).stops (room after_relabel) r says)
 
-      pub relabel_passes : (answer : Option Refusal) (more : ℕ) → more ≡ keep_growth keep → unless_relabelled t.vocab.labels t.vocab.resources after_relabel.labels owner tag accepted None → HasRoomFor (growth_of 0 more 0 0 0) answer → row_relabel (setting_of t) s after_relabel owner tag answer
+      pub relabel_passes : (answer : Option Refusal) (more : ℕ) → more ≡ keep_growth keep → unless_relabelled t.vocab.labels t.vocab.resources after_relabel.labels owner tag accepted None → HasRoomFor (growth_of 0 more 0 0 0) answer → row_of (setting_of t) s after_relabel (request.Relabel owner tag text keep) answer
       relabel_passes answer more is says free =
           (owner_part t.vocab.resources owner).passes relabel_rest answer may
           ((relabelled_part t.vocab.labels t.vocab.resources after_relabel.labels owner tag).passes (room after_relabel) answer says
@@ -152,21 +153,21 @@ module _ (t : Thesaurus) (kept : IsKept t) where
     as_kept : (answer : Option Refusal) → row_of_add t.graph.links (norm (set.contains t.graph.outside) l) answer → row_of_add t.graph.links kept_link answer
     as_kept answer says = subst (λ (f : ℕ → Bool). row_of_add t.graph.links (norm f l) answer) outside_same says
 
-    pub link_row_stops : (r : Refusal) (first : Option Refusal) → first ≡ Some r → row_of_add t.graph.links (norm (set.contains t.graph.outside) l) first → row_link (setting_of t) s (link_added l s) l (Some r)
+    pub link_row_stops : (r : Refusal) (first : Option Refusal) → first ≡ Some r → row_of_add t.graph.links (norm (set.contains t.graph.outside) l) first → row_of (setting_of t) s (link_added l s) (request.Link l.kind l.a l.b) (Some r)
     link_row_stops r first is says = (ends_part t.vocab.resources l).passes link_rest (Some r) may (link_stops t.graph.links kept_link (room (link_added l s)) r (subst (row_of_add t.graph.links kept_link) is (as_kept first says)))
 
-    pub link_row_passes : (answer first : Option Refusal) → first ≡ None → row_of_add t.graph.links (norm (set.contains t.graph.outside) l) first → HasRoomFor (growth_of 0 0 1 0 0) answer → row_link (setting_of t) s (link_added l s) l answer
+    pub link_row_passes : (answer first : Option Refusal) → first ≡ None → row_of_add t.graph.links (norm (set.contains t.graph.outside) l) first → HasRoomFor (growth_of 0 0 1 0 0) answer → row_of (setting_of t) s (link_added l s) (request.Link l.kind l.a l.b) answer
     link_row_passes answer first is says free =
         let none = subst (row_of_add t.graph.links kept_link) is (as_kept first says) in
         (ends_part t.vocab.resources l).passes link_rest answer may
         (link_passes t.graph.links kept_link (room (link_added l s)) answer none
         (within_row (setting_of t) s (link_added l s) (growth_of 0 0 1 0 0) answer (link_grows s l (not_held t.graph.links kept_link none)) free))
 
-    pub unlink_passes : (held : Bool) → held ≡ set.contains t.graph.links (norm (set.contains t.graph.outside) l) → held ≡ true → row_unlink s l None
+    pub unlink_passes : (held : Bool) → held ≡ set.contains t.graph.links (norm (set.contains t.graph.outside) l) → held ≡ true → row_of (setting_of t) s (link_dropped l s) (request.Unlink l.kind l.a l.b) None
     unlink_passes held is hit = (ends_part t.vocab.resources l).passes (refused_unless (HeldIn t.graph.links kept_link) no.NoSuchLink accepted) None may
         (inr (subst (λ (f : ℕ → Bool). HeldIn t.graph.links (norm f l)) outside_same (sym is ∙ hit), refl))
 
-    pub unlink_stops : (held : Bool) → held ≡ set.contains t.graph.links (norm (set.contains t.graph.outside) l) → held ≡ false → row_unlink s l (Some no.NoSuchLink)
+    pub unlink_stops : (held : Bool) → held ≡ set.contains t.graph.links (norm (set.contains t.graph.outside) l) → held ≡ false → row_of (setting_of t) s (link_dropped l s) (request.Unlink l.kind l.a l.b) (Some no.NoSuchLink)
     unlink_stops held is miss = (ends_part t.vocab.resources l).passes (refused_unless (HeldIn t.graph.links kept_link) no.NoSuchLink accepted) (Some no.NoSuchLink) may
         (inl ((λ has. let bad : true ≡ false = sym (subst (λ (f : ℕ → Bool). HeldIn t.graph.links (norm f l)) (sym outside_same) has) ∙ sym is ∙ miss in cc), refl))
 
@@ -182,10 +183,10 @@ module _ (t : Thesaurus) (kept : IsKept t) where
     as_joined : (answer : Option Refusal) → IsFirstBroken (HeldIn (contracted (set.contains t.graph.outside) source target t.graph.links)) answer → IsFirstBroken (HeldIn after_merge.links) answer
     as_joined answer broken = subst (λ (f : ℕ → Bool). IsFirstBroken (HeldIn (contracted f source target t.graph.links)) answer) outside_same broken
 
-    pub merge_stops : (r : Refusal) (first : Option Refusal) → first ≡ Some r → IsFirstBroken (HeldIn (contracted (set.contains t.graph.outside) source target t.graph.links)) first → row_merge (setting_of t) s after_merge source target (Some r)
+    pub merge_stops : (r : Refusal) (first : Option Refusal) → first ≡ Some r → IsFirstBroken (HeldIn (contracted (set.contains t.graph.outside) source target t.graph.links)) first → row_of (setting_of t) s after_merge (request.Merge source target) (Some r)
     merge_stops r first is broken = (pair_part t.vocab.resources source target).passes merge_rest (Some r) may (broken_stops (HeldIn after_merge.links) (room after_merge) r (subst (IsFirstBroken (HeldIn after_merge.links)) is (as_joined first broken)))
 
-    pub merge_passes : (answer : Option Refusal) (taken : ℕ) (first : Option Refusal) → first ≡ None → IsFirstBroken (HeldIn (contracted (set.contains t.graph.outside) source target t.graph.links)) first → set.len t.vocab.labels + taken ≡ set.len after_merge.labels → set.len after_merge.links ≤ set.len t.graph.links → HasRoomFor (growth_of 0 taken 0 0 (standing_count source t.book)) answer → row_merge (setting_of t) s after_merge source target answer
+    pub merge_passes : (answer : Option Refusal) (taken : ℕ) (first : Option Refusal) → first ≡ None → IsFirstBroken (HeldIn (contracted (set.contains t.graph.outside) source target t.graph.links)) first → set.len t.vocab.labels + taken ≡ set.len after_merge.labels → set.len after_merge.links ≤ set.len t.graph.links → HasRoomFor (growth_of 0 taken 0 0 (standing_count source t.book)) answer → row_of (setting_of t) s after_merge (request.Merge source target) answer
     merge_passes answer taken first is broken gained fewer free =
         (pair_part t.vocab.resources source target).passes merge_rest answer may
         (broken_passes (HeldIn after_merge.links) (room after_merge) answer (subst (IsFirstBroken (HeldIn after_merge.links)) is (as_joined first broken))
@@ -201,16 +202,16 @@ module _ (t : Thesaurus) (kept : IsKept t) where
     abbrev name_rest : Row
     name_rest = unless_unique after_split.resources after_split.labels (room after_split)
 
-    pub listed_stops : (r : Refusal) → unless_listed t.book source postings accepted (Some r) → row_split (setting_of t) s after_split source postings (Some r)
+    pub listed_stops : (r : Refusal) → unless_listed t.book source postings accepted (Some r) → row_of (setting_of t) s after_split (request.Split source tag text postings) (Some r)
     listed_stops r says = (live_concept_part t.vocab.resources source).passes (unless_listed t.book source postings name_rest) (Some r) may ((listed_part t.book source postings).stops name_rest r says)
 
     module _ (listed : unless_listed t.book source postings accepted None) where
-      pub name_stops : (r : Refusal) → unless_unique after_split.resources after_split.labels accepted (Some r) → row_split (setting_of t) s after_split source postings (Some r)
+      pub name_stops : (r : Refusal) → unless_unique after_split.resources after_split.labels accepted (Some r) → row_of (setting_of t) s after_split (request.Split source tag text postings) (Some r)
       name_stops r says =
           (live_concept_part t.vocab.resources source).passes (unless_listed t.book source postings name_rest) (Some r) may
           ((listed_part t.book source postings).passes name_rest (Some r) listed ((unique_part after_split.resources after_split.labels).stops (room after_split) r says))
 
-      pub split_passes : (answer : Option Refusal) → count_by (is_listed postings) t.book ≡ length postings → unless_unique after_split.resources after_split.labels accepted None → HasRoomFor (growth_of 1 1 0 0 (length postings)) answer → row_split (setting_of t) s after_split source postings answer
+      pub split_passes : (answer : Option Refusal) → count_by (is_listed postings) t.book ≡ length postings → unless_unique after_split.resources after_split.labels accepted None → HasRoomFor (growth_of 1 1 0 0 (length postings)) answer → row_of (setting_of t) s after_split (request.Split source tag text postings) answer
       split_passes answer count unique free =
           (live_concept_part t.vocab.resources source).passes (unless_listed t.book source postings name_rest) answer may
           ((listed_part t.book source postings).passes name_rest answer listed
@@ -220,7 +221,7 @@ module _ (t : Thesaurus) (kept : IsKept t) where
 
   -- A posting.
 
-  pub post_passes : (key rec : List ℕ) (concept : ℕ) (answer : Option Refusal) → unless_live_concept t.vocab.resources concept accepted None → HasRoomFor (growth_of 0 0 0 1 0) answer → row_post (setting_of t) s (posted key rec concept s) concept answer
+  pub post_passes : (key rec : List ℕ) (concept : ℕ) (answer : Option Refusal) → unless_live_concept t.vocab.resources concept accepted None → HasRoomFor (growth_of 0 0 0 1 0) answer → row_of (setting_of t) s (posted key rec concept s) (request.Post key rec concept) answer
   post_passes key rec concept answer may free =
       (live_concept_part t.vocab.resources concept).passes (room (posted key rec concept s)) answer may (within_row (setting_of t) s (posted key rec concept s) (growth_of 0 0 0 1 0) answer (posted_grows s key rec concept) free)
 

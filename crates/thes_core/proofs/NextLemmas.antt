@@ -10,61 +10,22 @@ use Rattle.thes_base.specs.State.{State}
 use Rattle.thes_base.specs.Refusals.{Setting, IsSetting}
 use Rattle.thes_base.specs.Legal.{Legal}
 use Rattle.thes_base.specs.Texts.{HasForms}
-use Rattle.thes_base.specs.Machine.{Step, Run, next_state, answer_of, row_of}
+use Rattle.thes_base.specs.Machine.{Step, Run, KnownAnswer, HasNewKey, next_state, answer_of, row_of}
 use Rattle.thes_base.proofs.Sound.{IsSound, sound_of_legal}
 use Rattle.thes_base.proofs.MachineLemmas.{step_sound, step_legal}
-use Rattle.thes_core.specs.Decides.{Accepts, IsFresh, KnownAnswer}
+use Rattle.thes_core.specs.Decides.{Accepts}
 
 -- the machine's step, where nothing refuses it
 pub step_of_accepted : (setting : Setting) (s : State) (command : Command) → Accepts setting s command → Step setting s command (answer_of command s) (next_state command s)
-step_of_accepted setting s (request.Scheme tag text) ok = inr (ok.row, refl, refl)
-step_of_accepted setting s (request.Concept scheme tag text) ok = inr (ok.row, refl, refl)
-step_of_accepted setting s (request.Collection scheme tag text) ok = inr (ok.row, refl, refl)
-step_of_accepted setting s (request.Outside iri) ok = inr (ok.row, refl, refl)
-step_of_accepted setting s (request.AddLabel owner l) ok = inr (ok.row, refl, refl)
-step_of_accepted setting s (request.DropLabel owner l) ok = inr (ok.row, refl, refl)
-step_of_accepted setting s (request.Relabel owner tag text keep) ok = inr (ok.row, refl, refl)
-step_of_accepted setting s (request.Link kind a b) ok = inr (ok.row, refl, refl)
-step_of_accepted setting s (request.Unlink kind a b) ok = inr (ok.row, refl, refl)
-step_of_accepted setting s (request.Deprecate concept) ok = inr (ok.row, refl, refl)
-step_of_accepted setting s (request.Merge source target) ok = inr (ok.row, refl, refl)
-step_of_accepted setting s (request.Split source tag text postings) ok = inr (ok.row, refl, refl)
-step_of_accepted setting s (request.Post key rec concept) ok = inr (ok.fresh, inr (ok.row, refl, refl))
-step_of_accepted setting s (request.Withdraw posting) ok = inr (ok.row, refl, refl)
+step_of_accepted setting s command ok = inr (ok.fresh, inr (ok.row, refl, refl))
 
 -- the machine's step, where the row names a refusal
-pub step_of_refused : (setting : Setting) (s : State) (command : Command) (r : Refusal) → IsFresh command s → row_of setting s (next_state command s) command (Some r) → Step setting s command (reply.No r) s
-step_of_refused setting s (request.Scheme tag text) r fresh row = inl (r, row, refl, refl)
-step_of_refused setting s (request.Concept scheme tag text) r fresh row = inl (r, row, refl, refl)
-step_of_refused setting s (request.Collection scheme tag text) r fresh row = inl (r, row, refl, refl)
-step_of_refused setting s (request.Outside iri) r fresh row = inl (r, row, refl, refl)
-step_of_refused setting s (request.AddLabel owner l) r fresh row = inl (r, row, refl, refl)
-step_of_refused setting s (request.DropLabel owner l) r fresh row = inl (r, row, refl, refl)
-step_of_refused setting s (request.Relabel owner tag text keep) r fresh row = inl (r, row, refl, refl)
-step_of_refused setting s (request.Link kind a b) r fresh row = inl (r, row, refl, refl)
-step_of_refused setting s (request.Unlink kind a b) r fresh row = inl (r, row, refl, refl)
-step_of_refused setting s (request.Deprecate concept) r fresh row = inl (r, row, refl, refl)
-step_of_refused setting s (request.Merge source target) r fresh row = inl (r, row, refl, refl)
-step_of_refused setting s (request.Split source tag text postings) r fresh row = inl (r, row, refl, refl)
-step_of_refused setting s (request.Post key rec concept) r fresh row = inr (fresh, inl (r, row, refl, refl))
-step_of_refused setting s (request.Withdraw posting) r fresh row = inl (r, row, refl, refl)
+pub step_of_refused : (setting : Setting) (s : State) (command : Command) (r : Refusal) → HasNewKey command s → row_of setting s (next_state command s) command (Some r) → Step setting s command (reply.No r) s
+step_of_refused setting s command r fresh row = inr (fresh, inl (r, row, refl, refl))
 
 -- the machine's step, where the key is known
 pub step_of_known : (setting : Setting) (s : State) (command : Command) (answer : Answer) → KnownAnswer command s answer → Step setting s command answer s
-step_of_known setting s (request.Post key rec concept) answer (h, is_key, again) = inl (h, is_key, again, refl)
-step_of_known setting s (request.Scheme tag text) answer known = absurd known
-step_of_known setting s (request.Concept scheme tag text) answer known = absurd known
-step_of_known setting s (request.Collection scheme tag text) answer known = absurd known
-step_of_known setting s (request.Outside iri) answer known = absurd known
-step_of_known setting s (request.AddLabel owner l) answer known = absurd known
-step_of_known setting s (request.DropLabel owner l) answer known = absurd known
-step_of_known setting s (request.Relabel owner tag text keep) answer known = absurd known
-step_of_known setting s (request.Link kind a b) answer known = absurd known
-step_of_known setting s (request.Unlink kind a b) answer known = absurd known
-step_of_known setting s (request.Deprecate concept) answer known = absurd known
-step_of_known setting s (request.Merge source target) answer known = absurd known
-step_of_known setting s (request.Split source tag text postings) answer known = absurd known
-step_of_known setting s (request.Withdraw posting) answer known = absurd known
+step_of_known setting s command answer known = inl (known, refl)
 
 pub next_sound : (setting : Setting) → IsSetting setting → (s : State) (command : Command) → Legal setting.base s → Accepts setting s command → IsSound setting.base (next_state command s)
 next_sound setting fit s command legal ok =

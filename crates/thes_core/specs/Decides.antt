@@ -1,32 +1,20 @@
 -- What is decided of a request, and what a core has done after it.
 use Rattle.std.specs.Prelude.{◌≡◌, ◌⊎◌, ◌++◌, List, None, Result, Ok, Err, true, false}
-use Rattle.thes_base.specs.declared.data.History.{History}
 use Rattle.thes_base.specs.declared.fault.Fault.{Fault}
 use Rattle.thes_base.specs.declared.fault.Fault.TheVariants.{OutOfMemory}
 use Rattle.thes_base.specs.declared.request.Command.{Command}
-use Rattle.thes_base.specs.declared.request.Command.TheVariants as request
 use Rattle.thes_base.specs.declared.request.Answer.{Answer}
 use Rattle.thes_base.specs.State.{State}
-use Rattle.thes_base.specs.Refusals.{Setting, IsOfKey}
-use Rattle.thes_base.specs.Machine.{Step, Run, Repeated, next_state, row_of}
+use Rattle.thes_base.specs.Refusals.{Setting}
+use Rattle.thes_base.specs.Machine.{Step, Run, HasNewKey, next_state, row_of}
 use Rattle.thes_core.specs.declared.verdict.Verdict.{Verdict}
 use Rattle.thes_core.specs.declared.verdict.Verdict.TheVariants.{Settled, Accepted}
 use Rattle.thes_core.specs.Kept.{Kept}
 
--- a new posting's key is no other's
-abbrev pub IsFresh : Command → State → Type 0
-IsFresh (request.Post key rec concept) s = (h : History) → ¬ IsOfKey key s.histories h
-IsFresh _ s = Unit {0}
-
 -- Nothing refuses the request in this state, nor was it answered before.
 pub record Accepts (setting : Setting) (s : State) (command : Command) : Type 0 where
-  pub fresh : IsFresh command s
+  pub fresh : HasNewKey command s
   pub row : row_of setting s (next_state command s) command None
-
--- The answer to a key that is known.
-abbrev pub KnownAnswer : Command → State → Answer → Type 0
-KnownAnswer (request.Post key rec concept) s answer = (h : History) × IsOfKey key s.histories h × Repeated rec concept h answer
-KnownAnswer _ s answer = ⊥
 
 -- The machine's step, where it leaves the state as it is, or the leave to make its next state.
 abbrev pub Decides : Setting → State → Command → Verdict → Type 0

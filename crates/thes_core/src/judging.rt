@@ -1,14 +1,13 @@
 //! Which refusal a request meets: its row of sentences, part by part, as its arguments, the vocabulary, the graph, the
 //! book and the limits show.
 ghost use Rattle.std.specs.Prelude.{◌≡◌, ◌≢◌, Some, IfOk, IfSome, IfNone, List, ℕ};
-ghost use Rattle.thes_core.specs.Decides.{IsFresh, KnownAnswer};
 ghost use Rattle.thes_base.specs.declared.fault.Refusal.TheVariants as no;
 ghost use Rattle.thes_base.specs.declared.request.Command.TheVariants as request;
 ghost use Rattle.thes_base.specs.Rows.{refused_unless, accepted};
 ghost use Rattle.thes_base.specs.Resources.{IsConcept, scheme_of};
 ghost use Rattle.thes_base.specs.Changes.{made, concept_resource};
 ghost use Rattle.thes_base.specs.Refusals.{unless_unique};
-ghost use Rattle.thes_base.specs.Machine.{next_state, row_of};
+ghost use Rattle.thes_base.specs.Machine.{HasNewKey, KnownAnswer, next_state, row_of};
 ghost use Rattle.thes_base.specs.Links.{HeldIn, norm, contracted, IsFirstBroken};
 ghost use Rattle.thes_graph.specs.Judge.{row_of_add};
 ghost use Rattle.thes_graph.specs.Net.{is_marked};
@@ -321,7 +320,7 @@ impl Thesaurus {
     pub(crate) fn known(&self, command: &Command) -> Option<Answer>
         requires { IsKept self.now }
         ensures some { IfSome result (λ a. KnownAnswer command.now (state_of self.now) a) }
-        ensures none { IfNone result (IsFresh command.now (state_of self.now)) }
+        ensures none { IfNone result (HasNewKey command.now (state_of self.now)) }
     {
         let Command::Post(key, rec, concept) = command else {
             return None;

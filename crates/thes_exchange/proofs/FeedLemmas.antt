@@ -1,8 +1,8 @@
 -- Lines within bytes.
 use Rattle.std.proofs.Common.{◌≡◌, ◌+◌, ◌∙◌, ap, ℕ, List, [], ◌∷◌, ◌++◌, ◌==◌, Bool, true, false, cond, refl, length, length-append, sym, subst, Option, None, Some}
-use Rattle.std.specs.Io.KnownBytes.{Consumes, Keeps}
-use Rattle.thes_base.proofs.PipeLemmas.{consumes_then}
-use Rattle.thes_exchange.specs.Feed.{has_newline, left, TakesPart}
+use Rattle.std.proofs.KnownBytes.{Consumes-trans}
+use Rattle.std.specs.Io.KnownBytes.{Consumes, Keeps, prepend_known}
+use Rattle.thes_exchange.specs.Feed.{has_newline, TakesPart}
 
 has_newline-more : (raw : List ℕ) (b : ℕ) → has_newline raw ≡ false → (b == 10) ≡ false → has_newline (raw ++ b ∷ []) ≡ false
 has_newline-more [] b h e = rw e refl
@@ -21,22 +21,22 @@ pub front_more : (old mid new : Option (List ℕ)) (line line' : List ℕ) (held
     → TakesFront old new line' held' (taken + 1)
 front_more old mid new line line' held held' taken b f s e k = record {
   raw = f.raw ++ b ∷ [];
-  bytes = consumes_then old mid new f.raw (b ∷ []) f.bytes s;
+  bytes = Consumes-trans old mid new f.raw (b ∷ []) f.bytes s;
   one = has_newline-more f.raw b f.one e;
   count = rw (length-append f.raw (b ∷ [])) (ap (λ n. n + 1) f.count);
   kept = λ h. let p = k h in p.1 ∙ ap (λ t. t ++ b ∷ []) (f.kept p.0);
 }
 
-part_bytes : (old mid new : Option (List ℕ)) (raw : List ℕ) → Consumes old mid raw → Keeps mid (left [] new) → Consumes old new raw
+part_bytes : (old mid new : Option (List ℕ)) (raw : List ℕ) → Consumes old mid raw → Keeps mid (prepend_known [] new) → Consumes old new raw
 part_bytes None mid new raw f k = tt
 part_bytes (Some xs) None new raw f k = absurd f
 part_bytes (Some xs) (Some m) None raw f k = absurd k
 part_bytes (Some xs) (Some m) (Some n) raw f k = f ∙ ap (λ t. raw ++ t) (sym k)
 
 -- nothing is held, and the reader gives no more
-pub front_part : (old mid new : Option (List ℕ)) (line rest : List ℕ) (held : Bool) (taken : ℕ) → TakesFront old mid line held taken → Keeps mid (left rest new) → rest ≡ [] → TakesPart old new
+pub front_part : (old mid new : Option (List ℕ)) (line rest : List ℕ) (held : Bool) (taken : ℕ) → TakesFront old mid line held taken → Keeps mid (prepend_known rest new) → rest ≡ [] → TakesPart old new
 front_part old mid new line rest held taken f k e = record {
   raw = f.raw;
-  bytes = part_bytes old mid new f.raw f.bytes (subst (λ (r : List ℕ). Keeps mid (left r new)) e k);
+  bytes = part_bytes old mid new f.raw f.bytes (subst (λ (r : List ℕ). Keeps mid (prepend_known r new)) e k);
   one = f.one;
 }

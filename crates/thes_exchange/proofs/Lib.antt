@@ -1,3 +1,4 @@
+pub mod ServeLemmas
 pub mod MemberLemmas
 pub mod ReadingLemmas
 pub mod FeedLemmas

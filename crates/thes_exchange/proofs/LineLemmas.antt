@@ -1,10 +1,9 @@
--- The first line of some bytes, and the lines after it.
-use Rattle.std.proofs.Common.{◌≡◌, ◌≢◌, ◌∙◌, sym, ap, refl, ℕ, ◌<◌, List, [], ◌∷◌, ◌++◌, ◌==◌, length, length-append, append_assoc, append-nil, Bool, true, false, cond, Option, Some, None, rules, arith}
+-- Lines of bytes, one after another.
+use Rattle.std.proofs.Common.{◌≡◌, ◌≢◌, ◌⊎◌, inl, inr, ◌∙◌, sym, ap, refl, ℕ, List, [], ◌∷◌, ◌++◌, ◌==◌, map, append_assoc, append-nil, Bool, true, false, cond, rules}
 use Rattle.std.specs.List.{slice_split, onto_first}
 use Rattle.std.specs.Str.Lines.{lines, lines_of_parts, strip_carriage_return}
-use Rattle.std.specs.Io.KnownBytes.{Consumes}
-use Rattle.thes_exchange.specs.Feed.{has_newline, line_text, line_limit, TakesLine, IsTooLong}
-use Rattle.thes_exchange.specs.Script.{whole_lines, whole_lines_of}
+use Rattle.thes_exchange.specs.Feed.{has_newline, line_bytes, line_text}
+use Rattle.thes_exchange.specs.Script.{EndsLine, whole_lines, whole_lines_of}
 
 abbrev at_newline : ℕ → Bool
 at_newline b = b == 10
@@ -51,70 +50,59 @@ whole_last : (raw : List ℕ) → has_newline raw ≡ false → raw ≢ [] → w
 whole_last [] h n = absurd (n refl)
 whole_last (x ∷ raw) h n = let some : whole_lines_of ((x ∷ raw) ∷ []) ≡ (x ∷ raw) ∷ [] = search rules in rw (split_last (x ∷ raw) h) some
 
--- what taking a line leaves
-pub record Leaves (xs : List ℕ) (new : Option (List ℕ)) (raw : List ℕ) (ended : Bool) : Type 0 where
-  pub rest : List ℕ
-  pub is_rest : new ≡ Some rest
-  pub texts : lines xs ≡ line_text raw ended ∷ lines rest
-  pub wholes : whole_lines xs ≡ raw ∷ whole_lines rest
+-- the bytes of a line, whether or not the input ends with it
+line_lines : (raw : List ℕ) (ended : Bool) → has_newline raw ≡ false → (ended ≡ true → raw ≢ []) → lines (line_bytes raw ended) ≡ line_text raw ended ∷ []
+line_lines raw true h some = lines_last raw h (some refl)
+line_lines raw false h some = lines_line raw [] h
 
-pub leaves : (xs : List ℕ) (new : Option (List ℕ)) (raw : List ℕ) (ended : Bool) → TakesLine (Some xs) new raw ended → Leaves xs new raw ended
-leaves xs None raw ended k = absurd k.bytes
-leaves xs (Some ys) raw false k = let split = k.bytes ∙ append_assoc raw (10 ∷ []) ys in record {
-  rest = ys;
-  is_rest = refl;
-  texts = ap lines split ∙ lines_line raw ys k.one;
-  wholes = ap whole_lines split ∙ whole_line raw ys k.one;
-}
-leaves xs (Some ys) raw true k =
-    let last = k.last refl in
-    let all : xs ≡ raw = k.bytes ∙ (ap (λ t. raw ++ t) last.1 ∙ append-nil raw) in record {
-      rest = ys;
-      is_rest = refl;
-      texts = ap lines all ∙ (lines_last raw k.one last.0 ∙ ap (λ t. raw ∷ t) (sym (ap lines last.1)));
-      wholes = ap whole_lines all ∙ (whole_last raw k.one last.0 ∙ ap (λ t. raw ∷ t) (sym (ap whole_lines last.1)));
-    }
+pub line_whole : (raw : List ℕ) (ended : Bool) → has_newline raw ≡ false → (ended ≡ true → raw ≢ []) → whole_lines (line_bytes raw ended) ≡ raw ∷ []
+line_whole raw true h some = whole_last raw h (some refl)
+line_whole raw false h some = whole_line raw [] h
 
--- The first line of bytes that begin with more than a line may hold.
+-- Bytes that end a line, and those that follow.
 
--- what stands before the first newline, with bytes before it that have none
-split_front : (raw ys : List ℕ) → has_newline raw ≡ false → (y : List ℕ) (more : List (List ℕ)) → slice_split at_newline ys ≡ y ∷ more → slice_split at_newline (raw ++ ys) ≡ (raw ++ y) ∷ more
-split_front [] ys h y more s = s
-split_front (x ∷ raw) ys h y more s =
-    let parts = slice_split at_newline (raw ++ ys) in
-    elim (at_newline x) as (λ t. cond t true (has_newline raw) ≡ false → cond t ([] ∷ parts) (onto_first x parts) ≡ (x ∷ (raw ++ y)) ∷ more) [
-      | true ↦ λ k. cc
-      | false ↦ λ k. ap (onto_first x) (split_front raw ys k y more s)
-    ] h
+split_append : (xs ys : List ℕ) → slice_split at_newline (xs ++ 10 ∷ ys) ≡ slice_split at_newline xs ++ slice_split at_newline ys
+split_append [] ys = refl
+split_append (x ∷ xs) ys =
+    let more = split_append xs ys in
+    let s = split_some xs in
+    elim (at_newline x) as (λ t. cond t ([] ∷ slice_split at_newline (xs ++ 10 ∷ ys)) (onto_first x (slice_split at_newline (xs ++ 10 ∷ ys)))
+    ≡ cond t ([] ∷ slice_split at_newline xs) (onto_first x (slice_split at_newline xs)) ++ slice_split at_newline ys) [
+      | true ↦ ap (λ p. [] ∷ p) more
+      | false ↦ rw (more, s.2) refl
+    ]
 
-whole_first : (x : ℕ) (line : List ℕ) (more : List (List ℕ)) → (after : List (List ℕ)) × (whole_lines_of ((x ∷ line) ∷ more) ≡ (x ∷ line) ∷ after)
-whole_first x line [] = let one : whole_lines_of ((x ∷ line) ∷ []) ≡ (x ∷ line) ∷ [] = search rules in ([], one)
-whole_first x line (y ∷ more) = (whole_lines_of (y ∷ more), refl)
+parts_append : (ps : List (List ℕ)) (q : List ℕ) (qs : List (List ℕ)) → lines_of_parts (ps ++ q ∷ qs) ≡ map strip_carriage_return ps ++ lines_of_parts (q ∷ qs)
+parts_append [] q qs = refl
+parts_append (p ∷ []) q qs = refl
+parts_append (p ∷ r ∷ ps) q qs = ap (λ t. strip_carriage_return p ∷ t) (parts_append (r ∷ ps) q qs)
 
-first_line : (raw ys : List ℕ) → has_newline raw ≡ false → raw ≢ [] → (y : List ℕ) × (after : List (List ℕ)) × (whole_lines (raw ++ ys) ≡ (raw ++ y) ∷ after)
-first_line [] ys h n = absurd (n refl)
-first_line (x ∷ raw) ys h n =
-    let s = split_some ys in
-    let w = whole_first x (raw ++ s.0) s.1 in
-    (s.0, w.0, ap whole_lines_of (split_front (x ∷ raw) ys h s.0 s.1 s.2) ∙ w.1)
+whole_append : (ps : List (List ℕ)) (q : List ℕ) (qs : List (List ℕ)) → whole_lines_of (ps ++ q ∷ qs) ≡ ps ++ whole_lines_of (q ∷ qs)
+whole_append [] q qs = refl
+whole_append (p ∷ []) q qs = refl
+whole_append (p ∷ r ∷ ps) q qs = ap (λ t. p ∷ t) (whole_append (r ∷ ps) q qs)
 
--- the first line is too long
-pub record LongFirst (xs : List ℕ) : Type 0 where
-  pub line : List ℕ
-  pub more : List (List ℕ)
-  pub wholes : whole_lines xs ≡ line ∷ more
-  pub long : line_limit < length line
+lines_front : (front ys : List ℕ) → lines (front ++ 10 ∷ ys) ≡ map strip_carriage_return (slice_split at_newline front) ++ lines ys
+lines_front front ys = let s = split_some ys in rw (split_append front ys, s.2) (parts_append (slice_split at_newline front) s.0 s.1)
 
-long_front : (xs raw : List ℕ) (rest : Option (List ℕ)) → Consumes (Some xs) rest raw → has_newline raw ≡ false → line_limit < length raw → LongFirst xs
-long_front xs raw None taken one long = absurd taken
-long_front xs raw (Some ys) taken one long =
-    let some : raw ≢ [] = λ e. let none : length raw ≡ 0 = ap length e in omega (arith, none, long) in
-    let f = first_line raw ys one some in record {
-      line = raw ++ f.0;
-      more = f.1;
-      wholes = ap whole_lines taken ∙ f.2;
-      long = rw (length-append raw f.0) (omega (arith, long));
-    }
+whole_front : (front ys : List ℕ) → whole_lines (front ++ 10 ∷ ys) ≡ slice_split at_newline front ++ whole_lines ys
+whole_front front ys = let s = split_some ys in rw (split_append front ys, s.2) (whole_append (slice_split at_newline front) s.0 s.1)
 
-pub long_first : (xs : List ℕ) → IsTooLong (Some xs) → LongFirst xs
-long_first xs t = long_front xs t.raw t.rest t.bytes t.one t.long
+pub lines-append : (xs ys : List ℕ) → EndsLine xs → lines (xs ++ ys) ≡ lines xs ++ lines ys
+lines-append xs ys (inl none) = rw none refl
+lines-append xs ys (inr (front, e)) = rw (e, append_assoc front (10 ∷ []) ys, lines_front front ys, lines_front front [], append-nil (map strip_carriage_return (slice_split at_newline front))) refl
+
+pub whole_lines-append : (xs ys : List ℕ) → EndsLine xs → whole_lines (xs ++ ys) ≡ whole_lines xs ++ whole_lines ys
+whole_lines-append xs ys (inl none) = rw none refl
+whole_lines-append xs ys (inr (front, e)) = rw (e, append_assoc front (10 ∷ []) ys, whole_front front ys, whole_front front [], append-nil (slice_split at_newline front)) refl
+
+-- a line after bytes that end a line
+pub lines-more : (xs raw : List ℕ) (ended : Bool) → EndsLine xs → has_newline raw ≡ false → (ended ≡ true → raw ≢ []) → lines (xs ++ line_bytes raw ended) ≡ lines xs ++ line_text raw ended ∷ []
+lines-more xs raw ended e h some = lines-append xs (line_bytes raw ended) e ∙ ap (λ t. lines xs ++ t) (line_lines raw ended h some)
+
+pub whole_lines-more : (xs raw : List ℕ) (ended : Bool) → EndsLine xs → has_newline raw ≡ false → (ended ≡ true → raw ≢ []) → whole_lines (xs ++ line_bytes raw ended) ≡ whole_lines xs ++ raw ∷ []
+whole_lines-more xs raw ended e h some = whole_lines-append xs (line_bytes raw ended) e ∙ ap (λ t. whole_lines xs ++ t) (line_whole raw ended h some)
+
+-- and it ends with a line again, if the input goes on
+pub ends_again : (xs raw : List ℕ) (ended : Bool) → ended ≡ false → EndsLine (xs ++ line_bytes raw ended)
+ends_again xs raw ended e = inr (xs ++ raw, rw e (sym (append_assoc xs raw (10 ∷ []))))

@@ -34,3 +34,9 @@ one_outcome (unless rule f rest) x y (inl h) (inl k) = h.1 ∙ sym k.1
 one_outcome (unless rule f rest) x y (inl h) (inr k) = absurd (h.0 k.0)
 one_outcome (unless rule f rest) x y (inr h) (inl k) = absurd (k.0 h.0)
 one_outcome (unless rule f rest) x y (inr h) (inr k) = one_outcome rest x y h.1 k.1
+
+-- and it is not so that it reaches none
+pub some_outcome : {A : Type 0} (reading : Reading A) → ¬ ¬ ((x : Result A FormFault) × Reaches reading x)
+some_outcome (reads v) none = none (Ok v, refl)
+some_outcome (fails f) none = none (Err f, refl)
+some_outcome (unless rule f rest) none = none (Err f, inl (λ holds. some_outcome rest (λ p. none (p.0, inr (holds, p.1))), refl))

@@ -1,28 +1,34 @@
 -- A script, a line further.
-use Rattle.std.proofs.Common.{◌≡◌, ◌∙◌, sym, ap, refl, subst, ℕ, ◌+◌, take, ◌<◌, ◌≤◌, List, [], ◌∷◌, ◌++◌, length, length-append, append_assoc, append-nil, Bool, true, false, cond, ◌==◌, Option, Some, None, arith, IfSome}
+use Rattle.std.proofs.Common.{◌≡◌, ◌≢◌, ◌⊎◌, inl, inr, ◌∙◌, sym, ap, refl, subst, ℕ, ◌+◌, ◌<◌, ◌≤◌, ◌↔◌, List, [], ◌∷◌, ◌++◌, length, length-append, append_assoc, append-nil, Bool, true, false, Option, Some, None, Result, Err, arith}
+use Rattle.std.proofs.KnownBytes.{Appends-trans, Appends-nil, Consumes-trans, Consumes-nil, Consumes-kept}
 use Rattle.std.proofs.lemmas.Grind.{flat_map-append, fold-append}
 use Rattle.std.proofs.lemmas.List.Elements.{All-push, All-nil, All-head, All-tail}
-use Rattle.std.proofs.Math.Seq.{take-append_seam, take-append-add}
 use Rattle.std.specs.List.{All}
 use Rattle.std.specs.Str.Lines.{lines}
-use Rattle.std.specs.Io.KnownBytes.{Keeps, IsAtEnd}
-use Rattle.thes_base.specs.Pipe.{AppendsUntil}
-use Rattle.thes_base.proofs.PipeLemmas.{appends_then, appends_none, appends_until, until_then}
-use Rattle.thes_exchange.specs.Feed.{left, has_newline, line_text, line_limit, TakesLine, TakesPart, IsTooLong}
-use Rattle.thes_exchange.specs.Serving.{Serving}
-use Rattle.thes_exchange.specs.Script.{StepLine, RunLines, AreAllowed, lines_limit, whole_lines, line_of, script_text, noted, nothing_noted, newlines, IsScript, IsStopped, IsCutOff, IsBroken}
-use Rattle.thes_exchange.specs.Served.{ServesLine, StopsAtLine, Ran, Served, Fed}
-use Rattle.thes_exchange.specs.declared.serve.Outcome.{Outcome}
-use Rattle.thes_exchange.specs.declared.script.Ended.{Ended}
+use Rattle.std.specs.Io.KnownBytes.{Appends, Consumes, IsAtEnd, prepend_known}
+use Rattle.thes_base.specs.Pipe.{failed_of, ended_of, denied_of, unread, written, reading_fault}
+use Rattle.thes_base.specs.declared.fault.Fault.TheVariants.{OutOfMemory}
+use Rattle.thes_base.specs.declared.pipe.Stop.{Stop}
+use Rattle.thes_base.specs.declared.pipe.Stop.TheVariants as stops
 use Rattle.thes_base.specs.declared.fault.PipeFault.{PipeFault}
-use Rattle.thes_exchange.proofs.LineLemmas.{leaves, long_first}
+use Rattle.thes_base.specs.declared.fault.PipeFault.TheVariants.{Read, Write, TooLong, Fault}
+use Rattle.thes_base.specs.declared.pipe.Pipe.{Pipe}
+use Rattle.thes_base.proofs.PipeLemmas.{appends_front_then}
+use Rattle.thes_exchange.specs.Feed.{left, has_newline, line_bytes, line_text, line_limit, TakesLine, TakesPart, IsTooLong, FindsEnd}
+use Rattle.thes_exchange.specs.Serving.{Serving}
+use Rattle.thes_exchange.specs.Script.{Fate, StepLine, RunLines, AreAllowed, lines_limit, EndsLine, whole_lines, ServesLines, outcome_of, text_told, script_text, noted, ended_with, nothing_noted, Scene, scene, IsBeyond, IsCause, Completes, Stops}
+use Rattle.thes_exchange.specs.Served.{ServesLine, StopsAfter, StopsAtLine, Served}
+use Rattle.thes_exchange.specs.declared.script.Ended.{Ended}
+use Rattle.thes_exchange.proofs.LineLemmas.{lines-more, whole_lines-append, whole_lines-more, line_whole, ends_again}
 
-run_more : {S : Type 0} (serves : Serving S) (old : S) (done : List (List ℕ)) (outcomes : List (Option Outcome)) (mid new : S) (line : List ℕ) (o : Option Outcome)
-    → RunLines serves old done outcomes mid → StepLine serves mid line o new → RunLines serves old (done ++ line ∷ []) (outcomes ++ o ∷ []) new
-run_more {S} serves old [] [] mid new line o r s = (new, subst (λ (st : S). StepLine serves st line o new) r s, refl)
-run_more serves old [] (p ∷ outcomes) mid new line o r s = absurd r
-run_more serves old (l ∷ done) [] mid new line o r s = absurd r
-run_more serves old (l ∷ done) (p ∷ outcomes) mid new line o r s = (r.0, r.1, run_more serves r.0 done outcomes mid new line o r.2 s)
+-- Lines served, and one more.
+
+run_more : {S : Type 0} (serves : Serving S) (old : S) (done : List (List ℕ)) (fates : List Fate) (mid new : S) (line : List ℕ) (f : Fate)
+    → RunLines serves old done fates mid → StepLine serves mid line f new → RunLines serves old (done ++ line ∷ []) (fates ++ f ∷ []) new
+run_more {S} serves old [] [] mid new line f r s = (new, subst (λ (st : S). StepLine serves st line f new) r s, refl)
+run_more serves old [] (p ∷ fates) mid new line f r s = absurd r
+run_more serves old (l ∷ done) [] mid new line f r s = absurd r
+run_more serves old (l ∷ done) (p ∷ fates) mid new line f r s = (r.0, r.1, run_more serves r.0 done fates mid new line f r.2 s)
 
 allowed_more : (whole : List (List ℕ)) (raw : List ℕ) → AreAllowed whole → length whole < lines_limit → length raw ≤ line_limit → AreAllowed (whole ++ raw ∷ [])
 allowed_more whole raw a few short = record {
@@ -30,218 +36,230 @@ allowed_more whole raw a few short = record {
   short = All-push (λ line. length line ≤ line_limit) whole raw a.short short;
 }
 
-ran_more : {S : Type 0} {serves : Serving S} {input : List ℕ} {rest rest' : Option (List ℕ)} {count : ℕ} {old mid new : S} {outcomes : List (Option Outcome)} {raw : List ℕ} {e : Bool} (o : Option Outcome)
-    → Ran serves input rest count old mid outcomes → count < lines_limit → TakesLine rest rest' raw e → StepLine serves mid (line_text raw e) o new
-    → Ran serves input rest' (count + 1) old new (outcomes ++ o ∷ [])
-ran_more {S} {serves} {input} {rest} {rest'} {count} {old} {mid} {new} {outcomes} {raw} {e} o r few k step =
-    let after = leaves r.left rest' raw e (rw r.is_left at k) in
-    let line = line_text raw e in record {
-      left = after.rest;
-      is_left = after.is_rest;
-      done = r.done ++ line ∷ [];
-      all = r.all ∙ (ap (λ x. r.done ++ x) after.texts ∙ sym (append_assoc r.done (line ∷ []) (lines after.rest)));
-      run = run_more serves old r.done outcomes mid new line o r.run step;
-      whole = r.whole ++ raw ∷ [];
-      all_whole = r.all_whole ∙ (ap (λ x. r.whole ++ x) after.wholes ∙ sym (append_assoc r.whole (raw ∷ []) (whole_lines after.rest)));
-      allowed = let c = r.whole_count in allowed_more r.whole raw r.allowed (omega arith) k.short;
-      done_count = rw (length-append r.done (line ∷ [])) (ap (λ n. n + 1) r.done_count);
-      whole_count = rw (length-append r.whole (raw ∷ [])) (ap (λ n. n + 1) r.whole_count);
-    }
+text_more : (fates : List Fate) (f : Fate) → script_text (fates ++ f ∷ []) ≡ script_text fates ++ text_told (outcome_of f)
+text_more fates f = rw (flat_map-append (λ g. text_told (outcome_of g)) fates (f ∷ []), append-nil (text_told (outcome_of f))) refl
 
-ran_stopped : {S : Type 0} {serves : Serving S} (fault : PipeFault) {input : List ℕ} {rest : Option (List ℕ)} {count : ℕ} {old new : S} {outcomes : List (Option Outcome)} {before after : Option (List ℕ)}
-    → Ran serves input rest count old new outcomes → AppendsUntil fault before after (script_text outcomes) → IsStopped serves fault input old new before after
-ran_stopped {S} {serves} fault {input} {rest} {count} {old} {new} {outcomes} r t = record {
-  count = count;
-  allowed = rw (r.all_whole, ← r.whole_count, take-append_seam r.whole (whole_lines r.left)) r.allowed;
-  outcomes = outcomes;
-  run = rw (r.all, ← r.done_count, take-append_seam r.done (lines r.left)) r.run;
-  text = t;
+noted_more : (fates : List Fate) (f : Fate) → ended_with (fates ++ f ∷ []) ≡ noted (ended_with fates) (outcome_of f)
+noted_more fates f = fold-append (λ e g. noted e (outcome_of g)) nothing_noted fates (f ∷ [])
+
+-- the line that was taken isn't empty where the input ended with it
+some_last : {old new : Option (List ℕ)} {raw : List ℕ} {e : Bool} → TakesLine old new raw e → e ≡ true → raw ≢ []
+some_last k ended = let l = k.last ended in l.0
+
+lines_served : {S : Type 0} {serves : Serving S} {bytes : List ℕ} {fates : List Fate} {old mid new : S} {before after : Option (List ℕ)} {raw : List ℕ} {e : Bool} (fate : Fate)
+    → ServesLines serves bytes fates old mid → EndsLine bytes → length (whole_lines bytes) < lines_limit → TakesLine before after raw e → StepLine serves mid (line_text raw e) fate new
+    → ServesLines serves (bytes ++ line_bytes raw e) (fates ++ fate ∷ []) old new
+lines_served {S} {serves} {bytes} {fates} {old} {mid} {new} {before} {after} {raw} {e} fate s whole few k step = record {
+  allowed = rw (whole_lines-more bytes raw e whole k.one (some_last k)) (allowed_more (whole_lines bytes) raw s.allowed few k.short);
+  run = rw (lines-more bytes raw e whole k.one (some_last k)) (run_more serves old (lines bytes) fates mid new (line_text raw e) fate s.run step);
 }
 
--- one more line was answered
-pub served_more : {S : Type 0} {serves : Serving S} {input : List ℕ} {rest rest' : Option (List ℕ)} {count : ℕ} {old mid new : S} {before after after' : Option (List ℕ)} {ended ended' : Ended} {raw : List ℕ} {e : Bool}
-    → Served serves input rest count old mid before after ended → count < lines_limit → TakesLine rest rest' raw e → ServesLine serves (line_text raw e) mid new after after' ended ended'
-    → Served serves input rest' (count + 1) old new before after' ended'
-served_more {S} {serves} {input} {rest} {rest'} {count} {old} {mid} {new} {before} {after} {after'} {ended} {ended'} {raw} {e} s few k v = record {
-  outcomes = s.outcomes ++ v.outcome ∷ [];
-  ran = ran_more v.outcome s.ran few k v.step;
-  text = rw (flat_map-append line_of s.outcomes (v.outcome ∷ []), append-nil (line_of v.outcome)) (appends_then before after after' (script_text s.outcomes) (line_of v.outcome) s.text v.text);
-  end = v.end ∙ (ap (λ x. noted x v.outcome) s.end ∙ sym (fold-append noted nothing_noted s.outcomes (v.outcome ∷ [])));
-}
+-- Before the first line.
 
--- nothing more is left
-pub served_end : {S : Type 0} {serves : Serving S} {input : List ℕ} {rest : Option (List ℕ)} {count : ℕ} {old new : S} {before after : Option (List ℕ)} {ended : Ended}
-    → Served serves input rest count old new before after ended → IsAtEnd rest → IsScript serves input old new before after ended
-served_end {S} {serves} {input} s e =
-    let last : s.ran.left ≡ [] = rw s.ran.is_left at e in
-    let all : lines input ≡ s.ran.done = s.ran.all ∙ (ap (λ x. s.ran.done ++ lines x) last ∙ append-nil s.ran.done) in
-    let whole : whole_lines input ≡ s.ran.whole = s.ran.all_whole ∙ (ap (λ x. s.ran.whole ++ whole_lines x) last ∙ append-nil s.ran.whole) in record {
-      allowed = rw whole s.ran.allowed;
-      outcomes = s.outcomes;
-      run = rw all s.ran.run;
-      text = s.text;
-      end = s.end;
-    }
+nothing_served : {S : Type 0} (serves : Serving S) (desk : S) → ServesLines serves [] [] desk desk
+nothing_served serves desk = record { allowed = record { few = omega arith; short = All-nil (λ line. length line ≤ line_limit) }; run = refl }
 
--- it stopped between two lines
-pub served_stopped : {S : Type 0} {serves : Serving S} (fault : PipeFault) {input : List ℕ} {rest : Option (List ℕ)} {count : ℕ} {old new : S} {before after : Option (List ℕ)} {ended : Ended}
-    → Served serves input rest count old new before after ended → IsStopped serves fault input old new before after
-served_stopped {S} {serves} fault {input} {rest} {count} {old} {new} {before} {after} s = ran_stopped fault s.ran (appends_until fault before after (script_text s.outcomes) s.text)
+-- no byte is held
+none_held : (known : Option (List ℕ)) → Consumes known (prepend_known [] known) []
+none_held None = tt
+none_held (Some xs) = refl
 
--- it stopped at a line
-pub served_cut : {S : Type 0} {serves : Serving S} (fault : PipeFault) {input : List ℕ} {rest rest' : Option (List ℕ)} {count : ℕ} {old mid new : S} {before after after' : Option (List ℕ)} {ended : Ended} {raw : List ℕ} {e : Bool}
-    → Served serves input rest count old mid before after ended → count < lines_limit → TakesLine rest rest' raw e → StopsAtLine serves fault (line_text raw e) mid new after after'
-    → IsStopped serves fault input old new before after'
-served_cut fault {before = before} {after = after} {after' = after'} s few k v =
-    ran_stopped fault (ran_more v.outcome s.ran few k v.step)
-    (rw (flat_map-append line_of s.outcomes (v.outcome ∷ []), append-nil (line_of v.outcome)) (until_then fault before after after' (script_text s.outcomes) (line_of v.outcome) s.text v.text))
+-- The bytes left at the end.
 
--- the line after those answered is beyond the limits
-cut_off : {S : Type 0} {serves : Serving S} {input : List ℕ} {rest : Option (List ℕ)} {count : ℕ} {old new : S} {before after : Option (List ℕ)} {ended : Ended}
-    → (s : Served serves input rest count old new before after ended) (line : List ℕ) (more : List (List ℕ)) → whole_lines s.ran.left ≡ line ∷ more → ¬ AreAllowed (s.ran.whole ++ line ∷ [])
-    → IsCutOff serves input old new before after
-cut_off {S} {serves} {input} {rest} {count} s line more first beyond =
-    let r = s.ran in
-    let all : whole_lines input ≡ r.whole ++ line ∷ more = r.all_whole ∙ ap (λ x. r.whole ++ x) first in
-    let next : take (count + 1) (whole_lines input) ≡ r.whole ++ line ∷ [] =
-    ap (λ n. take (n + 1) (whole_lines input)) (sym r.whole_count) ∙ (ap (λ x. take (length r.whole + 1) x) all ∙ take-append-add r.whole (line ∷ more) 1) in record {
-      count = count;
-      allowed = rw (r.all_whole, ← r.whole_count, take-append_seam r.whole (whole_lines r.left)) r.allowed;
-      beyond = λ a. beyond (subst (λ (w : List (List ℕ)). AreAllowed w) next a);
-      outcomes = s.outcomes;
-      run = rw (r.all, ← r.done_count, take-append_seam r.done (lines r.left)) r.run;
-      text = s.text;
-    }
+nil_right : (xs ys : List ℕ) → xs ++ ys ≡ [] → ys ≡ []
+nil_right [] ys h = h
+nil_right (x ∷ xs) ys h = cc
+
+all_taken : (known rest : Option (List ℕ)) (held bytes : List ℕ) → Consumes known (prepend_known held rest) bytes → IsAtEnd (prepend_known held rest) → Consumes known rest bytes × IsAtEnd rest
+all_taken None None held bytes k e = (tt, tt)
+all_taken None (Some ys) held bytes k e = (tt, nil_right held ys e)
+all_taken (Some xs) None held bytes k e = absurd k
+all_taken (Some xs) (Some ys) held bytes k e = (k ∙ ap (λ t. bytes ++ t) (e ∙ sym (nil_right held ys e)), nil_right held ys e)
 
 last_holds : {X : Type 0} (P : X → Type 0) (xs : List X) (x : X) → All P (xs ++ x ∷ []) → P x
 last_holds P [] x h = All-head P x [] h
 last_holds P (y ∷ xs) x h = last_holds P xs x (All-tail P y (xs ++ x ∷ []) h)
 
--- the next line is too long
-pub served_long : {S : Type 0} {serves : Serving S} {input : List ℕ} {rest : Option (List ℕ)} {count : ℕ} {old new : S} {before after : Option (List ℕ)} {ended : Ended}
-    → Served serves input rest count old new before after ended → IsTooLong rest → IsCutOff serves input old new before after
-served_long s t =
-    let r = s.ran in
-    let first = long_first r.left (rw r.is_left at t) in
-    cut_off s first.line first.more first.wholes
-    (λ a. let short = last_holds (λ line. length line ≤ line_limit) r.whole first.line a.short in let long = first.long in omega (arith, short, long))
+module _ {R W S : Type 0} (remaining : R → Option (List ℕ)) (contents : W → Option (List ℕ)) (serves : Serving S) (is_open : S → Bool) where
+  pub served_start : (reader : Pipe R) (writer : Pipe W) (desk : S) (held : List ℕ) (count : ℕ) (ended : Ended) → ended_of reader ≡ false → held ≡ [] → count ≡ 0 → ended ≡ nothing_noted
+      → Served remaining contents serves (scene reader writer desk) (scene reader writer desk) held count ended
+  served_start reader writer desk held count ended goes h c e = record {
+    bytes = [];
+    taken = rw h (none_held (unread remaining reader));
+    whole = λ _. inl refl;
+    last = λ t. let f = goes in cc;
+    fates = [];
+    lines = nothing_served serves desk;
+    so_many = sym c;
+    text = Appends-nil (written contents writer);
+    noted = e;
+  }
 
--- the next line is one too many
-pub served_full : {S : Type 0} {serves : Serving S} {input : List ℕ} {rest rest' : Option (List ℕ)} {count : ℕ} {old new : S} {before after : Option (List ℕ)} {ended : Ended} {raw : List ℕ} {e : Bool}
-    → Served serves input rest count old new before after ended → count ≡ lines_limit → TakesLine rest rest' raw e → IsCutOff serves input old new before after
-served_full {rest' = rest'} {raw = raw} {e = e} s full k =
-    let r = s.ran in
-    let after = leaves r.left rest' raw e (rw r.is_left at k) in
-    cut_off s raw (whole_lines after.rest) after.wholes
-    (λ a. let few = a.few in let more = length-append r.whole (raw ∷ []) in let c = r.whole_count in omega (arith, few, more, c, full))
+  module _ {old : Scene R W S} {reader : Pipe R} {writer : Pipe W} {desk : S} {held : List ℕ} {count : ℕ} {ended : Ended}
+      (s : Served remaining contents serves old (scene reader writer desk) held count ended) where
+    -- one more line was answered
+    pub served_more : (reader' : Pipe R) (writer' : Pipe W) (desk' : S) (held' : List ℕ) (ended' : Ended) (raw : List ℕ) → ended_of reader ≡ false → count < lines_limit → TakesLine (left remaining held reader) (left remaining held' reader') raw (ended_of reader')
+        → ServesLine contents serves is_open (line_text raw (ended_of reader')) desk desk' writer writer' ended ended'
+        → Served remaining contents serves old (scene reader' writer' desk') held' (count + 1) ended'
+    served_more reader' writer' desk' held' ended' raw goes few k v = let whole = s.whole goes in let c = s.so_many in let line = line_bytes raw (ended_of reader') in record {
+      bytes = s.bytes ++ line;
+      taken = Consumes-trans (unread remaining old.reader) (left remaining held reader) (left remaining held' reader') s.bytes line s.taken k.bytes;
+      whole = ends_again s.bytes raw (ended_of reader');
+      last = λ t. let l = k.last t in l.1;
+      fates = s.fates ++ v.fate ∷ [];
+      lines = lines_served v.fate s.lines whole (omega (arith, c, few)) k v.step;
+      so_many = rw (whole_lines-more s.bytes raw (ended_of reader') whole k.one (some_last k), length-append (whole_lines s.bytes) (raw ∷ [])) (ap (λ n. n + 1) s.so_many);
+      text = rw (text_more s.fates v.fate) (Appends-trans (written contents old.writer) (written contents writer) (written contents writer') (script_text s.fates) (text_told (outcome_of v.fate)) s.text v.text);
+      noted = v.noted ∙ (ap (λ x. noted x (outcome_of v.fate)) s.noted ∙ sym (noted_more s.fates v.fate));
+    }
 
--- a line was taken out, and nothing more came
-pub served_kept : {S : Type 0} {serves : Serving S} {input : List ℕ} {rest rest' : Option (List ℕ)} {count : ℕ} {old new : S} {before after : Option (List ℕ)} {ended : Ended}
-    → Served serves input rest count old new before after ended → Keeps rest rest' → Served serves input rest' count old new before after ended
-served_kept {rest' = None} s k = absurd (rw s.ran.is_left at k)
-served_kept {rest' = Some ys} s k =
-    let r = s.ran in
-    let same : ys ≡ r.left = rw r.is_left at k in record {
-      outcomes = s.outcomes;
-      ran = record {
-        left = r.left;
-        is_left = ap Some same;
-        done = r.done;
-        all = r.all;
-        run = r.run;
-        whole = r.whole;
-        all_whole = r.all_whole;
-        allowed = r.allowed;
-        done_count = r.done_count;
-        whole_count = r.whole_count;
-      };
+    -- nothing more is left
+    pub served_all : ended_of reader ≡ true → failed_of reader ≡ false → failed_of writer ≡ false → is_open desk ≡ true → Completes remaining contents serves is_open old (scene reader writer desk) ended
+    served_all e r w o = let all = all_taken (unread remaining old.reader) (unread remaining reader) held s.bytes s.taken (s.last e) in record {
+      input = s.bytes;
+      taken = all.0;
+      end = all.1;
+      told = e;
+      working = (r, w);
+      fates = s.fates;
+      lines = s.lines;
+      stays_open = o;
       text = s.text;
-      end = s.end;
+      noted = s.noted;
     }
 
-pub served_start : {S : Type 0} (serves : Serving S) (input : List ℕ) (old : S) (before : Option (List ℕ)) → Served serves input (Some input) 0 old old before before nothing_noted
-served_start serves input old before = record {
-  outcomes = [];
-  ran = record {
-    left = input;
-    is_left = refl;
-    done = [];
-    all = refl;
-    run = refl;
-    whole = [];
-    all_whole = refl;
-    allowed = record { few = omega arith; short = All-nil (λ line. length line ≤ line_limit) };
-    done_count = refl;
-    whole_count = refl;
-  };
-  text = appends_none before;
-  end = refl;
-}
+    -- no line was found
+    pub served_end : (reader' : Pipe R) (held' : List ℕ) → FindsEnd (left remaining held reader) (left remaining held' reader') (ended_of reader') → failed_of reader' ≡ false → failed_of writer ≡ false → is_open desk ≡ true
+        → Completes remaining contents serves is_open old (scene reader' writer desk) ended
+    served_end reader' held' f r w o =
+        let all = all_taken (unread remaining old.reader) (unread remaining reader') held' s.bytes
+        (Consumes-kept (unread remaining old.reader) (left remaining held reader) (left remaining held' reader') s.bytes s.taken f.0) f.1 in record {
+          input = s.bytes;
+          taken = all.0;
+          end = all.1;
+          told = f.2;
+          working = (r, w);
+          fates = s.fates;
+          lines = s.lines;
+          stays_open = o;
+          text = s.text;
+          noted = s.noted;
+        }
 
-pub served_begin : {S : Type 0} (serves : Serving S) (known : Option (List ℕ)) (held : List ℕ) (count : ℕ) (old : S) (before : Option (List ℕ)) (ended : Ended)
-    → held ≡ [] → count ≡ 0 → ended ≡ nothing_noted → IfSome known (λ input. Served serves input (left held known) count old old before before ended)
-served_begin serves None held count old before ended h c e = tt
-served_begin serves (Some input) held count old before ended h c e = rw (h, c, e) (served_start serves input old before)
-
--- Newlines of the bytes taken.
-
-newlines_append : (xs ys : List ℕ) → newlines (xs ++ ys) ≡ newlines xs + newlines ys
-newlines_append [] ys = omega arith
-newlines_append (x ∷ xs) ys =
-    let more = newlines_append xs ys in
-    elim (x == 10) as (λ t. cond t (newlines (xs ++ ys) + 1) (newlines (xs ++ ys)) ≡ cond t (newlines xs + 1) (newlines xs) + newlines ys) [
-      | true ↦ omega (arith, more)
-      | false ↦ more
-    ]
-
-no_newlines : (raw : List ℕ) → has_newline raw ≡ false → newlines raw ≡ 0
-no_newlines [] h = refl
-no_newlines (x ∷ raw) h =
-    elim (x == 10) as (λ t. cond t true (has_newline raw) ≡ false → cond t (newlines raw + 1) (newlines raw) ≡ 0) [
-      | true ↦ λ k. absurd (cc)
-      | false ↦ λ k. no_newlines raw k
-    ] h
-
-fed_line : (input left : List ℕ) (rest : Option (List ℕ)) (count : ℕ) (raw taken : List ℕ) → input ≡ taken ++ left → newlines taken ≡ count → TakesLine (Some left) rest raw false → Fed input rest (count + 1)
-fed_line input left None count raw taken b n k = absurd k.bytes
-fed_line input left (Some ys) count raw taken b n k =
-    let line = raw ++ 10 ∷ [] in
-    let none = no_newlines raw k.one in
-    let one : newlines line ≡ newlines raw + 1 = newlines_append raw (10 ∷ []) in
-    let all = newlines_append taken line in record {
-      left = ys;
-      is_left = refl;
-      taken = taken ++ line;
-      bytes = b ∙ (ap (λ t. taken ++ t) k.bytes ∙ sym (append_assoc taken line ys));
-      ends = omega (arith, all, one, none, n);
+    -- it stopped between two lines
+    pub served_stopped : (reader' : Pipe R) (fault : PipeFault) → ended_of reader ≡ false → IsCause remaining contents serves is_open old (scene reader' writer desk) fault s.bytes (left remaining held reader) (script_text s.fates)
+        → ((fault ≡ Read) ↔ (failed_of reader' ≡ true)) → ((fault ≡ Write) ↔ (failed_of writer ≡ true)) → Stops remaining contents serves is_open old (scene reader' writer desk) fault
+    served_stopped reader' fault goes cause r w = record {
+      served = s.bytes;
+      rest = left remaining held reader;
+      taken = s.taken;
+      whole = inl (s.whole goes);
+      fates = s.fates;
+      lines = s.lines;
+      cause = cause;
+      read = r;
+      wrote = w;
     }
 
--- one more line was taken, and the input goes on
-pub fed_more : {input : List ℕ} {rest rest' : Option (List ℕ)} {count : ℕ} {raw : List ℕ} {e : Bool} → Fed input rest count → TakesLine rest rest' raw e → e ≡ false → Fed input rest' (count + 1)
-fed_more {input} {rest} {rest'} {count} {raw} {e} f k n = fed_line input f.left rest' count raw f.taken f.bytes f.ends (rw (f.is_left, n) at k)
+    -- it stopped at a line
+    pub served_cut : (reader' : Pipe R) (writer' : Pipe W) (desk' : S) (held' : List ℕ) (fault : PipeFault) (raw : List ℕ) → ended_of reader ≡ false → count < lines_limit → TakesLine (left remaining held reader) (left remaining held' reader') raw (ended_of reader')
+        → failed_of reader' ≡ false → StopsAtLine contents serves is_open (line_text raw (ended_of reader')) desk desk' writer writer' fault
+        → Stops remaining contents serves is_open old (scene reader' writer' desk') fault
+    served_cut reader' writer' desk' held' fault raw goes few k fine v =
+        let whole = s.whole goes in let c = s.so_many in let line = line_bytes raw (ended_of reader') in record {
+          served = s.bytes ++ line;
+          rest = left remaining held' reader';
+          taken = Consumes-trans (unread remaining old.reader) (left remaining held reader) (left remaining held' reader') s.bytes line s.taken k.bytes;
+          whole = by_end (ended_of reader') (ends_again s.bytes raw (ended_of reader')) (λ t. let l = k.last t in l.1);
+          fates = s.fates ++ v.fate ∷ [];
+          lines = lines_served v.fate s.lines whole (omega (arith, c, few)) k v.step;
+          cause = rw (text_more s.fates v.fate) (after fault v.cause);
+          read = never_read fault v.cause;
+          wrote = wrote_only fault v.cause;
+        }
+      where
+        by_end : (e : Bool) → (e ≡ false → EndsLine (s.bytes ++ line_bytes raw (ended_of reader'))) → (e ≡ true → IsAtEnd (left remaining held' reader'))
+            → EndsLine (s.bytes ++ line_bytes raw (ended_of reader')) ⊎ (IsAtEnd (left remaining held' reader') × (e ≡ true))
+        by_end true f g = inr (g refl, refl)
+        by_end false f g = inl (f refl)
 
-fed_start : (input : List ℕ) → Fed input (Some input) 0
-fed_start input = record { left = input; is_left = refl; taken = []; bytes = refl; ends = refl }
+        after : (fault : PipeFault) → StopsAfter contents serves is_open (line_text raw (ended_of reader')) desk desk' writer writer' fault (text_told (outcome_of v.fate))
+            → IsCause remaining contents serves is_open old (scene reader' writer' desk') fault (s.bytes ++ line_bytes raw (ended_of reader')) (left remaining held' reader') (script_text s.fates ++ text_told (outcome_of v.fate))
+        after Read h = absurd h
+        after Write h = appends_front_then (written contents old.writer) (written contents writer) (written contents writer') (script_text s.fates) (text_told (outcome_of v.fate)) s.text h.0
+        after TooLong h = inl (appends_front_then (written contents old.writer) (written contents writer) (written contents writer') (script_text s.fates) (text_told (outcome_of v.fate)) s.text h.0, h.2)
+        after (Fault f) h = (Appends-trans (written contents old.writer) (written contents writer) (written contents writer') (script_text s.fates) (text_told (outcome_of v.fate)) s.text h.0, h.2, inr h.3)
 
-pub fed_begin : (known : Option (List ℕ)) (held : List ℕ) (count : ℕ) → held ≡ [] → count ≡ 0 → IfSome known (λ input. Fed input (left held known) count)
-fed_begin None held count h c = tt
-fed_begin (Some input) held count h c = rw (h, c) (fed_start input)
+        never_read : (fault : PipeFault) → StopsAfter contents serves is_open (line_text raw (ended_of reader')) desk desk' writer writer' fault (text_told (outcome_of v.fate)) → (fault ≡ Read) ↔ (failed_of reader' ≡ true)
+        never_read Read h = absurd h
+        never_read Write h = (λ e. cc, λ e. let f = fine in cc)
+        never_read TooLong h = (λ e. cc, λ e. let f = fine in cc)
+        never_read (Fault g) h = (λ e. cc, λ e. let f = fine in cc)
 
--- the reader broke off within a line
-pub served_broken : {S : Type 0} {serves : Serving S} {input : List ℕ} {rest rest' : Option (List ℕ)} {count : ℕ} {old new : S} {before after : Option (List ℕ)} {ended : Ended}
-    → Served serves input rest count old new before after ended → Fed input rest count → TakesPart rest rest' → IfSome rest' (λ left. IsBroken serves input left old new before after)
-served_broken {rest' = None} s f k = tt
-served_broken {input = input} {rest' = Some ys} {count = count} s f k =
-    let r = s.ran in
-    let p : TakesPart (Some f.left) (Some ys) = rw f.is_left at k in
-    let none = no_newlines p.raw p.one in
-    let ends = f.ends in
-    let all = newlines_append f.taken p.raw in
-    let same : newlines (f.taken ++ p.raw) ≡ count = omega (arith, all, none, ends) in record {
-      taken = f.taken ++ p.raw;
-      bytes = f.bytes ∙ (ap (λ t. f.taken ++ t) p.bytes ∙ sym (append_assoc f.taken p.raw ys));
-      allowed = rw (same, r.all_whole, ← r.whole_count, take-append_seam r.whole (whole_lines r.left)) r.allowed;
-      outcomes = s.outcomes;
-      run = rw (same, r.all, ← r.done_count, take-append_seam r.done (lines r.left)) r.run;
-      text = s.text;
+        wrote_only : (fault : PipeFault) → StopsAfter contents serves is_open (line_text raw (ended_of reader')) desk desk' writer writer' fault (text_told (outcome_of v.fate)) → (fault ≡ Write) ↔ (failed_of writer' ≡ true)
+        wrote_only Read h = absurd h
+        wrote_only Write h = (λ e. h.1, λ e. refl)
+        wrote_only TooLong h = (λ e. cc, λ e. let f = h.1 in cc)
+        wrote_only (Fault g) h = (λ e. cc, λ e. let f = h.1 in cc)
+
+    -- the reader broke off within a line
+    pub is_broken : (reader' : Pipe R) → TakesPart (left remaining held reader) (unread remaining reader') → IsCause remaining contents serves is_open old (scene reader' writer desk) Read s.bytes (left remaining held reader) (script_text s.fates)
+    is_broken reader' p = (s.text, p.raw, Consumes-trans (unread remaining old.reader) (left remaining held reader) (unread remaining reader') s.bytes p.raw s.taken p.bytes, p.one)
+
+    -- the next line is too long
+    pub is_long : ended_of reader ≡ false → IsTooLong (left remaining held reader) → IsBeyond s.bytes (left remaining held reader)
+    is_long goes t =
+        let some : t.raw ≢ [] = λ e. let none : length t.raw ≡ 0 = ap length e in let long = t.long in omega (arith, none, long) in
+        let one : whole_lines t.raw ≡ t.raw ∷ [] = line_whole t.raw true t.one (λ _. some) in record {
+          next = t.raw;
+          left = t.rest;
+          bytes = t.bytes;
+          one = ap length one;
+          beyond = λ a.
+              let all : whole_lines (s.bytes ++ t.raw) ≡ whole_lines s.bytes ++ t.raw ∷ [] = whole_lines-more s.bytes t.raw true (s.whole goes) t.one (λ _. some) in
+              let short = last_holds (λ line. length line ≤ line_limit) (whole_lines s.bytes) t.raw (subst (λ (w : List (List ℕ)). All (λ line. length line ≤ line_limit) w) all a.short) in
+              let long = t.long in omega (arith, short, long);
+        }
+
+    -- the next line is one too many
+    pub is_full : (reader' : Pipe R) (held' : List ℕ) (raw : List ℕ) (e : Bool) → ended_of reader ≡ false → count ≡ lines_limit → TakesLine (left remaining held reader) (left remaining held' reader') raw e → IsBeyond s.bytes (left remaining held reader)
+    is_full reader' held' raw e goes full k = record {
+      next = line_bytes raw e;
+      left = left remaining held' reader';
+      bytes = k.bytes;
+      one = ap length (line_whole raw e k.one (some_last k));
+      beyond = λ a.
+          let all = ap length (whole_lines-more s.bytes raw e (s.whole goes) k.one (some_last k)) in
+          let more = length-append (whole_lines s.bytes) (raw ∷ []) in
+          let c = s.so_many in let few = a.few in omega (arith, few, all, more, c, full);
     }
+
+    -- no line was found, since the reader stopped or the line is beyond the limits
+    pub served_broken_off : (reader' : Pipe R) (held' : List ℕ) {T : Type 0} (stop : Stop) → ended_of reader ≡ false
+        → (let result : Result T Stop = Err stop in (result ≡ Err stops.Failed → TakesPart (left remaining held reader) (unread remaining reader')) × ((result ≡ Err stops.Failed) ↔ (failed_of reader' ≡ true))
+        × (result ≡ Err stops.TooLong → (denied_of reader' ≡ true) ⊎ (IsTooLong (left remaining held reader)
+        ⊎ ((count ≡ lines_limit) × (raw : List ℕ) × TakesLine (left remaining held reader) (left remaining held' reader') raw (ended_of reader')))))
+        → failed_of writer ≡ false → Stops remaining contents serves is_open old (scene reader' writer desk) (reading_fault stop)
+    served_broken_off reader' held' stops.Failed goes why w = served_stopped reader' Read goes (is_broken reader' (why.0 refl)) (λ e. why.1.0 refl, λ e. refl) (λ e. cc, λ e. let f = w in cc)
+    served_broken_off reader' held' stops.TooLong goes why w = served_stopped reader' TooLong goes (inr (s.text, beyond (why.2 refl))) (λ e. cc, λ e. let bad = why.1.1 e in cc) (λ e. cc, λ e. let f = w in cc)
+      where
+        beyond : (denied_of reader' ≡ true) ⊎ (IsTooLong (left remaining held reader) ⊎ ((count ≡ lines_limit) × (raw : List ℕ) × TakesLine (left remaining held reader) (left remaining held' reader') raw (ended_of reader')))
+            → (denied_of reader' ≡ true) ⊎ IsBeyond s.bytes (left remaining held reader)
+        beyond (inl denied) = inl denied
+        beyond (inr (inl long)) = inr (is_long goes long)
+        beyond (inr (inr full)) = inr (is_full reader' held' full.1 (ended_of reader') goes full.0 full.2)
+
+  -- there is no memory to begin with
+  pub nothing_done : (reader : Pipe R) (writer : Pipe W) (desk : S) → failed_of reader ≡ false → failed_of writer ≡ false
+      → Stops remaining contents serves is_open (scene reader writer desk) (scene reader writer desk) (Fault OutOfMemory)
+  nothing_done reader writer desk r w = record {
+    served = [];
+    rest = unread remaining reader;
+    taken = Consumes-nil (unread remaining reader);
+    whole = inl (inl refl);
+    fates = [];
+    lines = nothing_served serves desk;
+    cause = (Appends-nil (written contents writer), refl, inl refl);
+    read = (λ e. cc, λ e. cc);
+    wrote = (λ e. cc, λ e. cc);
+  }

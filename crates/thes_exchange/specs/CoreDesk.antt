@@ -1,5 +1,5 @@
 -- What a core does with a request and with a query.
-use Rattle.std.specs.Prelude.{◌≡◌, ◌⊎◌, ℕ, List, true, false, Result, Ok, Err, OnOk}
+use Rattle.std.specs.Prelude.{◌≡◌, ◌⊎◌, ℕ, Bool, not, List, true, false, Result, Ok, Err, OnOk}
 use Rattle.thes_base.specs.declared.fault.Fault.{Fault}
 use Rattle.thes_base.specs.declared.fault.Fault.TheVariants.{OutOfMemory}
 use Rattle.thes_base.specs.declared.request.Command.{Command}
@@ -36,6 +36,9 @@ IsViewed s query (Err fault) = fault ≡ OutOfMemory
 -- the core stays as it is
 abbrev pub CoreShows : Showing Kept
 CoreShows old query result new = IsViewed old.state query result × (new ≡ old)
+
+abbrev pub is_unspent : Kept → Bool
+is_unspent core = not core.spent
 
 -- a line is answered by a step of the machine, by a view of its state, or by what keeps it from being read
 abbrev pub CoreServes : Serving Kept

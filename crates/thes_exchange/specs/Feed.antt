@@ -2,10 +2,14 @@
 use Rattle.std.specs.Prelude.{◌≡◌, ◌≢◌, ℕ, ◌<◌, ◌≤◌, ◌==◌, Bool, true, false, if◌then◌else◌, List, [], ◌∷◌, ◌++◌, length, Option, None, Some}
 use Rattle.std.specs.Str.Lines.{strip_carriage_return}
 use Rattle.std.specs.Io.KnownBytes.{Consumes, Keeps, IsAtEnd, prepend_known}
+use Rattle.thes_base.specs.Pipe.{unread}
+use Rattle.thes_base.specs.declared.pipe.Pipe.{Pipe}
+use Rattle.thes_exchange.specs.declared.feed.Found.{Found}
+use Rattle.thes_exchange.specs.declared.feed.Found.TheVariants.{Line}
 
 -- what is held, and then what the reader gives
-abbrev pub left : List ℕ → Option (List ℕ) → Option (List ℕ)
-left held remaining = prepend_known held remaining
+abbrev pub left : {R : Type 0} → (R → Option (List ℕ)) → List ℕ → Pipe R → Option (List ℕ)
+left remaining held reader = prepend_known held (unread remaining reader)
 
 abbrev pub has_newline : List ℕ → Bool
 has_newline [] = false
@@ -48,3 +52,13 @@ pub record IsTooLong (old : Option (List ℕ)) : Type 0 where
 abbrev pub TakesByte : Option ℕ → Option (List ℕ) → Option (List ℕ) → Bool → Type 0
 TakesByte None old new ended = Keeps old new × IsAtEnd new × (ended ≡ true)
 TakesByte (Some b) old new ended = Consumes old new (b ∷ []) × (ended ≡ false)
+
+-- What a look for a line found.
+
+-- a line, whose text is held unless there was no memory for it
+abbrev pub FindsLine : Found → List ℕ → Option (List ℕ) → Option (List ℕ) → Bool → Type 0
+FindsLine found held old new ended = (raw : List ℕ) × TakesLine old new raw ended × (found ≡ Line → line_text raw ended ≡ held)
+
+-- the end of the input
+abbrev pub FindsEnd : Option (List ℕ) → Option (List ℕ) → Bool → Type 0
+FindsEnd old new ended = Keeps old new × IsAtEnd new × (ended ≡ true)

@@ -1,51 +1,48 @@
--- How far a script has come.
-use Rattle.std.specs.Prelude.{◌≡◌, ℕ, List, ◌++◌, length, Option, Some}
+-- How far a script has come. For private clauses and proofs.
+use Rattle.std.specs.Prelude.{◌≡◌, ℕ, Bool, true, false, List, length, Option}
 use Rattle.std.specs.Str.Lines.{lines}
-use Rattle.std.specs.Io.KnownBytes.{Appends}
-use Rattle.thes_base.specs.Pipe.{AppendsUntil}
-use Rattle.thes_exchange.specs.declared.serve.Outcome.{Outcome}
-use Rattle.thes_exchange.specs.declared.script.Ended.{Ended}
+use Rattle.std.specs.Io.KnownBytes.{Appends, Consumes, IsAtEnd}
+use Rattle.thes_base.specs.Pipe.{IsFresh, failed_of, ended_of, denied_of, unread, written, AppendsFront}
+use Rattle.thes_base.specs.declared.fault.Fault.TheVariants.{OutOfMemory}
 use Rattle.thes_base.specs.declared.fault.PipeFault.{PipeFault}
+use Rattle.thes_base.specs.declared.fault.PipeFault.TheVariants.{Read, Write, TooLong, Fault}
+use Rattle.thes_base.specs.declared.pipe.Pipe.{Pipe}
+use Rattle.thes_exchange.specs.Feed.{left}
 use Rattle.thes_exchange.specs.Serving.{Serving}
-use Rattle.thes_exchange.specs.Script.{StepLine, RunLines, AreAllowed, whole_lines, newlines, line_of, script_text, noted, ended_with}
+use Rattle.thes_exchange.specs.Script.{Fate, StepLine, ServesLines, EndsLine, Scene, whole_lines, outcome_of, text_told, script_text, noted, ended_with}
+use Rattle.thes_exchange.specs.declared.script.Ended.{Ended}
 
--- a line was answered or skipped
-pub record ServesLine {S : Type 0} (serves : Serving S) (line : List ℕ) (old new : S) (before after : Option (List ℕ)) (ended ended' : Ended) : Type 0 where
-  pub outcome : Option Outcome
-  pub step : StepLine serves old line outcome new
-  pub text : Appends before after (line_of outcome)
-  pub end : ended' ≡ noted ended outcome
+module _ {W S : Type 0} (contents : W → Option (List ℕ)) (serves : Serving S) (is_open : S → Bool) (line : List ℕ) (old new : S) (writer writer' : Pipe W) where
+  -- a line was skipped or answered
+  pub record ServesLine (ended ended' : Ended) : Type 0 where
+    pub fate : Fate
+    pub step : StepLine serves old line fate new
+    pub text : Appends (written contents writer) (written contents writer') (text_told (outcome_of fate))
+    pub noted : ended' ≡ noted ended (outcome_of fate)
+    pub stays_open : is_open new ≡ true
+    pub fresh : IsFresh writer'
 
--- the same, and the script is stopped
-pub record StopsAtLine {S : Type 0} (serves : Serving S) (fault : PipeFault) (line : List ℕ) (old new : S) (before after : Option (List ℕ)) : Type 0 where
-  pub outcome : Option Outcome
-  pub step : StepLine serves old line outcome new
-  pub text : AppendsUntil fault before after (line_of outcome)
+  -- why no line is answered after this one
+  abbrev pub StopsAfter : PipeFault → List ℕ → Type 0
+  StopsAfter Read text = ⊥
+  StopsAfter Write text = AppendsFront (written contents writer) (written contents writer') text × (failed_of writer' ≡ true)
+  StopsAfter TooLong text = AppendsFront (written contents writer) (written contents writer') text × (failed_of writer' ≡ false) × (denied_of writer' ≡ true)
+  StopsAfter (Fault f) text = Appends (written contents writer) (written contents writer') text × (failed_of writer' ≡ false) × (f ≡ OutOfMemory) × (is_open new ≡ false)
 
--- so many lines were answered so, and the rest is left
-pub record Ran {S : Type 0} (serves : Serving S) (input : List ℕ) (rest : Option (List ℕ)) (count : ℕ) (old new : S) (outcomes : List (Option Outcome)) : Type 0 where
-  pub left : List ℕ
-  pub is_left : rest ≡ Some left
-  pub done : List (List ℕ)
-  pub all : lines input ≡ done ++ lines left
-  pub run : RunLines serves old done outcomes new
-  pub whole : List (List ℕ)
-  pub all_whole : whole_lines input ≡ whole ++ whole_lines left
-  pub allowed : AreAllowed whole
-  pub done_count : length done ≡ count
-  pub whole_count : length whole ≡ count
+  -- the same, and then the script stops
+  pub record StopsAtLine (fault : PipeFault) : Type 0 where
+    pub fate : Fate
+    pub step : StepLine serves old line fate new
+    pub cause : StopsAfter fault (text_told (outcome_of fate))
 
--- the bytes taken so far had so many newlines
-pub record Fed (input : List ℕ) (rest : Option (List ℕ)) (count : ℕ) : Type 0 where
-  pub left : List ℕ
-  pub is_left : rest ≡ Some left
-  pub taken : List ℕ
-  pub bytes : input ≡ taken ++ left
-  pub ends : newlines taken ≡ count
-
--- and their answers were written
-pub record Served {S : Type 0} (serves : Serving S) (input : List ℕ) (rest : Option (List ℕ)) (count : ℕ) (old new : S) (before after : Option (List ℕ)) (ended : Ended) : Type 0 where
-  pub outcomes : List (Option Outcome)
-  pub ran : Ran serves input rest count old new outcomes
-  pub text : Appends before after (script_text outcomes)
-  pub end : ended ≡ ended_with outcomes
+-- The lines of these bytes were served, and this is left to read.
+pub record Served {R W S : Type 0} (remaining : R → Option (List ℕ)) (contents : W → Option (List ℕ)) (serves : Serving S) (old new : Scene R W S) (held : List ℕ) (count : ℕ) (ended : Ended) : Type 0 where
+  pub bytes : List ℕ
+  pub taken : Consumes (unread remaining old.reader) (left remaining held new.reader) bytes
+  pub whole : ended_of new.reader ≡ false → EndsLine bytes
+  pub last : ended_of new.reader ≡ true → IsAtEnd (left remaining held new.reader)
+  pub fates : List Fate
+  pub lines : ServesLines serves bytes fates old.desk new.desk
+  pub so_many : length (whole_lines bytes) ≡ count
+  pub text : Appends (written contents old.writer) (written contents new.writer) (script_text fates)
+  pub noted : ended ≡ ended_with fates

@@ -1,9 +1,9 @@
 //! A core as a desk: its own state, in memory.
-ghost use Rattle.std.specs.Prelude.{◌≡◌, ◌⊎◌, ◌↔◌, true, false, IfOk, IfErr, OnOk, IfSome, IsErrOf};
+ghost use Rattle.std.specs.Prelude.{◌≡◌, false, IfOk, IfErr};
 ghost use Rattle.thes_base.specs.Headline.{IsInOrder};
-ghost use Rattle.thes_base.specs.Pipe.{failed_of, ended_of, denied_of, IsFresh, unread, written};
-ghost use Rattle.thes_exchange.specs.CoreDesk.{CoreServes, IsLed, IsViewed};
-ghost use Rattle.thes_exchange.specs.Script.{IsScript, IsStopped, IsCutOff, IsBroken};
+ghost use Rattle.thes_base.specs.Pipe.{IsFresh, KeepsToLimit};
+ghost use Rattle.thes_exchange.specs.CoreDesk.{CoreServes, is_unspent, IsLed, IsViewed};
+ghost use Rattle.thes_exchange.specs.Script.{scene, Completes, Stops};
 
 use crate::desk::{Desk, ViewLine, Viewed};
 use crate::request::Query;
@@ -30,14 +30,13 @@ fn viewed(core: &Core, alloc: Global, query: &Query) -> Result<Viewed, AllocErro
 /// Each request is a step of the machine, after which the state is in order, and each view is one of the core's state,
 /// which stays as it is. Want of memory within a request changes nothing, or closes the desk for good.
 impl Desk for Core {
-    ghost use Rattle.std.specs.Prelude.{not};
-    ghost use Rattle.thes_exchange.specs.CoreDesk.{CorePerforms, CoreShows};
+    ghost use Rattle.thes_exchange.specs.CoreDesk.{CorePerforms, CoreShows, is_unspent};
 
     ghost performs = { CorePerforms };
 
     ghost shows = { CoreShows };
 
-    ghost is_open = { λ core. not core.spent };
+    ghost is_open = { is_unspent };
 
     fn perform(&mut self, command: &Command) -> Result<Answer, Fault> {
         self.step(command)
@@ -52,10 +51,11 @@ impl Desk for Core {
     }
 }
 
-/// Answers each line of the input by a step of the machine, or by a view of its state. The requests among the lines lead the
-/// machine from the state before to the state after. Whatever the lines are, each posting that isn't withdrawn then stands
-/// at exactly one live concept, the counts add up, and the triples meet the conditions, unless want of memory has left the
-/// core spent. Lines and their limits are those of `script`.
+/// Answers each line of the input by a step of the machine, or by a view of its state.
+///
+/// The requests among the lines lead the machine from the state before to the state after. Whatever the lines are, each
+/// posting that isn't withdrawn then stands at exactly one live concept, the counts add up, and the triples meet the
+/// conditions, unless running out of memory has left the core spent. Lines and their limits are those of `script`.
 pub fn core_script<R: Read, W: Write>(
     alloc: Global,
     reader: &mut Pipe<R>,
@@ -65,21 +65,13 @@ pub fn core_script<R: Read, W: Write>(
     requires reader { IsFresh reader.old }
     requires writer { IsFresh writer.old }
     requires unspent { core.old.spent ≡ false }
-    ensures ok { IfOk result (λ ended. IfSome (unread R.remaining reader.old) (λ input.
-        IsScript CoreServes input core.old core.new (written W.contents writer.old) (written W.contents writer.new) ended)) }
-    ensures stopped { IfErr result (λ fault. IfSome (unread R.remaining reader.old) (λ input.
-        IsStopped CoreServes fault input core.old core.new (written W.contents writer.old) (written W.contents writer.new))) }
-    ensures too_long { IsErrOf result PipeFault.TooLong → (denied_of reader.new ≡ true) ⊎ ((denied_of writer.new ≡ true) ⊎ IfSome (unread R.remaining reader.old) (λ input.
-        IsCutOff CoreServes input core.old core.new (written W.contents writer.old) (written W.contents writer.new))) }
-    ensures broken { IsErrOf result PipeFault.Read → IfSome (unread R.remaining reader.old) (λ input. IfSome (unread R.remaining reader.new) (λ rest.
-        IsBroken CoreServes input rest core.old core.new (written W.contents writer.old) (written W.contents writer.new))) }
-    ensures led { IfSome (unread R.remaining reader.old) (λ input. IsLed core.old core.new) }
-    ensures unspent { OnOk result (core.new.spent ≡ false) }
+    ensures completed { IfOk result (Completes R.remaining W.contents CoreServes is_unspent
+        (scene reader.old writer.old core.old) (scene reader.new writer.new core.new)) }
+    ensures stopped { IfErr result (Stops R.remaining W.contents CoreServes is_unspent
+        (scene reader.old writer.old core.old) (scene reader.new writer.new core.new)) }
+    ensures led { IsLed core.old core.new }
     ensures in_order { core.new.spent ≡ false → IsInOrder core.new.setting.base core.new.state }
-    ensures end { OnOk result (ended_of reader.new ≡ true) }
-    ensures read { IsErrOf result PipeFault.Read ↔ (failed_of reader.new ≡ true) }
-    ensures write { IsErrOf result PipeFault.Write ↔ (failed_of writer.new ≡ true) }
-    ensures fault { (fault : Fault) → IsErrOf result (PipeFault.Fault fault) → (fault ≡ Fault.OutOfMemory) × ((core.new ≡ core.old) ⊎ (core.new.spent ≡ true)) }
+    ensures calls { KeepsToLimit reader.old reader.new writer.old writer.new }
 {
     let result = script(alloc, reader, writer, core);
     // What the core keeps is known from here on.

@@ -2,8 +2,8 @@
 ghost use Rattle.std.specs.Prelude.{◌≡◌, ◌≢◌, ◌≤◌, ◌<◌, ◌⊎◌, ℕ, Bool, List, [], ◌∷◌, ◌++◌, length, true, false, IfOk, IfErr, OnOk, OnErr, IsErrOf, Option, IsTrue, MatchOption, ◌↔◌};
 ghost use Rattle.std.specs.Io.KnownBytes.{Consumes, Keeps, IsAtEnd};
 ghost use Rattle.std.specs.Str.Lines.{strip_carriage_return};
-ghost use Rattle.thes_base.specs.Pipe.{failed_of, ended_of, denied_of, IsFresh, unread};
-ghost use Rattle.thes_exchange.specs.Feed.{left, TakesByte, TakesLine, TakesPart, IsTooLong, line_text};
+ghost use Rattle.thes_base.specs.Pipe.{failed_of, ended_of, denied_of, IsFresh, PaysCalls, unread};
+ghost use Rattle.thes_exchange.specs.Feed.{left, TakesByte, TakesPart, IsTooLong, FindsLine, FindsEnd};
 
 use std::alloc::{AllocError, Global};
 use std::io::Read;
@@ -61,11 +61,14 @@ impl Feed {
         budget: &mut Budget,
     ) -> Result<Option<u8>, Stop>
         requires { IsFresh reader.old }
-        ensures byte { IfOk result (λ found. TakesByte found (left self.old (unread R.remaining reader.old)) (left self.new (unread R.remaining reader.new)) (ended_of reader.new)) }
-        ensures err { OnErr result (Keeps (left self.old (unread R.remaining reader.old)) (left self.new (unread R.remaining reader.new)) × (ended_of reader.new ≡ false)) }
+        ensures byte { IfOk result (λ found. TakesByte found
+            (left R.remaining self.old reader.old) (left R.remaining self.new reader.new) (ended_of reader.new)) }
+        ensures err { OnErr result (Keeps (left R.remaining self.old reader.old) (left R.remaining self.new reader.new)
+            × (ended_of reader.new ≡ false)) }
         ensures emptied { OnErr result (self.new ≡ []) }
         ensures failed { IsErrOf result Stop.Failed ↔ (failed_of reader.new ≡ true) }
-        ensures too_long { IsErrOf result Stop.TooLong → denied_of reader.new ≡ true }
+        ensures denied { IsErrOf result Stop.TooLong ↔ (denied_of reader.new ≡ true) }
+        ensures paid { PaysCalls reader.old reader.new budget.old budget.new }
     {
         if self.at == self.filled && !self.refill(reader, budget)? {
             return Ok(None);
@@ -81,14 +84,15 @@ impl Feed {
         line: &mut Vec<u8>,
     ) -> Result<Found, Stop>
         requires { IsFresh reader.old }
-        ensures line { IfOk result (λ found. (found ≢ Found.End) → (raw : List ℕ)
-            × TakesLine (left self.old (unread R.remaining reader.old)) (left self.new (unread R.remaining reader.new)) raw (ended_of reader.new)
-            × ((found ≡ Found.Line) → line_text raw (ended_of reader.new) ≡ line.new.items)) }
-        ensures end { IfOk result (λ found. (found ≡ Found.End) → Keeps (left self.old (unread R.remaining reader.old)) (left self.new (unread R.remaining reader.new))
-            × IsAtEnd (left self.new (unread R.remaining reader.new)) × (ended_of reader.new ≡ true)) }
-        ensures broken { IsErrOf result Stop.Failed → TakesPart (left self.old (unread R.remaining reader.old)) (unread R.remaining reader.new) }
+        ensures line { IfOk result (λ found. found ≢ Found.End → FindsLine found line.new.items
+            (left R.remaining self.old reader.old) (left R.remaining self.new reader.new) (ended_of reader.new)) }
+        ensures end { IfOk result (λ found. found ≡ Found.End → FindsEnd
+            (left R.remaining self.old reader.old) (left R.remaining self.new reader.new) (ended_of reader.new)) }
+        ensures broken { IsErrOf result Stop.Failed → TakesPart (left R.remaining self.old reader.old) (unread R.remaining reader.new) }
         ensures failed { IsErrOf result Stop.Failed ↔ (failed_of reader.new ≡ true) }
-        ensures too_long { IsErrOf result Stop.TooLong → (denied_of reader.new ≡ true) ⊎ IsTooLong (left self.old (unread R.remaining reader.old)) }
+        ensures too_long { IsErrOf result Stop.TooLong → (denied_of reader.new ≡ true) ⊎ IsTooLong (left R.remaining self.old reader.old) }
+        ensures denied { denied_of reader.new ≡ true → IsErrOf result Stop.TooLong }
+        ensures paid { PaysCalls reader.old reader.new budget.old budget.new }
     {
         line.clear();
         let mut held = true;
@@ -119,11 +123,13 @@ impl Feed {
         requires fresh { IsFresh reader.old }
         requires used { self.old ≡ [] }
         ensures more { IfOk result (λ more. more ≡ true → (self.new ≢ []) × (ended_of reader.new ≡ false)) }
-        ensures kept { Keeps (left self.old (unread R.remaining reader.old)) (left self.new (unread R.remaining reader.new)) }
-        ensures end { IfOk result (λ more. more ≡ false → (self.new ≡ []) × IsAtEnd (left self.new (unread R.remaining reader.new)) × (ended_of reader.new ≡ true)) }
+        ensures kept { Keeps (left R.remaining self.old reader.old) (left R.remaining self.new reader.new) }
+        ensures end { IfOk result (λ more. more ≡ false → (self.new ≡ [])
+            × IsAtEnd (left R.remaining self.new reader.new) × (ended_of reader.new ≡ true)) }
         ensures err { OnErr result ((self.new ≡ []) × (ended_of reader.new ≡ false)) }
         ensures failed { IsErrOf result Stop.Failed ↔ (failed_of reader.new ≡ true) }
-        ensures too_long { IsErrOf result Stop.TooLong → denied_of reader.new ≡ true }
+        ensures denied { IsErrOf result Stop.TooLong ↔ (denied_of reader.new ≡ true) }
+        ensures paid { PaysCalls reader.old reader.new budget.old budget.new }
     {
         self.at = 0;
         self.filled = 0;

@@ -1,8 +1,7 @@
 //! The lines of a script, within its limits.
 ghost use Rattle.std.specs.Prelude.{◌≡◌, ◌≢◌, ◌≤◌, ◌⊎◌, ◌+◌, List, ℕ, [], IfOk, OnOk, IsErrOf, ◌↔◌, true, false};
-ghost use Rattle.std.specs.Io.KnownBytes.{Keeps, IsAtEnd};
-ghost use Rattle.thes_base.specs.Pipe.{failed_of, ended_of, denied_of, IsFresh, unread};
-ghost use Rattle.thes_exchange.specs.Feed.{left, TakesLine, TakesPart, IsTooLong, line_text};
+ghost use Rattle.thes_base.specs.Pipe.{failed_of, ended_of, denied_of, IsFresh, PaysCalls, unread};
+ghost use Rattle.thes_exchange.specs.Feed.{left, TakesLine, TakesPart, IsTooLong, FindsLine, FindsEnd};
 ghost use Rattle.thes_exchange.specs.Script.{lines_limit};
 
 use crate::feed::{Feed, Found};
@@ -42,17 +41,18 @@ impl Lines {
     ) -> Result<Found, Stop>
         requires fresh { IsFresh reader.old }
         requires within { self.old.count ≤ lines_limit }
-        ensures line { IfOk result (λ found. (found ≢ Found.End) → (raw : List ℕ)
-            × TakesLine (left self.old.feed (unread R.remaining reader.old)) (left self.new.feed (unread R.remaining reader.new)) raw (ended_of reader.new)
-            × ((found ≡ Found.Line) → line_text raw (ended_of reader.new) ≡ self.new.line.items)
-            × (self.new.count ≡ self.old.count + 1)) }
-        ensures within { OnOk result (self.new.count ≤ lines_limit) }
-        ensures end { IfOk result (λ found. (found ≡ Found.End) → Keeps (left self.old.feed (unread R.remaining reader.old)) (left self.new.feed (unread R.remaining reader.new))
-            × IsAtEnd (left self.new.feed (unread R.remaining reader.new)) × (ended_of reader.new ≡ true) × (self.new.count ≡ self.old.count)) }
-        ensures broken { IsErrOf result Stop.Failed → TakesPart (left self.old.feed (unread R.remaining reader.old)) (unread R.remaining reader.new) }
+        ensures line { IfOk result (λ found. found ≢ Found.End → FindsLine found self.new.line.items
+            (left R.remaining self.old.feed reader.old) (left R.remaining self.new.feed reader.new) (ended_of reader.new)) }
+        ensures end { IfOk result (λ found. found ≡ Found.End → FindsEnd
+            (left R.remaining self.old.feed reader.old) (left R.remaining self.new.feed reader.new) (ended_of reader.new)) }
+        ensures count { IfOk result (λ found. found ≢ Found.End → (self.new.count ≡ self.old.count + 1) × (self.new.count ≤ lines_limit)) }
+        ensures broken { IsErrOf result Stop.Failed → TakesPart (left R.remaining self.old.feed reader.old) (unread R.remaining reader.new) }
         ensures failed { IsErrOf result Stop.Failed ↔ (failed_of reader.new ≡ true) }
-        ensures too_long { IsErrOf result Stop.TooLong → (denied_of reader.new ≡ true) ⊎ (IsTooLong (left self.old.feed (unread R.remaining reader.old))
-            ⊎ ((self.old.count ≡ lines_limit) × (raw : List ℕ) × TakesLine (left self.old.feed (unread R.remaining reader.old)) (left self.new.feed (unread R.remaining reader.new)) raw (ended_of reader.new))) }
+        ensures too_long { IsErrOf result Stop.TooLong → (denied_of reader.new ≡ true) ⊎ (IsTooLong (left R.remaining self.old.feed reader.old)
+            ⊎ ((self.old.count ≡ lines_limit) × (raw : List ℕ) × TakesLine
+            (left R.remaining self.old.feed reader.old) (left R.remaining self.new.feed reader.new) raw (ended_of reader.new))) }
+        ensures denied { denied_of reader.new ≡ true → IsErrOf result Stop.TooLong }
+        ensures paid { PaysCalls reader.old reader.new budget.old budget.new }
     {
         let found = self.feed.take_line(reader, budget, &mut self.line)?;
         if found == Found::End {

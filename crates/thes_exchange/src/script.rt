@@ -1,11 +1,9 @@
 //! Scripts: a request on each line, answered by a line before the next is read.
-ghost use Rattle.std.specs.Prelude.{◌≡◌, ◌≢◌, ◌⊎◌, ◌+◌, ◌<◌, ◌≤◌, true, false, List, ℕ, Option, Some, IfOk, IfErr, OnOk, OnErr, IfSome, IsErrOf, ◌↔◌, IsTrue};
-ghost use Rattle.std.specs.Io.KnownBytes.{Appends, Keeps, IsAtEnd};
-ghost use Rattle.thes_base.specs.Pipe.{failed_of, ended_of, denied_of, IsFresh, unread, written};
-ghost use Rattle.thes_exchange.specs.Feed.{left};
-ghost use Rattle.thes_exchange.specs.Script.{lines_limit, is_blank, StepLine, noted_outcome, nothing_noted, IsScript, IsStopped, IsCutOff, IsBroken};
+ghost use Rattle.std.specs.Prelude.{◌≡◌, ◌≢◌, true, false, List, ℕ, IfOk, IfErr, OnOk};
+ghost use Rattle.thes_base.specs.Pipe.{IsFresh, PaysCalls, KeepsToLimit};
+ghost use Rattle.thes_exchange.specs.Script.{is_blank, noted_outcome, nothing_noted, scene, Completes, Stops};
 ghost use Rattle.thes_exchange.specs.Serving.{Serves};
-ghost use Rattle.thes_exchange.specs.Served.{ServesLine, StopsAtLine, Served, Fed};
+ghost use Rattle.thes_exchange.specs.Served.{ServesLine, StopsAtLine};
 
 use crate::answer::Reply;
 use crate::desk::Desk;
@@ -71,9 +69,10 @@ fn is_skipped(line: &[u8], found: Found) -> bool
 }
 
 // What a line that is not blank is answered with. One that there was no memory for is not performed.
-fn outcome_of<D: Desk>(alloc: Global, desk: &mut D, line: &[u8], found: Found) -> Outcome
+fn outcome_for<D: Desk>(alloc: Global, desk: &mut D, line: &[u8], found: Found) -> Outcome
     requires { D.is_open desk.old ≡ true }
-    ensures { (text : List ℕ) → ((found ≡ Found.Line) → (text ≡ line.now) × (is_blank text ≡ false)) → StepLine (Serves D.performs D.shows) desk.old text (Some result) desk.new }
+    ensures held { found ≡ Found.Line → Serves D.performs D.shows desk.old line.now result desk.new }
+    ensures unheld { found ≢ Found.Line → (result ≡ Outcome.Told (Reply.Fault Fault.OutOfMemory)) × (desk.new ≡ desk.old) }
 {
     match found {
         Found::Line => serve(alloc, desk, line),
@@ -91,22 +90,18 @@ fn serve_line<W: Write, D: Desk>(
     found: Found,
     ended: &mut Ended,
 ) -> Result<(), PipeFault>
-    requires writer { failed_of writer.old ≡ false }
+    requires writer { IsFresh writer.old }
     requires open { D.is_open desk.old ≡ true }
-    ensures ok { OnOk result ((text : List ℕ) → ((found ≡ Found.Line) → text ≡ line.now)
-        → ServesLine (Serves D.performs D.shows) text desk.old desk.new (written W.contents writer.old) (written W.contents writer.new) ended.old ended.new) }
-    ensures open { OnOk result (D.is_open desk.new ≡ true) }
-    ensures stopped { IfErr result (λ fault. (text : List ℕ) → ((found ≡ Found.Line) → text ≡ line.now)
-        → StopsAtLine (Serves D.performs D.shows) fault text desk.old desk.new (written W.contents writer.old) (written W.contents writer.new)) }
-    ensures read { ¬ IsErrOf result PipeFault.Read }
-    ensures write { IsErrOf result PipeFault.Write ↔ (failed_of writer.new ≡ true) }
-    ensures too_long { IsErrOf result PipeFault.TooLong → denied_of writer.new ≡ true }
-    ensures closed { (fault : Fault) → IsErrOf result (PipeFault.Fault fault) → (fault ≡ Fault.OutOfMemory) × (D.is_open desk.new ≡ false) }
+    ensures ok { OnOk result ((text : List ℕ) → (found ≡ Found.Line → text ≡ line.now) → ServesLine W.contents
+        (Serves D.performs D.shows) D.is_open text desk.old desk.new writer.old writer.new ended.old ended.new) }
+    ensures stopped { IfErr result (λ fault. (text : List ℕ) → (found ≡ Found.Line → text ≡ line.now) → StopsAtLine
+        W.contents (Serves D.performs D.shows) D.is_open text desk.old desk.new writer.old writer.new fault) }
+    ensures paid { PaysCalls writer.old writer.new budget.old budget.new }
 {
     if is_skipped(line, found) {
         return Ok(());
     }
-    let outcome = outcome_of(alloc, desk, line, found);
+    let outcome = outcome_for(alloc, desk, line, found);
     ended.note(&outcome);
     if let Err(stop) = outcome.write(writer, budget) {
         return Err(stop.writing());
@@ -117,58 +112,11 @@ fn serve_line<W: Write, D: Desk>(
     Ok(())
 }
 
-// One line: whether there may be more. What was served before it and it are served after it.
-fn turn<R: Read, W: Write, D: Desk>(
-    alloc: Global,
-    lines: &mut Lines,
-    reader: &mut Pipe<R>,
-    writer: &mut Pipe<W>,
-    budget: &mut Budget,
-    desk: &mut D,
-    ended: &mut Ended,
-) -> Result<bool, PipeFault>
-    requires reader { IsFresh reader.old }
-    requires writer { failed_of writer.old ≡ false }
-    requires open { D.is_open desk.old ≡ true }
-    requires within { lines.old.count ≤ lines_limit }
-    ensures ok { OnOk result ((input : List ℕ) (start : D) (before : Option (List ℕ))
-        → Served (Serves D.performs D.shows) input (left lines.old.feed (unread R.remaining reader.old)) lines.old.count start desk.old before (written W.contents writer.old) ended.old
-        → Served (Serves D.performs D.shows) input (left lines.new.feed (unread R.remaining reader.new)) lines.new.count start desk.new before (written W.contents writer.new) ended.new) }
-    ensures fed { IfOk result (λ going. going ≡ true → (input : List ℕ)
-        → Fed input (left lines.old.feed (unread R.remaining reader.old)) lines.old.count → Fed input (left lines.new.feed (unread R.remaining reader.new)) lines.new.count) }
-    ensures end { IfOk result (λ going. going ≡ false → IsAtEnd (left lines.new.feed (unread R.remaining reader.new)) × (ended_of reader.new ≡ true)) }
-    ensures going { IfOk result (λ going. going ≡ true → (ended_of reader.new ≡ false) × (lines.old.count < lines.new.count)) }
-    ensures open { OnOk result (D.is_open desk.new ≡ true) }
-    ensures within { OnOk result (lines.new.count ≤ lines_limit) }
-    ensures stopped { IfErr result (λ fault. (input : List ℕ) (start : D) (before : Option (List ℕ))
-        → Served (Serves D.performs D.shows) input (left lines.old.feed (unread R.remaining reader.old)) lines.old.count start desk.old before (written W.contents writer.old) ended.old
-        → IsStopped (Serves D.performs D.shows) fault input start desk.new before (written W.contents writer.new)) }
-    ensures too_long { IsErrOf result PipeFault.TooLong → (denied_of reader.new ≡ true) ⊎ ((denied_of writer.new ≡ true) ⊎ ((input : List ℕ) (start : D) (before : Option (List ℕ))
-        → Served (Serves D.performs D.shows) input (left lines.old.feed (unread R.remaining reader.old)) lines.old.count start desk.old before (written W.contents writer.old) ended.old
-        → IsCutOff (Serves D.performs D.shows) input start desk.new before (written W.contents writer.new))) }
-    ensures broken { IsErrOf result PipeFault.Read → (input : List ℕ) (start : D) (before : Option (List ℕ))
-        → Served (Serves D.performs D.shows) input (left lines.old.feed (unread R.remaining reader.old)) lines.old.count start desk.old before (written W.contents writer.old) ended.old
-        → Fed input (left lines.old.feed (unread R.remaining reader.old)) lines.old.count
-        → IfSome (unread R.remaining reader.new) (λ rest. IsBroken (Serves D.performs D.shows) input rest start desk.new before (written W.contents writer.new)) }
-    ensures read { IsErrOf result PipeFault.Read ↔ (failed_of reader.new ≡ true) }
-    ensures write { IsErrOf result PipeFault.Write ↔ (failed_of writer.new ≡ true) }
-    ensures closed { (fault : Fault) → IsErrOf result (PipeFault.Fault fault) → (fault ≡ Fault.OutOfMemory) × (D.is_open desk.new ≡ false) }
-{
-    let found = match lines.next_line(reader, budget) {
-        Ok(found) => found,
-        Err(stop) => return Err(stop.reading()),
-    };
-    if found == Found::End {
-        return Ok(false);
-    }
-    serve_line(alloc, writer, budget, desk, &lines.line, found, ended)?;
-    Ok(!reader.ended())
-}
-
-/// Answers each line of the input.
+/// Answers each line of the input before it reads the next.
 ///
 /// A line holds at most 1,048,576 bytes, and a script at most 1,000,000 lines, blank ones counted. `TooLong` is answered only
 /// where the input goes past that, and then the lines before were answered; or where a pipe was denied a read or a write.
+/// All reads and writes together are at most 100,000,000.
 pub fn script<R: Read, W: Write, D: Desk>(
     alloc: Global,
     reader: &mut Pipe<R>,
@@ -178,31 +126,32 @@ pub fn script<R: Read, W: Write, D: Desk>(
     requires reader { IsFresh reader.old }
     requires writer { IsFresh writer.old }
     requires open { D.is_open desk.old ≡ true }
-    ensures ok { IfOk result (λ ended. IfSome (unread R.remaining reader.old) (λ input.
-        IsScript (Serves D.performs D.shows) input desk.old desk.new (written W.contents writer.old) (written W.contents writer.new) ended)) }
-    ensures end { OnOk result (ended_of reader.new ≡ true) }
-    ensures open { OnOk result (D.is_open desk.new ≡ true) }
-    ensures stopped { IfErr result (λ fault. IfSome (unread R.remaining reader.old) (λ input.
-        IsStopped (Serves D.performs D.shows) fault input desk.old desk.new (written W.contents writer.old) (written W.contents writer.new))) }
-    ensures too_long { IsErrOf result PipeFault.TooLong → (denied_of reader.new ≡ true) ⊎ ((denied_of writer.new ≡ true) ⊎ IfSome (unread R.remaining reader.old) (λ input.
-        IsCutOff (Serves D.performs D.shows) input desk.old desk.new (written W.contents writer.old) (written W.contents writer.new))) }
-    ensures broken { IsErrOf result PipeFault.Read → IfSome (unread R.remaining reader.old) (λ input. IfSome (unread R.remaining reader.new) (λ rest.
-        IsBroken (Serves D.performs D.shows) input rest desk.old desk.new (written W.contents writer.old) (written W.contents writer.new))) }
-    ensures read { IsErrOf result PipeFault.Read ↔ (failed_of reader.new ≡ true) }
-    ensures write { IsErrOf result PipeFault.Write ↔ (failed_of writer.new ≡ true) }
-    ensures fault { (fault : Fault) → IsErrOf result (PipeFault.Fault fault) → (fault ≡ Fault.OutOfMemory) × ((desk.new ≡ desk.old) ⊎ (D.is_open desk.new ≡ false)) }
+    ensures completed { IfOk result (Completes R.remaining W.contents (Serves D.performs D.shows) D.is_open
+        (scene reader.old writer.old desk.old) (scene reader.new writer.new desk.new)) }
+    ensures stopped { IfErr result (Stops R.remaining W.contents (Serves D.performs D.shows) D.is_open
+        (scene reader.old writer.old desk.old) (scene reader.new writer.new desk.new)) }
+    ensures calls { KeepsToLimit reader.old reader.new writer.old writer.new }
 {
     let mut lines = Lines::new(alloc)?;
     let mut budget = Budget::new();
     let mut ended = Ended::new();
-    while turn(
-        alloc,
-        &mut lines,
-        reader,
-        writer,
-        &mut budget,
-        desk,
-        &mut ended,
-    )? {}
+    while !reader.ended() {
+        let found = match lines.next_line(reader, &mut budget) {
+            Ok(found) => found,
+            Err(stop) => return Err(stop.reading()),
+        };
+        if found == Found::End {
+            return Ok(ended);
+        }
+        serve_line(
+            alloc,
+            writer,
+            &mut budget,
+            desk,
+            &lines.line,
+            found,
+            &mut ended,
+        )?;
+    }
     Ok(ended)
 }

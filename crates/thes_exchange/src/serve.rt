@@ -1,7 +1,7 @@
 //! One line: what it asks for, and what it is answered with.
-ghost use Rattle.std.specs.Prelude.{◌≡◌, ◌≤◌, ◌↔◌, ℕ, List, true, false, OnOk, OnErr, IsErrOf};
+ghost use Rattle.std.specs.Prelude.{◌≡◌, ◌⊎◌, ◌↔◌, ℕ, List, true, false, IsTrue, OnOk, OnErr, IsErrOf};
 ghost use Rattle.std.specs.Io.KnownBytes.{Appends};
-ghost use Rattle.thes_base.specs.Pipe.{failed_of, ended_of, denied_of, written, AppendsFront};
+ghost use Rattle.thes_base.specs.Pipe.{failed_of, ended_of, denied_of, written, AppendsFront, PaysCalls};
 ghost use Rattle.thes_exchange.specs.Readings.{Reaches};
 ghost use Rattle.thes_exchange.specs.Requests.{request_of};
 ghost use Rattle.thes_exchange.specs.Serving.{Serves, outcome_text};
@@ -67,8 +67,8 @@ impl Outcome {
         ensures err { OnErr result (AppendsFront (written W.contents writer.old) (written W.contents writer.new) (outcome_text self.now)) }
         ensures ended { ended_of writer.new ≡ ended_of writer.old }
         ensures failed { IsErrOf result Stop.Failed ↔ (failed_of writer.new ≡ true) }
-        ensures too_long { IsErrOf result Stop.TooLong → denied_of writer.new ≡ true }
-        ensures never_more { budget.new ≤ budget.old }
+        ensures denied { IsTrue (denied_of writer.new) ↔ (IsTrue (denied_of writer.old) ⊎ IsErrOf result Stop.TooLong) }
+        ensures paid { PaysCalls writer.old writer.new budget.old budget.new }
     {
         match self {
             Outcome::Told(reply) => writer.write_all(budget, reply_line(*reply).as_bytes()),

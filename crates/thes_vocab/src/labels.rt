@@ -93,9 +93,10 @@ impl LabelTable {
     pub(crate) fn has_name(&self, owner: ResNo, tag: &Tag, text: &str) -> bool
         ensures { result ≡ has_name self.now owner tag.now text.now }
     {
-        self.contains(owner, LabelKind::Pref, tag, text)
-            || self.contains(owner, LabelKind::Alt, tag, text)
-            || self.contains(owner, LabelKind::Hidden, tag, text)
+        match self.row(owner) {
+            Some(row) => row.has_name(tag, text),
+            None => false,
+        }
     }
 
     // The owner's preferred label in the language, or one of them.

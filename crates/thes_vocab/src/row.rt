@@ -5,7 +5,7 @@ ghost use Rattle.std.specs.Ordering.{eq_by_cmp};
 ghost use Rattle.thes_base.specs.Data.{LabelData};
 ghost use Rattle.thes_base.specs.Labels.{label_kind_no};
 ghost use Rattle.thes_vocab.specs.Places.{IsPlace, IsPreferredAt};
-ghost use Rattle.thes_vocab.specs.Taken.{takes_own, taken, gives};
+ghost use Rattle.thes_vocab.specs.Taken.{has_own_name, takes_own, taken, gives};
 ghost use Rattle.thes_vocab.specs.LabelData.{data_cmp, language_cmp, own_label, has_own, HasPreferred, HasNoPreferred, HasTwo};
 
 use std::alloc::{AllocError, Global};
@@ -70,14 +70,20 @@ impl Row {
         }
     }
 
+    // Whether the text is a preferred, an alternative or a hidden label in the language.
+    pub(crate) fn has_name(&self, tag: &Tag, text: &str) -> bool
+        ensures { result ≡ has_own_name self.now tag.now text.now }
+    {
+        self.contains(LabelKind::Pref, tag, text)
+            || self.contains(LabelKind::Alt, tag, text)
+            || self.contains(LabelKind::Hidden, tag, text)
+    }
+
     // Whether the label is a name that is not among these.
     fn takes(&self, label: &Label) -> bool
         ensures { result ≡ takes_own self.now label.now }
     {
-        label.kind() != LabelKind::Scope
-            && !self.contains(LabelKind::Pref, &label.tag, label.text())
-            && !self.contains(LabelKind::Alt, &label.tag, label.text())
-            && !self.contains(LabelKind::Hidden, &label.tag, label.text())
+        label.kind() != LabelKind::Scope && !self.has_name(&label.tag, label.text())
     }
 
     // The same labels.
@@ -186,16 +192,20 @@ fn preferred_place(labels: &[Label], tag: &Tag) -> Option<usize>
 fn order(label: &Label, kind: LabelKind, tag: &Tag, text: &str) -> Ordering
     ensures { result ≡ data_cmp label.now (own_label kind tag.now text.now) }
 {
-    language_order(label, kind, tag).then(label.text().cmp(text))
+    match language_order(label, kind, tag) {
+        Ordering::Equal => label.text().cmp(text),
+        unequal => unequal,
+    }
 }
 
 // How the label stands to those of this kind and language.
 fn language_order(label: &Label, kind: LabelKind, tag: &Tag) -> Ordering
     ensures { result ≡ language_cmp label.now (own_label kind tag.now []) }
 {
-    number(label.kind())
-        .cmp(&number(kind))
-        .then(label.tag.as_str().cmp(tag.as_str()))
+    match number(label.kind()).cmp(&number(kind)) {
+        Ordering::Equal => label.tag.as_str().cmp(tag.as_str()),
+        unequal => unequal,
+    }
 }
 
 // The kind's place among the kinds.

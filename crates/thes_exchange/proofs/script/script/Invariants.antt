@@ -1,22 +1,21 @@
-use Rattle.std.proofs.Common.{◌≡◌, ◌≤◌, ◌-◌, false, true, IfSome}
-use Rattle.thes_base.specs.Pipe.{IsFresh, failed_of, unread, written}
-use Rattle.thes_exchange.specs.Feed.{left}
-use Rattle.thes_exchange.specs.Script.{lines_limit}
+use Rattle.std.proofs.Common.{◌≡◌, ◌≤◌, ◌-◌, false, true}
+use Rattle.thes_base.specs.Pipe.{IsFresh, failed_of, denied_of}
+use Rattle.thes_base.proofs.PipeLemmas.{HasLeft}
+use Rattle.thes_exchange.specs.Script.{lines_limit, scene}
 use Rattle.thes_exchange.specs.Serving.{Serves}
-use Rattle.thes_exchange.specs.Served.{Served, Fed}
+use Rattle.thes_exchange.specs.Served.{Served}
 use Rattle.thes_exchange.proofs.script.script.Given as goal
 
-abbrev pub invariant-loop-lines : goal.invariant-loop-lines
-invariant-loop-lines g l = record {
-  served : IfSome (unread g.R.Read.remaining l.fn.reader) (λ input. Served (Serves g.D.Desk.performs g.D.Desk.shows) input
-      (left l.lines.feed (unread g.R.Read.remaining l.reader)) l.lines.count
-      l.fn.desk l.desk (written g.W.Write.contents l.fn.writer) (written g.W.Write.contents l.writer) l.ended);
-  fed : IfSome (unread g.R.Read.remaining l.fn.reader) (λ input. Fed input (left l.lines.feed (unread g.R.Read.remaining l.reader)) l.lines.count);
-  reader : IsFresh l.reader;
-  writer : failed_of l.writer ≡ false;
-  desk : g.D.Desk.is_open l.desk ≡ true;
+abbrev pub invariant-loop-ended : goal.invariant-loop-ended
+invariant-loop-ended g l = record {
+  served : Served g.R.Read.remaining g.W.Write.contents (Serves g.D.Desk.performs g.D.Desk.shows)
+      (scene l.fn.reader l.fn.writer l.fn.desk) (scene l.reader l.writer l.desk) l.lines.feed l.lines.count l.ended;
+  reader : (failed_of l.reader ≡ false) × (denied_of l.reader ≡ false);
+  writer : IsFresh l.writer;
+  stays_open : g.D.Desk.is_open l.desk ≡ true;
   within : l.lines.count ≤ lines_limit;
+  calls : HasLeft l.fn.reader l.reader l.fn.writer l.writer l.budget;
 }
 
-abbrev pub decreases-loop-lines : goal.decreases-loop-lines
-decreases-loop-lines g l = lines_limit - l.lines.count
+abbrev pub decreases-loop-ended : goal.decreases-loop-ended
+decreases-loop-ended g l = lines_limit - l.lines.count

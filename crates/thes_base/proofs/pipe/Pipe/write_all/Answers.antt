@@ -9,5 +9,5 @@ loop-at-preserved-in-Ok g c = record {
   denied = search rules;
   within = within_rest c.args.bytes.now c.loop-at.at c.in-Ok.n (omega arith) c.in-Ok.ensures.bound;
   bytes = appends_more _ _ _ _ c.loop-at.at c.in-Ok.n c.loop-at.invariant.bytes (front_of_rest _ _ c.args.bytes.now c.loop-at.at c.in-Ok.n c.in-Ok.ensures.bytes);
-  never_more = omega arith;
+  paid = search rules;
 }

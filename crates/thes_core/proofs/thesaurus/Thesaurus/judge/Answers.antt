@@ -21,3 +21,6 @@ pub returns-in-Split : goal.returns-in-Split
 returns-in-Split c =
     subst (λ (command : Command). IfOk c.judge_split.result (row_of (setting_of c.args.self.now) (state_of c.args.self.now) (next_state command (state_of c.args.self.now)) command)) (sym c.in-Split.is)
     (subst (λ (ns : List ℕ). IfOk c.judge_split.result (row_of (setting_of c.args.self.now) (state_of c.args.self.now) (next_state (request.Split c.in-Split.source c.in-Split.tag c.in-Split.text ns) (state_of c.args.self.now)) (request.Split c.in-Split.source c.in-Split.tag c.in-Split.text ns))) c.as_slice.ensures c.judge_split.ensures)
+
+pub returns-in-Link : goal.returns-in-Link
+returns-in-Link c = subst (λ (command : Command). IfOk c.judge_link.result (row_of (setting_of c.args.self.now) (state_of c.args.self.now) (next_state command (state_of c.args.self.now)) command)) (sym c.in-Link.is) c.judge_link.ensures
