@@ -2,11 +2,13 @@
 
 import json
 import pathlib
+import resource
 import subprocess
 import sys
-import time
 
-PROGRAM = str(pathlib.Path(__file__).resolve().parent.parent / "thesaurus")
+HOME = pathlib.Path(__file__).resolve().parent.parent
+LAUNCHER = str(HOME / "thesaurus")
+PROGRAM = str(HOME / "crates" / "thes_cli" / "out" / "thes_cli")
 RUNS = 5
 
 
@@ -28,11 +30,17 @@ def posts(count, concepts):
         yield line(do="post", key=f"k{number}", record=f"r{number}", concept=2 + (number - 1) % concepts)
 
 
+def spent():
+    """The seconds of CPU, user and system together, of all runs so far."""
+    usage = resource.getrusage(resource.RUSAGE_CHILDREN)
+    return usage.ru_utime + usage.ru_stime
+
+
 def run(script):
-    """The seconds of one run, and what the program wrote."""
-    begun = time.perf_counter()
+    """The seconds of CPU of one run, and what the program wrote."""
+    before = spent()
     ran = subprocess.run([PROGRAM, "script"], input=script, stdout=subprocess.PIPE, check=False)
-    seconds = time.perf_counter() - begun
+    seconds = spent() - before
     if ran.returncode != 0:
         refused = next((it for it in ran.stdout.splitlines() if it[2:4] in (b"no", b"ba", b"fa")), b"")
         sys.exit(f"{PROGRAM} script ended with {ran.returncode}: {refused.decode()}")
@@ -40,7 +48,7 @@ def run(script):
 
 
 def seconds_of(requests):
-    """The seconds of the fastest of some runs. Each request must be accepted."""
+    """The seconds of CPU of the fastest of some runs. Each request must be accepted."""
     requests = list(requests)
     script = "".join(requests).encode()
     best = None
@@ -54,7 +62,7 @@ def seconds_of(requests):
 
 def build():
     """Builds the program, so that no run is timed with its build."""
-    subprocess.run([PROGRAM, "--help"], stdout=subprocess.DEVNULL, check=True)
+    subprocess.run([LAUNCHER, "--help"], stdout=subprocess.DEVNULL, check=True)
 
 
 def report(rows, bounds):

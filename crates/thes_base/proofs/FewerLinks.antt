@@ -1,5 +1,5 @@
 -- A merge leaves at most as many links as there were.
-use Rattle.std.proofs.Common.{◌≡◌, ◌≤◌, ◌+◌, ℕ, List, [], ◌∷◌, inl, inr, sym, ap, subst, ◌∙◌, arith, Bool, true, false, cond, not, Contains, map}
+use Rattle.std.proofs.Common.{◌≡◌, ◌≤◌, ◌+◌, ℕ, List, [], ◌∷◌, inl, inr, sym, ap, ◌∙◌, arith, Bool, true, false, cond, not, map}
 use Rattle.std.specs.Prelude.{◌==◌, filter}
 use Rattle.std.specs.FinSet as set
 use Rattle.std.proofs.lemmas.Bool.{cases_Bool}

@@ -1,9 +1,10 @@
 -- A split moves as many postings as it lists.
-use Rattle.std.proofs.Common.{◌≡◌, ◌⊎◌, ◌<◌, ◌≤◌, ℕ, suc, ◌+◌, length, List, [], ◌∷◌, refl, sym, ap, ◌∙◌, inl, inr, arith, Bool, true, false, cond, ◌||◌, eqb, eqb-true, ne_eqb}
+use Rattle.std.proofs.Common.{◌≡◌, ◌<◌, ◌≤◌, ℕ, suc, ◌+◌, length, List, [], ◌∷◌, refl, sym, ap, ◌∙◌, inl, inr, arith, Bool, true, false, cond, ◌||◌, eqb, eqb-true, ne_eqb}
 use borrow.Author.Tests.{eqb-false}
 use Rattle.std.specs.Prelude.{None, Some, count_by, slice_get}
 use Rattle.std.specs.List.{list_any}
 use Rattle.std.proofs.lemmas.List.Sums.{sum_by-cons}
+use Rattle.std.proofs.lemmas.Bool.{cases_Bool}
 use Rattle.thes_base.specs.declared.data.History.{History}
 use Rattle.thes_base.specs.State.{State}
 use Rattle.thes_base.specs.Changes.{is_listed}
@@ -12,10 +13,6 @@ use Rattle.thes_base.specs.Refusals.{EachOnce, EachListed, IsKnownPosting, unles
 use Rattle.thes_base.specs.Legal.{Legal}
 use Rattle.thes_base.proofs.RowLemmas.{passed_unless}
 use Rattle.thes_base.proofs.NumberedLemmas.{numbered_bound}
-
-decided : (b : Bool) → (b ≡ true) ⊎ (b ≡ false)
-decided true = inl refl
-decided false = inr refl
 
 either_one : (p q : Bool) → (p ≡ true → q ≡ false) → cond (p || q) 1 0 ≡ cond p 1 0 + cond q 1 0
 either_one true true apart = let e = apart refl in absurd (cc)
@@ -74,7 +71,7 @@ module _ (n : ℕ) where
   count_once first [] from least most = absurd (omega arith)
   count_once first (h ∷ hs) from least most =
       let at = from.0 in
-      elim (decided (has_number h)) [
+      elim (cases_Bool (has_number h)) [
         | inl hit ↦
             let same = eqb-true n h.number hit in
             let a = count_hit h hs hit in

@@ -1,30 +1,40 @@
 -- What refuses a link and a merge can be read off the triples of the state that would be.
-use Rattle.std.proofs.Common.{◌≡◌, ◌⊎◌, ℕ, List, sym, subst, inl, inr, Bool, true, false, not, ◌&&◌, ◌||◌, nat_lt}
+use Rattle.std.proofs.Common.{◌≡◌, ◌⊎◌, ℕ, ◌++◌, ◌∷◌, [], List, refl, arith, length-append, sym, subst, inl, inr, Bool, true, false, not, ◌&&◌, ◌||◌, nat_lt}
 use Rattle.std.specs.Prelude.{◌↔◌, Option, None, Some, if◌then◌else◌, ◌==◌}
 use Rattle.thes_base.specs.declared.data.Resource.{Resource}
 use Rattle.thes_base.specs.declared.data.Link.{Link}
 use Rattle.thes_base.specs.declared.fault.Refusal.{Refusal}
 use Rattle.thes_base.specs.declared.fault.Refusal.TheVariants as no
 use Rattle.thes_base.specs.Rows.{Row, refused_if, refused_unless, accepted}
-use Rattle.thes_base.specs.Resources.{set_numbered, Exists, is_outside}
+use Rattle.thes_base.specs.Resources.{set_numbered, Exists, scheme_of, is_outside, is_outside_kind}
+use Rattle.std.specs.FinSet.{contains, insert}
 use Rattle.thes_base.specs.Links.{HeldIn, NoCycle, S27, S46, form_of, is_symmetric, exchanged, norm, sent, sent_link, contracted, unless_consistent}
 use Rattle.thes_base.specs.State.{State}
 use Rattle.thes_base.specs.Triples.{Triple, Asserted}
 use Rattle.thes_base.specs.Skos as skos
-use Rattle.thes_base.specs.Changes.{link_added, dead, merged}
-use Rattle.thes_base.specs.Refusals.{Setting, unless_ends, unless_pair, unless_within}
-use Rattle.thes_base.specs.Machine.{row_of}
+use Rattle.thes_base.specs.Changes.{label, next_number, made, concept_resource, label_added, renamed, link_added, dead, merged}
+use Rattle.thes_base.specs.Refusals.{Setting, unless_scheme, unless_unique, unless_owner, unless_label, unless_relabelled, unless_ends, unless_pair, unless_live_concept, unless_listed, unless_within}
+use Rattle.thes_base.specs.Machine.{next_state, owned, link}
+use Rattle.thes_base.specs.declared.request.Command.{Command}
+use Rattle.thes_base.specs.declared.data.History.{History}
+use Rattle.thes_base.specs.declared.data.LinkKind.{LinkKind}
+use Rattle.thes_base.specs.declared.data.LabelKind.TheVariants.{Pref}
+use Rattle.thes_base.specs.Data.{LabelData}
+use Rattle.thes_base.specs.Labels.{Label, Labels, HasLabel, preferred_in, S13, S14, UniquePreferred}
 use Rattle.thes_base.specs.declared.request.Command.TheVariants as request
 use Rattle.thes_base.specs.Legal.{Legal}
-use Rattle.thes_base.specs.Laws.{IsSeen, RefusesByTriples, unless_triples_consistent}
+use Rattle.thes_base.specs.Laws.{IsSeen, RefusesByTriples, IsReadOff, unless_triples_consistent, unless_triples_unique, unless_triples_disjoint, unless_triples_labelled}
 use Rattle.thes_base.proofs.RowLemmas.{passed_if, passed_unless}
-use Rattle.thes_base.proofs.RowParts.{ends_part, pair_part}
+use Rattle.thes_base.proofs.RowParts.{scheme_part, owner_part, ends_part, pair_part, live_concept_part, listed_part}
+use Rattle.thes_base.proofs.NumberedLemmas.{push_old, push_new}
+use Rattle.thes_base.proofs.LabelSets.{inserted_cases}
+use Rattle.thes_base.proofs.LabelsKept.{renamed_cases}
 use Rattle.thes_base.proofs.ResourceLemmas.{marked_dead_at, exists_dead}
-use Rattle.thes_base.proofs.ResourcesKept.{resources_merged}
+use Rattle.thes_base.proofs.ResourcesKept.{IsFit, concept_fit, own_scheme, each_pushed, iris_push, resources_merged}
 use Rattle.thes_base.proofs.ConditionLemmas.{owner_exists, ends_exist}
 use Rattle.thes_base.proofs.LinkSets.{link_inserted_cases, contracted_from}
 use Rattle.thes_base.proofs.MergedLabels.{labels_merged}
-use Rattle.thes_base.proofs.MachineLemmas.{sees_rules}
+use Rattle.thes_base.proofs.MachineLemmas.{sees, sees_rules}
 
 -- Conditions that hold together, and rests that say the same, make rows that say the same.
 module _ (C D : Type 0) (name : Refusal) (rest other : Row) (answer : Option Refusal) where
@@ -35,7 +45,7 @@ module _ (C D : Type 0) (name : Refusal) (rest other : Row) (answer : Option Ref
 unless_same : (C D : Type 0) (name : Refusal) (rest other : Row) (answer : Option Refusal) → C ↔ D → rest answer ↔ other answer → refused_unless C name rest answer ↔ refused_unless D name other answer
 unless_same C D name rest other answer same says = (unless_to C D name rest other answer same.0 same.1 says.0, unless_to D C name other rest answer same.1 same.0 says.1)
 
--- where the triples show the rules of links, the row of the one is that of the other
+-- where the triples show the rules, the row of the one is that of the other
 module _ (base : List ℕ) (s : State) (seen : IsSeen base s) (rest : Row) (answer : Option Refusal) where
   abbrev held : Link → Type 0
   held = HeldIn s.links
@@ -43,11 +53,25 @@ module _ (base : List ℕ) (s : State) (seen : IsSeen base s) (rest : Row) (answ
   abbrev triples : Triple → Type 0
   triples = Asserted base s
 
-  row_seen : unless_consistent held rest answer ↔ unless_triples_consistent triples rest answer
-  row_seen =
+  consistent_seen : unless_consistent held rest answer ↔ unless_triples_consistent triples rest answer
+  consistent_seen =
       unless_same (NoCycle held) (skos.NoCycle triples) no.Cycle (refused_unless (S27 held) no.S27 (refused_unless (S46 held) no.S46 rest)) (refused_unless (skos.S27 triples) no.S27 (refused_unless (skos.S46 triples) no.S46 rest)) answer seen.no_cycle
       (unless_same (S27 held) (skos.S27 triples) no.S27 (refused_unless (S46 held) no.S46 rest) (refused_unless (skos.S46 triples) no.S46 rest) answer seen.s27
       (unless_same (S46 held) (skos.S46 triples) no.S46 rest rest answer seen.s46 (λ says. says, λ says. says)))
+
+  abbrev unique : Row
+  unique = unless_unique s.resources s.labels rest
+
+  unique_seen : unique answer ↔ unless_triples_unique triples rest answer
+  unique_seen = unless_same (UniquePreferred s.resources s.labels) (skos.UniquePreferred triples) no.PreferredTaken rest rest answer seen.unique_preferred (λ says. says, λ says. says)
+
+  disjoint_seen : refused_unless (S13 s.labels) no.S13 unique answer ↔ unless_triples_disjoint triples rest answer
+  disjoint_seen = unless_same (S13 s.labels) (skos.S13 triples) no.S13 unique (unless_triples_unique triples rest) answer seen.s13 unique_seen
+
+  labelled_seen : refused_unless (S13 s.labels) no.S13 (refused_unless (S14 s.labels) no.S14 unique) answer ↔ unless_triples_labelled triples rest answer
+  labelled_seen =
+      unless_same (S13 s.labels) (skos.S13 triples) no.S13 (refused_unless (S14 s.labels) no.S14 unique) (refused_unless (skos.S14 triples) no.S14 (unless_triples_unique triples rest)) answer seen.s13
+      (unless_same (S14 s.labels) (skos.S14 triples) no.S14 unique (unless_triples_unique triples rest) answer seen.s14 unique_seen)
 
 -- both ends of a link are resources
 abbrev HasEnds : List Resource → Link → Type 0
@@ -105,7 +129,39 @@ module _ (base : List ℕ) (s : State) (legal : Legal base s) where
       (λ l held. let ends = contracted_ends source target known.0.1 l held in (exists_dead s.resources source (Some target) r at l.a ends.0, exists_dead s.resources source (Some target) r at l.b ends.1))
       (λ l held. exists_dead s.resources source (Some target) r at l.owner (owner_exists s.resources l.owner (labels.owners l held))))
 
--- a part of a row that refuses nothing lets through to the rest
+  owner_known : (l : Label) → contains s.labels l ≡ true → Exists s.resources l.owner
+  owner_known l held = owner_exists s.resources l.owner (legal.labels.owners l held)
+
+  -- one more resource, which is no outside concept, with its label
+  pushed_seen : (r : Resource) (tag text : List ℕ) (histories : List History) → IsFit s.resources r → is_outside_kind r.kind ≡ false → IsSeen base (record (made r tag text s) { histories = histories })
+  pushed_seen r tag text histories fit inside =
+      sees base (record (made r tag text s) { histories = histories }) (let n = length-append s.resources (r ∷ []) in let few = legal.resources.few in omega (arith, n, few)) (each_pushed base s.resources s.iris r legal.resources fit) (iris_push base s.resources s.iris r legal.resources fit inside)
+      (λ l held. let ends = held_ends l held in (still l.a ends.0, still l.b ends.1))
+      (λ l held. owner_at l (inserted_cases s.labels (label (next_number s) Pref tag text) l held))
+    where
+      still : (n : ℕ) → Exists s.resources n → Exists (s.resources ++ r ∷ []) n
+      still n (q, at) = (q, push_old s.resources r q n at)
+
+      owner_at : (l : Label) → (l ≡ label (next_number s) Pref tag text) ⊎ (contains s.labels l ≡ true) → Exists (s.resources ++ r ∷ []) l.owner
+      owner_at l (inl is) = subst (λ (x : Label). Exists (s.resources ++ r ∷ []) x.owner) (sym is) (r, push_new s.resources r)
+      owner_at l (inr old) = still l.owner (owner_known l old)
+
+  -- other labels, of owners that are known
+  relabelled_seen : (labels : Labels) → ((l : Label) → contains labels l ≡ true → Exists s.resources l.owner) → IsSeen base (record s { labels = labels })
+  relabelled_seen labels owners = sees_rules base (record s { labels = labels }) legal.resources held_ends owners
+
+  added_owner : (l q : Label) → Exists s.resources l.owner → contains (insert s.labels l) q ≡ true → Exists s.resources q.owner
+  added_owner l q known held = elim (inserted_cases s.labels l q held) [ inl is ↦ subst (λ (x : Label). Exists s.resources x.owner) (sym is) known | inr old ↦ owner_known q old ]
+
+  renamed_owner : (owner : ℕ) (tag text : List ℕ) (keep : Bool) → Exists s.resources owner → (o : Option (List ℕ)) (q : Label) → contains (elim o [ None ↦ s.labels | Some old ↦ renamed owner tag text keep old s.labels ]) q ≡ true → Exists s.resources q.owner
+  renamed_owner owner tag text keep known None q held = owner_known q held
+  renamed_owner owner tag text keep known (Some old) q held = elim (renamed_cases s.resources s.labels owner tag text keep old q held) [
+    | inl is ↦ subst (λ (x : Label). Exists s.resources x.owner) (sym is) known
+    | inr (inl is) ↦ subst (λ (x : Label). Exists s.resources x.owner) (sym is) known
+    | inr (inr before) ↦ owner_known q before.1
+  ]
+
+-- where the sentence fails, or the condition holds, the rest decides
 past_if : {sentence rest : Type 0} {name : Refusal} {answer : Option Refusal} → (¬ sentence) → (sentence × (answer ≡ Some name)) ⊎ ((¬ sentence) × rest) → rest
 past_if holds_not (inl (holds, is)) = absurd (holds_not holds)
 past_if holds_not (inr (_, says)) = says
@@ -114,49 +170,77 @@ past_unless : {condition rest : Type 0} {name : Refusal} {answer : Option Refusa
 past_unless holds (inl (fails, is)) = absurd (fails holds)
 past_unless holds (inr (_, says)) = says
 
-past_ends : (rs : List Resource) (l : Link) (rest : Row) (answer : Option Refusal) → unless_ends rs l accepted None → unless_ends rs l rest answer → rest answer
-past_ends rs l rest answer ends row =
-    let known = passed_unless ends in
-    let kinds = passed_unless known.1 in
-    let live = passed_unless kinds.1 in
-    let apart = passed_if live.1 in
-    let schemes = passed_unless apart.1 in
-    past_unless schemes.0 (past_if apart.0 (past_unless live.0 (past_unless kinds.0 (past_unless known.0 row))))
+module _ (setting : Setting) (s : State) (legal : Legal setting.base s) where
+  abbrev room : Command → Row
+  room command = unless_within setting s (next_state command s)
 
-past_pair : (rs : List Resource) (source target : ℕ) (rest : Row) (answer : Option Refusal) → unless_pair rs source target accepted None → unless_pair rs source target rest answer → rest answer
-past_pair rs source target rest answer pair row =
-    let known = passed_unless pair in
-    let kinds = passed_unless known.1 in
-    let live = passed_unless kinds.1 in
-    let apart = passed_if live.1 in
-    let schemes = passed_unless apart.1 in
-    past_unless schemes.0 (past_if apart.0 (past_unless live.0 (past_unless kinds.0 (past_unless known.0 row))))
+  by_concept : (scheme : ℕ) (tag text : List ℕ) → unless_scheme s.resources scheme accepted None → IsReadOff setting s (request.Concept scheme tag text) unless_triples_unique
+  by_concept scheme tag text may answer =
+      let command = request.Concept scheme tag text in
+      let after = next_state command s in
+      let fit = concept_fit s.resources (Some scheme) (scheme, refl, (passed_unless (passed_unless may).1).0) in
+      let same = unique_seen setting.base after (pushed_seen setting.base s legal (concept_resource (Some scheme)) tag text s.histories fit refl) (room command) answer in
+      let part = scheme_part s.resources scheme in
+      let rest : Row = unless_unique after.resources after.labels (room command) in
+      (λ row. same.0 (part.past rest answer may row), λ row. part.passes rest answer may (same.1 row))
 
-module _ (setting : Setting) (s : State) (legal : Legal setting.base s) (answer : Option Refusal) where
-  module _ (l : Link) where
-    abbrev is_there : Type 0
-    is_there = HeldIn s.links (norm (is_outside s.resources) l)
+  by_label : (owner : ℕ) (l : LabelData) → unless_owner s.resources owner accepted None → (¬ HasLabel s.labels owner l.kind l.tag l.text) → IsReadOff setting s (request.AddLabel owner l) unless_triples_labelled
+  by_label owner l may new answer =
+      let command = request.AddLabel owner l in
+      let after = next_state command s in
+      let seen = relabelled_seen setting.base s legal after.labels (λ q held. added_owner setting.base s legal (owned owner l) q (passed_unless may).0 held) in
+      let same = labelled_seen setting.base after seen (room command) answer in
+      let part = owner_part s.resources owner in
+      let rest : Row = unless_label s.labels after.resources after.labels (owned owner l) (room command) in
+      (λ row. same.0 (past_if new (part.past rest answer may row)), λ row. part.passes rest answer may (inr (new, same.1 row)))
 
-    abbrev link_broken : Row
-    link_broken = unless_consistent (HeldIn (link_added l s).links) (unless_within setting s (link_added l s))
+  by_relabel : (owner : ℕ) (tag text old : List ℕ) (keep : Bool) → unless_owner s.resources owner accepted None → HasLabel s.labels owner Pref tag old → IsReadOff setting s (request.Relabel owner tag text keep) unless_triples_disjoint
+  by_relabel owner tag text old keep may has answer =
+      let command = request.Relabel owner tag text keep in
+      let after = next_state command s in
+      let seen = relabelled_seen setting.base s legal after.labels (λ q held. renamed_owner setting.base s legal owner tag text keep (passed_unless may).0 (preferred_in s.labels owner tag) q held) in
+      let same = disjoint_seen setting.base after seen (room command) answer in
+      let part = owner_part s.resources owner in
+      let rest : Row = unless_relabelled s.labels after.resources after.labels owner tag (room command) in
+      (λ row. same.0 (past_unless (old, has) (part.past rest answer may row)), λ row. part.passes rest answer may (inr ((old, has), same.1 row)))
 
-    link_by_triples : unless_ends s.resources l accepted None → (¬ is_there) → row_of setting s (link_added l s) (request.Link l.kind l.a l.b) answer ↔ unless_triples_consistent (Asserted setting.base (link_added l s)) (unless_within setting s (link_added l s)) answer
-    link_by_triples ends new =
-        let same = row_seen setting.base (link_added l s) (link_seen setting.base s legal l (passed_unless ends).0) (unless_within setting s (link_added l s)) answer in
-        let rest : Row = refused_if is_there no.LinkThere link_broken in
-        (λ row. same.0 (past_if new (past_ends s.resources l rest answer ends row)), λ row. (ends_part s.resources l).passes rest answer ends (inr (new, same.1 row)))
+  by_link : (kind : LinkKind) (a b : ℕ) → unless_ends s.resources (link kind a b) accepted None → (¬ HeldIn s.links (norm (is_outside s.resources) (link kind a b))) → IsReadOff setting s (request.Link kind a b) unless_triples_consistent
+  by_link kind a b may new answer =
+      let command = request.Link kind a b in
+      let after = next_state command s in
+      let same = consistent_seen setting.base after (link_seen setting.base s legal (link kind a b) (passed_unless may).0) (room command) answer in
+      let part = ends_part s.resources (link kind a b) in
+      let rest : Row = refused_if (HeldIn s.links (norm (is_outside s.resources) (link kind a b))) no.LinkThere (unless_consistent (HeldIn after.links) (room command)) in
+      (λ row. same.0 (past_if new (part.past rest answer may row)), λ row. part.passes rest answer may (inr (new, same.1 row)))
 
-  module _ (source target : ℕ) where
-    abbrev merge_broken : Row
-    merge_broken = unless_consistent (HeldIn (merged source target s).links) (unless_within setting s (merged source target s))
+  by_merge : (source target : ℕ) → unless_pair s.resources source target accepted None → IsReadOff setting s (request.Merge source target) unless_triples_consistent
+  by_merge source target may answer =
+      let command = request.Merge source target in
+      let after = next_state command s in
+      let same = consistent_seen setting.base after (merge_seen setting.base s legal source target may) (room command) answer in
+      let part = pair_part s.resources source target in
+      let rest : Row = unless_consistent (HeldIn after.links) (room command) in
+      (λ row. same.0 (part.past rest answer may row), λ row. part.passes rest answer may (same.1 row))
 
-    merge_by_triples : unless_pair s.resources source target accepted None → row_of setting s (merged source target s) (request.Merge source target) answer ↔ unless_triples_consistent (Asserted setting.base (merged source target s)) (unless_within setting s (merged source target s)) answer
-    merge_by_triples pair =
-        let same = row_seen setting.base (merged source target s) (merge_seen setting.base s legal source target pair) (unless_within setting s (merged source target s)) answer in
-        (λ row. same.0 (past_pair s.resources source target merge_broken answer pair row), λ row. (pair_part s.resources source target).passes merge_broken answer pair (same.1 row))
+  by_split : (source : ℕ) (tag text : List ℕ) (postings : List ℕ) → unless_live_concept s.resources source accepted None → unless_listed s.histories source postings accepted None → IsReadOff setting s (request.Split source tag text postings) unless_triples_unique
+  by_split source tag text postings may listed answer =
+      let command = request.Split source tag text postings in
+      let after = next_state command s in
+      let scheme = scheme_of s.resources source in
+      let fit = concept_fit s.resources scheme (own_scheme s.resources legal.resources.each source (passed_unless (passed_unless may).1).0) in
+      let same = unique_seen setting.base after (pushed_seen setting.base s legal (concept_resource scheme) tag text after.histories fit refl) (room command) answer in
+      let part = live_concept_part s.resources source in
+      let listing = listed_part s.histories source postings in
+      let last : Row = unless_unique after.resources after.labels (room command) in
+      let rest : Row = unless_listed s.histories source postings last in
+      (λ row. same.0 (listing.past last answer listed (part.past rest answer may row)), λ row. part.passes rest answer may (listing.passes last answer listed (same.1 row)))
 
 pub refuses_by_triples : RefusesByTriples
-refuses_by_triples = record {
-  link = λ setting s legal l ends new answer. link_by_triples setting s legal answer l ends new;
-  merge = λ setting s legal source target pair answer. merge_by_triples setting s legal answer source target pair;
+refuses_by_triples setting s legal = record {
+  concept = by_concept setting s legal;
+  add_label = by_label setting s legal;
+  relabel = by_relabel setting s legal;
+  link = by_link setting s legal;
+  merge = by_merge setting s legal;
+  split = by_split setting s legal;
 }

@@ -1,5 +1,5 @@
 -- A part of a row, judged alone, carries into the row: where it refuses, the row refuses with that name whatever
--- its rest is; and where it refuses nothing, the row says what its rest says.
+-- its rest is; and where it refuses nothing, the row says what its rest says, and no more.
 use Rattle.std.proofs.Common.{◌≡◌, ◌≢◌, ◌⊎◌, ℕ, inl, inr, refl}
 use Rattle.std.specs.Prelude.{Option, None, Some, List}
 use Rattle.std.specs.FinMap as dict
@@ -18,13 +18,14 @@ pub record IsPart (part : Row → Row) : Type 1 where
   pub stops : (rest : Row) (name : Refusal) → part accepted (Some name) → part rest (Some name)
   pub passes : (rest : Row) (answer : Option Refusal) → part accepted None → rest answer → part rest answer
   pub opens : (rest : Row) → part rest None → part accepted None × rest None
+  pub past : (rest : Row) (answer : Option Refusal) → part accepted None → part rest answer → rest answer
 
 -- no sentence
 nothing : IsPart (λ rest. rest)
-nothing = record { stops = λ rest name e. absurd (cc); passes = λ rest answer e says. says; opens = λ rest says. (refl, says) }
+nothing = record { stops = λ rest name e. absurd (cc); passes = λ rest answer e says. says; opens = λ rest says. (refl, says); past = λ rest answer e says. says }
 
 then_if : (sentence : Type 0) (name : Refusal) (part : Row → Row) → IsPart part → IsPart (λ rest. refused_if sentence name (part rest))
-then_if sentence name part is = record { stops = stops; passes = passes; opens = opens }
+then_if sentence name part is = record { stops = stops; passes = passes; opens = opens; past = past }
   where
     stops : (rest : Row) (other : Refusal) → refused_if sentence name (part accepted) (Some other) → refused_if sentence name (part rest) (Some other)
     stops rest other (inl found) = inl found
@@ -38,8 +39,13 @@ then_if sentence name part is = record { stops = stops; passes = passes; opens =
     opens rest (inl (holds, e)) = absurd (cc)
     opens rest (inr (holds_not, says)) = let o = is.opens rest says in (inr (holds_not, o.0), o.1)
 
+    past : (rest : Row) (answer : Option Refusal) → refused_if sentence name (part accepted) None → refused_if sentence name (part rest) answer → rest answer
+    past rest answer (inl (holds, e)) says = absurd (cc)
+    past rest answer (inr (holds_not, part_passes)) (inl (holds, e)) = absurd (holds_not holds)
+    past rest answer (inr (holds_not, part_passes)) (inr (_, says)) = is.past rest answer part_passes says
+
 then_unless : (condition : Type 0) (name : Refusal) (part : Row → Row) → IsPart part → IsPart (λ rest. refused_unless condition name (part rest))
-then_unless condition name part is = record { stops = stops; passes = passes; opens = opens }
+then_unless condition name part is = record { stops = stops; passes = passes; opens = opens; past = past }
   where
     stops : (rest : Row) (other : Refusal) → refused_unless condition name (part accepted) (Some other) → refused_unless condition name (part rest) (Some other)
     stops rest other (inl found) = inl found
@@ -53,8 +59,13 @@ then_unless condition name part is = record { stops = stops; passes = passes; op
     opens rest (inl (holds_not, e)) = absurd (cc)
     opens rest (inr (holds, says)) = let o = is.opens rest says in (inr (holds, o.0), o.1)
 
+    past : (rest : Row) (answer : Option Refusal) → refused_unless condition name (part accepted) None → refused_unless condition name (part rest) answer → rest answer
+    past rest answer (inl (holds_not, e)) says = absurd (cc)
+    past rest answer (inr (holds, part_passes)) (inl (holds_not, e)) = absurd (holds_not holds)
+    past rest answer (inr (holds, part_passes)) (inr (_, says)) = is.past rest answer part_passes says
+
 then_for : (sentence : ℕ → Type 0) (name : ℕ → Refusal) (part : Row → Row) → IsPart part → IsPart (λ rest. refused_for sentence name (part rest))
-then_for sentence name part is = record { stops = stops; passes = passes; opens = opens }
+then_for sentence name part is = record { stops = stops; passes = passes; opens = opens; past = past }
   where
     stops : (rest : Row) (other : Refusal) → refused_for sentence name (part accepted) (Some other) → refused_for sentence name (part rest) (Some other)
     stops rest other (inl found) = inl found
@@ -67,6 +78,11 @@ then_for sentence name part is = record { stops = stops; passes = passes; opens 
     opens : (rest : Row) → refused_for sentence name (part rest) None → refused_for sentence name (part accepted) None × rest None
     opens rest (inl (n, holds, e)) = absurd (cc)
     opens rest (inr (holds_not, says)) = let o = is.opens rest says in (inr (holds_not, o.0), o.1)
+
+    past : (rest : Row) (answer : Option Refusal) → refused_for sentence name (part accepted) None → refused_for sentence name (part rest) answer → rest answer
+    past rest answer (inl (n, holds, e)) says = absurd (cc)
+    past rest answer (inr (holds_not, part_passes)) (inl (n, holds, e)) = absurd (holds_not n holds)
+    past rest answer (inr (holds_not, part_passes)) (inr (_, says)) = is.past rest answer part_passes says
 
 -- The parts of the rows.
 

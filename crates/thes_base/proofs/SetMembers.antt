@@ -1,10 +1,10 @@
 -- What is in a finite set after a change, where values that compare alike are one.
-use Rattle.std.proofs.Common.{◌≡◌, ◌≢◌, ◌⊎◌, ◌+◌, inl, inr, List, Bool, true, false, not, cond, ◌&&◌, ◌||◌, Contains, refl, sym, ap, subst, ◌∙◌}
+use Rattle.std.proofs.Common.{◌≡◌, ◌≢◌, ◌⊎◌, ◌+◌, inl, inr, List, Bool, true, false, cond, ◌&&◌, Contains, refl, sym, ap, ◌∙◌}
 use Rattle.std.specs.declared.cmp.Ordering.{Ordering}
 use Rattle.std.specs.Ordering.{eq_by_cmp, is_eq}
 use Rattle.std.specs.Cmp.{IsTotalOrder, tied_itself, Equal-is}
 use Rattle.std.specs.FinSet.{FinSet, IsAntisymmetric, contains, insert, remove, retain, union, items, from_list, len, same_set, contains-insert, contains-remove, contains-retain, contains-union, contains-items, contains-from_list, len-insert}
-use Rattle.std.proofs.lemmas.Bool.{or_cases, or_left, or_right, and_parts, and_from, not-true, not_from_false, both_ways, false_from_ne_true}
+use Rattle.std.proofs.lemmas.Bool.{cases_Bool, or_cases, or_left, or_right, and_parts, and_from, not-true, not_from_false, both_ways, false_from_ne_true}
 use Rattle.std.proofs.lemmas.Cmp.{eq_by_cmp_equiv}
 use Rattle.std.proofs.lemmas.Map.Views.{list_any-from_Contains, Contains-from_any}
 
@@ -20,6 +20,12 @@ module _ {K : Type 0} {R : K → K → Ordering} (total : IsTotalOrder R) (exact
 
   tied_to : (x y : K) → x ≡ y → eq_by_cmp R x y ≡ true
   tied_to x y same = ap (λ z. eq_by_cmp R x z) (sym same) ∙ ap is_eq (tied_itself total x)
+
+  pub same_or_not : (x y : K) → (x ≡ y) ⊎ (x ≢ y)
+  same_or_not x y = elim (cases_Bool (eq_by_cmp R x y)) [
+    | inl e ↦ inl (tied x y e)
+    | inr e ↦ inr (λ same. both_ways _ e (tied_to x y same))
+  ]
 
   -- Insertion.
 

@@ -9,7 +9,7 @@ use Rattle.std.proofs.lemmas.List.Elements.{All-map}
 use Rattle.std.proofs.lemmas.List.Splits.{slice_split_none, slice_split_first}
 use Rattle.std.proofs.lemmas.List.Sums.{fails_before_first}
 use Rattle.std.proofs.lemmas.Str.Ascii.{lowercase-lowercase}
-use Rattle.thes_base.specs.Forms.{IsPart, AreParts, IsTag, IsKept, kept}
+use Rattle.thes_base.specs.Forms.{IsPart, AreParts, IsTag, HasKeptForm, kept}
 
 abbrev is_hyphen : ℕ → Bool
 is_hyphen b = b == 45
@@ -59,7 +59,7 @@ lower_twice [] = refl
 lower_twice (x ∷ xs) = rw (lowercase-lowercase x, lower_twice xs) refl
 
 -- a tag in lower case is a tag that may be kept
-pub kept_tag : (text : List ℕ) → IsTag text → IsKept IsTag true (kept true text)
+pub kept_tag : (text : List ℕ) → IsTag text → HasKeptForm IsTag true (kept true text)
 kept_tag text tag = record { form = lower_tag text tag; stays = lower_twice text }
 
 -- a loop that stops at the first part which fails

@@ -25,7 +25,11 @@ use Rattle.thes_base.specs.State.{State}
 -- how many were accepted, how many of them were withdrawn, and how many stand
 abbrev pub totals_of : List History → Totals
 totals_of histories =
-    record { accepted = accepted_count histories; withdrawn = withdrawn_count histories; standing = accepted_count histories - withdrawn_count histories }
+    record {
+      accepted = accepted_count histories;
+      withdrawn = withdrawn_count histories;
+      standing = accepted_count histories - withdrawn_count histories;
+    }
 
 -- the histories of the postings that stand at the concept, in the order of their numbers
 abbrev pub standing_histories : ℕ → List History → List History

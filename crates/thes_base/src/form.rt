@@ -1,14 +1,14 @@
-//! The forms of texts.
+//! The forms of texts: which texts have one, and what a text that lacks it is answered with.
 ghost use Rattle.std.specs.Prelude.{◌==◌, ◌↔◌, All, IsTrue, Bool, true, false, List, ℕ};
 ghost use Rattle.std.specs.List.{slice_split};
 ghost use Rattle.std.specs.Char.{IsAsciiAlphabetic, IsAsciiAlphanumeric};
-ghost use Rattle.thes_base.specs.Forms.{IsLine, IsTrimmedLine, IsText, IsKey, IsRecordName, IsNote, IsTag, IsPart, IsIri, IsBase, IsIriWithin, IsIriScheme, IsIriRest, IsKept, kept};
+ghost use Rattle.thes_base.specs.Forms.{IsLine, IsTrimmedLine, IsText, IsKey, IsRecordName, IsNote, IsTag, IsPart, IsIri, IsBase, IsIriWithin, IsIriScheme, IsIriRest, HasKeptForm, kept};
 ghost use Rattle.thes_base.specs.declared.fault.FormFault.{FormFault};
 ghost use Rattle.thes_base.specs.declared.fault.FormFault.TheVariants.{BadText, BadKey, BadRecord, BadTag, BadIri};
 
 use crate::fault::FormFault;
 
-/// A form of texts: which texts have it, and how they are kept.
+/// A form of texts.
 pub trait Form {
     ghost is_form: { List ℕ → Type 0 };
 
@@ -22,10 +22,10 @@ pub trait Form {
     /// Whether texts of the form are kept with their ASCII letters in lower case.
     const LOWERED: bool;
 
-    /// Whether a text has the form. If it does, it has it as it is kept, too.
+    /// Checks whether a text has the form. If it does, so does the text as it is kept.
     fn has_form(text: &str) -> bool
         ensures form { IsTrue result ↔ is_form text.now }
-        ensures stays { IsTrue result → IsKept is_form LOWERED (kept LOWERED text.now) };
+        ensures stays { IsTrue result → HasKeptForm is_form LOWERED (kept LOWERED text.now) };
 }
 
 /// The form of a label's text.

@@ -10,9 +10,6 @@ use std::io;
 use std::io::{ErrorKind, Read, Write};
 use std::marker::Model;
 
-#[cfg(test)]
-mod tests;
-
 /// How many reads and writes the call of an engine may still make, all its pipes together.
 #[derive(Drop)]
 pub struct Budget {
@@ -145,12 +142,15 @@ impl<R: Read> Pipe<R> {
         requires room { 0 < length buf.old }
         requires left { 0 < budget.old }
         ensures bound { ReadsAtMost result buf.new }
-        ensures bytes { ReadConsumes (unread R.remaining self.old) (unread R.remaining self.new) result buf.new }
+        ensures bytes { ReadConsumes (unread R.remaining self.old)
+            (unread R.remaining self.new) result buf.new }
 
-        // The end is noted just where no byte came, and a failure just where an error other than Interrupted came.
-        ensures ended { IfOk result (λ n. IsTrue (ended_of self.new) ↔ (IsTrue (ended_of self.old) ⊎ (n ≡ 0))) }
+        // The end is noted exactly when no byte came, and a failure exactly when an error other than Interrupted came.
+        ensures ended { IfOk result (λ n. IsTrue (ended_of self.new)
+            ↔ (IsTrue (ended_of self.old) ⊎ (n ≡ 0))) }
         ensures not_ended { OnErr result (ended_of self.new ≡ ended_of self.old) }
-        ensures failed { IfErr result (λ e. IsTrue (failed_of self.new) ↔ (IsTrue (failed_of self.old) ⊎ (error_kind e ≢ ErrorKind.Interrupted))) }
+        ensures failed { IfErr result (λ e. IsTrue (failed_of self.new)
+            ↔ (IsTrue (failed_of self.old) ⊎ (error_kind e ≢ ErrorKind.Interrupted))) }
         ensures not_failed { OnOk result (failed_of self.new ≡ failed_of self.old) }
         ensures denied { denied_of self.new ≡ denied_of self.old }
         ensures counted { calls_of self.new ≡ counted (calls_of self.old) 1 }
@@ -172,7 +172,8 @@ impl<R: Read> Pipe<R> {
         requires room { 0 < length buf.old }
         requires fresh { IsFresh self.old }
         ensures bound { ReadsAtMost result buf.new }
-        ensures bytes { ReadConsumes (unread R.remaining self.old) (unread R.remaining self.new) result buf.new }
+        ensures bytes { ReadConsumes (unread R.remaining self.old)
+            (unread R.remaining self.new) result buf.new }
         ensures ended { IfOk result (λ n. IsTrue (ended_of self.new) ↔ (n ≡ 0)) }
         ensures not_ended { OnErr result (ended_of self.new ≡ false) }
         ensures failed { IsErrOf result Stop.Failed ↔ (failed_of self.new ≡ true) }
@@ -202,11 +203,14 @@ impl<W: Write> Pipe<W> {
         requires some { 0 < length bytes.now }
         requires left { 0 < budget.old }
         ensures bound { WritesAtMost result bytes.now }
-        ensures bytes { WriteAppends (written W.contents self.old) (written W.contents self.new) result bytes.now }
+        ensures bytes { WriteAppends (written W.contents self.old)
+            (written W.contents self.new) result bytes.now }
 
-        // A failure is noted just where no byte was taken, or an error other than Interrupted came.
-        ensures stuck { IfOk result (λ n. IsTrue (failed_of self.new) ↔ (IsTrue (failed_of self.old) ⊎ (n ≡ 0))) }
-        ensures failed { IfErr result (λ e. IsTrue (failed_of self.new) ↔ (IsTrue (failed_of self.old) ⊎ (error_kind e ≢ ErrorKind.Interrupted))) }
+        // A failure is noted exactly when no byte was taken, or an error other than Interrupted came.
+        ensures stuck { IfOk result (λ n. IsTrue (failed_of self.new)
+            ↔ (IsTrue (failed_of self.old) ⊎ (n ≡ 0))) }
+        ensures failed { IfErr result (λ e. IsTrue (failed_of self.new)
+            ↔ (IsTrue (failed_of self.old) ⊎ (error_kind e ≢ ErrorKind.Interrupted))) }
         ensures ended { ended_of self.new ≡ ended_of self.old }
         ensures denied { denied_of self.new ≡ denied_of self.old }
         ensures counted { calls_of self.new ≡ counted (calls_of self.old) 1 }
@@ -226,11 +230,14 @@ impl<W: Write> Pipe<W> {
     /// Writes all the bytes, or a front of them where it stops. A write that is interrupted is made again.
     pub fn write_all(&mut self, budget: &mut Budget, bytes: &[u8]) -> Result<(), Stop>
         requires { failed_of self.old ≡ false }
-        ensures ok { OnOk result (Appends (written W.contents self.old) (written W.contents self.new) bytes.now) }
-        ensures err { OnErr result (AppendsFront (written W.contents self.old) (written W.contents self.new) bytes.now) }
+        ensures ok { OnOk result (Appends (written W.contents self.old)
+            (written W.contents self.new) bytes.now) }
+        ensures err { OnErr result (AppendsFront (written W.contents self.old)
+            (written W.contents self.new) bytes.now) }
         ensures ended { ended_of self.new ≡ ended_of self.old }
         ensures failed { IsErrOf result Stop.Failed ↔ (failed_of self.new ≡ true) }
-        ensures denied { IsTrue (denied_of self.new) ↔ (IsTrue (denied_of self.old) ⊎ IsErrOf result Stop.TooLong) }
+        ensures denied { IsTrue (denied_of self.new)
+            ↔ (IsTrue (denied_of self.old) ⊎ IsErrOf result Stop.TooLong) }
         ensures too_long { IsErrOf result Stop.TooLong → budget.new ≡ 0 }
         ensures paid { PaysCalls self.old self.new budget.old budget.new }
     {

@@ -5,7 +5,7 @@ ghost use Rattle.std.specs.Cmp.Lexicographic.{pointwise, lists_per, lists_equiv}
 use std::alloc::{AllocError, Global};
 use std::marker::Model;
 
-/// Values in order, seen as their list.
+/// Values in order, which a contract sees as their list.
 #[derive(Debug, Drop)]
 pub struct Sequence<T> {
     values: Vec<T>,
@@ -40,7 +40,7 @@ impl<T> From<Vec<T>> for Sequence<T> {
 }
 
 impl<T> Sequence<T> {
-    /// No values.
+    /// Makes an empty sequence, which takes no memory.
     pub fn new(alloc: Global) -> Sequence<T>
         ensures { result ≡ [] }
     {
@@ -49,7 +49,7 @@ impl<T> Sequence<T> {
         }
     }
 
-    /// The values.
+    /// Returns the values.
     pub fn as_slice(&self) -> &[T]
         ensures { result.now ≡ self.now }
     {

@@ -40,14 +40,3 @@ impl TypedKind {
         }
     }
 }
-
-#[cfg(test)]
-mod tests {
-    use super::*;
-
-    #[test]
-    fn words(rt: HostRuntime) {
-        assert_eq!(rt; LinkKind::BroaderPartitive.word(), "broaderPartitive");
-        assert_eq!(rt; TypedKind::NarrowerPartitive.word(), "narrowerPartitive");
-    }
-}

@@ -19,7 +19,7 @@ PartsFor kind (Usage text) = (kind ≢ DisplayHelp) × (kind ≢ DisplayVersion)
 PartsFor kind NotText = ⊥
 PartsFor kind OutOfMemory = Unit {0}
 
--- A script is run for words that have no fault. Of others a fault is told, or memory is wanting.
+-- A script is run for words that have no fault. Of others a fault is told, or that there is no memory.
 abbrev pub Plans : List (List ℕ) → Result Task Parting → Type 0
 Plans words (Ok task) = fault_of program words ≡ []
 Plans words (Err OutOfMemory) = Unit {0}

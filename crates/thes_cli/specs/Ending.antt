@@ -1,19 +1,33 @@
 -- How the program ends after a script.
-use Rattle.std.specs.Prelude.{ℕ, Bool, false, if◌then◌else◌, Option, Some, None, option_map, Result, Ok, Err}
+use Rattle.std.specs.Prelude.{◌≡◌, ◌⊎◌, ◌++◌, ℕ, List, Bool, true, if◌then◌else◌, Option, Some, None, option_map, Result, Ok, Err, codes}
+use Rattle.std.specs.Io.KnownBytes.{Appends}
+use Rattle.thes_base.specs.Names.{pipe_text}
+use Rattle.thes_base.specs.Pipe.{failed_of, denied_of, written, AppendsFront}
 use Rattle.thes_base.specs.declared.fault.PipeFault.{PipeFault}
 use Rattle.thes_base.specs.declared.fault.PipeFault.TheVariants as faults
+use Rattle.thes_base.specs.declared.pipe.Pipe.{Pipe}
 use Rattle.thes_exchange.specs.declared.script.Ended.{Ended}
 
--- the fault that cut the script off, or else the last one that was answered
-abbrev pub fault_of : Result Ended PipeFault → Option PipeFault
-fault_of (Err fault) = Some fault
-fault_of (Ok ended) = option_map faults.Fault ended.fault
+-- the fault that stopped the script, or else the last one that was answered
+abbrev pub last_fault : Result Ended PipeFault → Option PipeFault
+last_fault (Err fault) = Some fault
+last_fault (Ok ended) = option_map faults.Fault ended.fault
 
--- a fault beats a refusal
-abbrev pub status_of : Option PipeFault → Bool → ℕ
-status_of (Some fault) refused = 3
-status_of None refused = if refused then 1 else 0
+-- 3 where there was a fault, which beats a refusal, 1 where there was a refusal, and else 0
+abbrev pub status_with : Option PipeFault → Bool → ℕ
+status_with (Some fault) refused = 3
+status_with None refused = if refused then 1 else 0
 
-abbrev pub refuses : Result Ended PipeFault → Bool
-refuses (Err fault) = false
-refuses (Ok ended) = ended.refused
+abbrev pub status_of : Result Ended PipeFault → ℕ
+status_of (Err fault) = 3
+status_of (Ok ended) = status_with (option_map faults.Fault ended.fault) ended.refused
+
+-- the line of a fault
+abbrev pub fault_line : PipeFault → List ℕ
+fault_line fault = codes "thesaurus: fault " ++ pipe_text fault ++ codes "\n"
+
+-- the text was written, or a front of it where the writer failed or was denied a write
+abbrev pub Prints : {W : Type 0} → (W → Option (List ℕ)) → Pipe W → Pipe W → List ℕ → Type 0
+Prints contents old new text =
+    Appends (written contents old) (written contents new) text
+    ⊎ (AppendsFront (written contents old) (written contents new) text × ((failed_of new ≡ true) ⊎ (denied_of new ≡ true)))

@@ -1,3 +1,4 @@
 pub mod Ending
 pub mod Parting
 pub mod CommandLine
+pub mod Work

@@ -1,6 +1,7 @@
 //! The words of the command line.
 ghost use Rattle.std.specs.Prelude.{◌≡◌, ◌≢◌, map, string_bytes, IfOk};
 ghost use Rattle.std.specs.IoError.{error_kind};
+ghost use Rattle.std.specs.Vec.Iter.{into_iter_items};
 ghost use Rattle.clap.specs.Words.{app_of, kind_of};
 ghost use Rattle.thes_cli.specs.CommandLine.{program, PartsFor, Plans};
 ghost use Rattle.thes_cli.specs.Parting.{parting_status};
@@ -8,6 +9,7 @@ ghost use Rattle.thes_cli.specs.Parting.{parting_status};
 use clap::error::ErrorKind;
 use clap::{Command, Error};
 use std::alloc::{AllocError, Global};
+use std::env::Args;
 use std::io::{Error as IoError, ErrorKind as IoErrorKind};
 
 const ABOUT: &str = "Maintains thesauri and the postings of catalogue records to their concepts.";
@@ -72,10 +74,11 @@ impl From<AllocError> for Parting {
 }
 
 impl From<IoError> for Parting {
-    fn from(error: IoError) -> Parting
-        ensures memory { error_kind error ≡ IoErrorKind.OutOfMemory → result ≡ Parting.OutOfMemory }
-        ensures other { error_kind error ≢ IoErrorKind.OutOfMemory → result ≡ Parting.NotText }
-    {
+    ghost use Rattle.thes_cli.specs.Parting.{io_parting};
+
+    ghost from_gives = { λ error parting. parting ≡ io_parting (error_kind error) };
+
+    fn from(error: IoError) -> Parting {
         match error.kind() {
             IoErrorKind::OutOfMemory => Parting::OutOfMemory,
             _ => Parting::NotText,
@@ -136,4 +139,12 @@ pub fn plan(alloc: Global, words: &[String]) -> Result<Task, Parting>
         Ok(_) => Ok(Task::Script),
         Err(error) => Err(parting_of(alloc, &error)),
     }
+}
+
+/// What the arguments of the process ask for.
+pub fn plan_args(alloc: Global, args: Args) -> Result<Task, Parting>
+    ensures { Plans (map string_bytes (into_iter_items args)) result }
+{
+    let words: Vec<String> = args.collect(alloc)?;
+    plan(alloc, words.as_slice())
 }

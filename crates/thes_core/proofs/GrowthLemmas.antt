@@ -9,7 +9,8 @@ use Rattle.thes_base.specs.declared.data.History.{History}
 use Rattle.thes_base.specs.declared.data.Limits.{Limits}
 use Rattle.thes_base.specs.Resources.{CanOwn, numbered, is_outside, set_numbered}
 use Rattle.thes_base.specs.Links.{HeldIn, norm, contracted}
-use Rattle.thes_base.proofs.LinkSets.{links_total}
+use Rattle.thes_base.proofs.LinkSets.{links_total, links_exact}
+use Rattle.thes_base.proofs.SetMembers as sets
 use Rattle.thes_base.specs.Labels.{Label, Labels, HasLabel, label_cmp, S13, S14}
 use Rattle.thes_base.specs.Postings.{move_count, stands_at, standing_count}
 use Rattle.thes_base.specs.State.{State, Within, Fits}
@@ -19,6 +20,7 @@ use Rattle.thes_base.proofs.LabelSets.{len_inserted, labels_total, inserted_case
 use Rattle.thes_base.proofs.LabelsKept.{removed_cases}
 use Rattle.thes_base.proofs.PreferredLemmas.{preferred_found, preferred_of_label}
 use Rattle.thes_base.proofs.ResourceLemmas.{marked_dead_at, length_set}
+use Rattle.std.proofs.lemmas.Bool.{false_from_ne_true}
 use Rattle.std.proofs.lemmas.List.Sums.{sum_by-append, sum_by-cons}
 use Rattle.thes_base.specs.declared.data.Move.{Move}
 use Rattle.thes_base.proofs.MoveLemmas.{count_moved, length_moved}
@@ -71,10 +73,6 @@ same n = inl (omega arith)
 one_more : (A : Type 0) (xs : List A) (x : A) → Rises (length xs) (length (xs ++ x ∷ [])) 1
 one_more A xs x = inl (let e = length-append xs (x ∷ []) in omega (arith, e))
 
-decided : (b : Bool) → (b ≡ true) ⊎ (b ≡ false)
-decided true = inl refl
-decided false = inr refl
-
 -- an owner is a resource
 owner_bound : (s : State) → LegalLabels s.resources s.labels → (l : Label) → set.contains s.labels l ≡ true → l.owner ≤ length s.resources
 owner_bound s legal l held = go (legal.owners l held)
@@ -86,11 +84,7 @@ owner_bound s legal l held = go (legal.owners l held)
 
 -- a new resource has no label yet
 new_label : (s : State) → LegalLabels s.resources s.labels → (tag text : List ℕ) → set.contains s.labels (label (next_number s) Pref tag text) ≡ false
-new_label s legal tag text = go (decided (set.contains s.labels (label (next_number s) Pref tag text)))
-  where
-    go : (set.contains s.labels (label (next_number s) Pref tag text) ≡ true) ⊎ (set.contains s.labels (label (next_number s) Pref tag text) ≡ false) → set.contains s.labels (label (next_number s) Pref tag text) ≡ false
-    go (inl held) = absurd (let b = owner_bound s legal (label (next_number s) Pref tag text) held in omega (arith, b))
-    go (inr not_held) = not_held
+new_label s legal tag text = false_from_ne_true _ (λ held. let b = owner_bound s legal (label (next_number s) Pref tag text) held in omega (arith, b))
 
 abbrev pub growth_of : ℕ → ℕ → ℕ → ℕ → ℕ → Growth
 growth_of resources labels links postings moves = record { resources = resources; labels = labels; links = links; postings = postings; moves = moves }
@@ -109,11 +103,7 @@ module _ (s : State) (base : List ℕ) (legal : Legal base s) where
   outside_grows iri = record { resources = one_more Resource s.resources _; labels = same _; links = same _; postings = same _; moves = same _ }
 
   pub label_grows : (l : Label) → ¬ (set.contains s.labels l ≡ true) → Grows s (label_added l s) (growth_of 0 1 0 0 0)
-  label_grows l new = record { resources = same _; labels = inl (len_inserted s.labels l (go (decided (set.contains s.labels l)))); links = same _; postings = same _; moves = same _ }
-    where
-      go : (set.contains s.labels l ≡ true) ⊎ (set.contains s.labels l ≡ false) → set.contains s.labels l ≡ false
-      go (inl held) = absurd (new held)
-      go (inr not_held) = not_held
+  label_grows l new = record { resources = same _; labels = inl (len_inserted s.labels l (false_from_ne_true _ new)); links = same _; postings = same _; moves = same _ }
 
 -- A relabelling replaces a label by another, and adds one more where it keeps the old one.
 
@@ -129,9 +119,6 @@ len_removed labels l held =
     let e = set.len-remove labels_total labels l ∙ ap (λ b. cond b (set.len labels - 1) (set.len labels)) held in
     let p = len_positive labels l held in
     omega (arith, e, p)
-
-not_true : (b : Bool) → ¬ (b ≡ true) → b ≡ false
-not_true b never = elim (decided b) [ inl hit ↦ absurd (never hit) | inr is ↦ is ]
 
 -- how many labels a relabelling adds
 abbrev pub keep_growth : Bool → ℕ
@@ -151,7 +138,7 @@ module _ (labels : Labels) (owner : ℕ) (tag text old : List ℕ) (s13 : S13 la
       was.0 (ap (label owner Pref tag) same)
 
   len_with_new : set.len with_new ≡ set.len labels
-  len_with_new = len_inserted without (label owner Pref tag text) (not_true _ not_new) ∙ len_removed labels (label owner Pref tag old) held
+  len_with_new = len_inserted without (label owner Pref tag text) (false_from_ne_true _ not_new) ∙ len_removed labels (label owner Pref tag old) held
 
   not_alternative : ¬ (set.contains with_new (label owner Alt tag old) ≡ true)
   not_alternative has = go (inserted_cases without (label owner Pref tag text) (label owner Alt tag old) has)
@@ -162,15 +149,15 @@ module _ (labels : Labels) (owner : ℕ) (tag text old : List ℕ) (s13 : S13 la
 
   pub len_renamed : (keep : Bool) → set.len (renamed owner tag text keep old labels) ≡ set.len labels + keep_growth keep
   len_renamed false = len_with_new ∙ (let z : set.len labels ≡ set.len labels + 0 = omega arith in z)
-  len_renamed true = len_inserted with_new (label owner Alt tag old) (not_true _ not_alternative) ∙ ap (λ n. n + 1) len_with_new
+  len_renamed true = len_inserted with_new (label owner Alt tag old) (false_from_ne_true _ not_alternative) ∙ ap (λ n. n + 1) len_with_new
 
 module _ (s : State) (legal : LegalLabels s.resources s.labels) where
-  pub relabelled_grows : (owner : ℕ) (tag text : List ℕ) (keep : Bool) → (old : List ℕ) × HasLabel s.labels owner Pref tag old → Grows s (relabelled owner tag text keep s) (growth_of 0 (keep_growth keep) 0 0 0)
-  relabelled_grows owner tag text keep (old, held) =
+  pub relabelled_grows : (owner : ℕ) (tag text : List ℕ) (keep : Bool) (more : ℕ) → more ≡ keep_growth keep → (old : List ℕ) × HasLabel s.labels owner Pref tag old → Grows s (relabelled owner tag text keep s) (growth_of 0 more 0 0 0)
+  relabelled_grows owner tag text keep more is_more (old, held) =
       let found = preferred_of_label s.labels owner tag old held in
       let is = preferred_found s.labels owner tag found.0 found.1 in
       let made : labels_relabelled owner tag text keep s.labels ≡ renamed owner tag text keep found.0 s.labels = ap (λ (o : Option (List ℕ)). elim o [ None ↦ s.labels | Some x ↦ renamed owner tag text keep x s.labels ]) found.1 in
-      record { resources = same _; labels = inl (ap set.len made ∙ len_renamed s.labels owner tag text found.0 legal.disjoint legal.one_preferred is keep); links = same _; postings = same _; moves = same _ }
+      record { resources = same _; labels = inl (ap set.len made ∙ len_renamed s.labels owner tag text found.0 legal.disjoint legal.one_preferred is keep ∙ ap (λ n. set.len s.labels + n) (sym is_more)); links = same _; postings = same _; moves = same _ }
 
 -- A link, a merge, a split and a posting.
 
@@ -178,7 +165,7 @@ pub link_grows : (s : State) (l : Link) → ¬ HeldIn s.links (norm (is_outside 
 link_grows s l new = record {
   resources = same _;
   labels = same _;
-  links = inl (set.len-insert links_total s.links (norm (is_outside s.resources) l) ∙ ap (λ b. cond b (set.len s.links) (set.len s.links + 1)) (not_true _ new));
+  links = inl (sets.len_inserted links_total links_exact s.links (norm (is_outside s.resources) l) (false_from_ne_true _ new));
   postings = same _;
   moves = same _;
 }

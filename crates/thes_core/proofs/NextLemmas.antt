@@ -1,31 +1,19 @@
 -- The next state of an accepted request: it is the machine's, and legal.
-use Rattle.std.proofs.Common.{refl, inl, inr, subst, List, [], ◌∷◌, ◌++◌}
-use Rattle.std.specs.Prelude.{Some}
-use Rattle.thes_base.specs.declared.fault.Refusal.{Refusal}
+use Rattle.std.proofs.Common.{refl, inr, subst, List, [], ◌∷◌, ◌++◌}
 use Rattle.thes_base.specs.declared.request.Command.{Command}
-use Rattle.thes_base.specs.declared.request.Command.TheVariants as request
 use Rattle.thes_base.specs.declared.request.Answer.{Answer}
-use Rattle.thes_base.specs.declared.request.Answer.TheVariants as reply
 use Rattle.thes_base.specs.State.{State}
 use Rattle.thes_base.specs.Refusals.{Setting, IsSetting}
 use Rattle.thes_base.specs.Legal.{Legal}
 use Rattle.thes_base.specs.Texts.{HasForms}
-use Rattle.thes_base.specs.Machine.{Step, Run, KnownAnswer, HasNewKey, next_state, answer_of, row_of}
+use Rattle.thes_base.specs.Machine.{Step, Run, next_state, answer_of}
 use Rattle.thes_base.proofs.Sound.{IsSound, sound_of_legal}
 use Rattle.thes_base.proofs.MachineLemmas.{step_sound, step_legal}
 use Rattle.thes_core.specs.Decides.{Accepts}
 
 -- the machine's step, where nothing refuses it
-pub step_of_accepted : (setting : Setting) (s : State) (command : Command) → Accepts setting s command → Step setting s command (answer_of command s) (next_state command s)
+step_of_accepted : (setting : Setting) (s : State) (command : Command) → Accepts setting s command → Step setting s command (answer_of command s) (next_state command s)
 step_of_accepted setting s command ok = inr (ok.fresh, inr (ok.row, refl, refl))
-
--- the machine's step, where the row names a refusal
-pub step_of_refused : (setting : Setting) (s : State) (command : Command) (r : Refusal) → HasNewKey command s → row_of setting s (next_state command s) command (Some r) → Step setting s command (reply.No r) s
-step_of_refused setting s command r fresh row = inr (fresh, inl (r, row, refl, refl))
-
--- the machine's step, where the key is known
-pub step_of_known : (setting : Setting) (s : State) (command : Command) (answer : Answer) → KnownAnswer command s answer → Step setting s command answer s
-step_of_known setting s command answer known = inl (known, refl)
 
 pub next_sound : (setting : Setting) → IsSetting setting → (s : State) (command : Command) → Legal setting.base s → Accepts setting s command → IsSound setting.base (next_state command s)
 next_sound setting fit s command legal ok =

@@ -1,5 +1,5 @@
 -- Lists that are shown: the labels of one kind, and the histories of the postings at a concept.
-use Rattle.std.proofs.Common.{◌≡◌, ◌<◌, ◌∙◌, refl, sym, ap, subst, ℕ, zero, suc, List, [], ◌∷◌, ◌++◌, length, map, filter, take, get_or, Option, Some, slice_get, Bool, true, false, cond, ◌||◌, ◌==◌, ◌⊎◌, inl, inr, ⊎_elim, eqb-true, true≢false, add-one, ◌+◌, Bor, None, arith, rules}
+use Rattle.std.proofs.Common.{◌≡◌, ◌<◌, ◌∙◌, refl, sym, ap, subst, ℕ, zero, suc, List, [], ◌∷◌, ◌++◌, length, map, filter, take, get_or, Option, Some, slice_get, Bool, true, false, cond, ◌==◌, ◌⊎◌, inl, inr, ⊎_elim, eqb-true, true≢false, add-one, ◌+◌, Bor, None, arith, rules}
 use Rattle.std.specs.declared.cmp.Ordering.{Ordering}
 use Rattle.std.specs.declared.cmp.Ordering.TheVariants.{Less, Equal, Greater}
 use Rattle.std.specs.Ordering.{nat_cmp, ordering_then, eq_by_cmp}
@@ -8,6 +8,7 @@ use Rattle.std.specs.Cmp.Lexicographic.{slice_cmp}
 use Rattle.std.specs.List.{AllByRecursion, Contains}
 use Rattle.std.specs.List.Sorted.{IsStrictlySortedBy}
 use Rattle.std.proofs.lemmas.List.Elements.{All-from_recursion, All-contains}
+use Rattle.std.proofs.lemmas.Bool.{or_cases, or_left, or_right}
 use Rattle.std.proofs.lemmas.Simd.{map-map}
 use Rattle.std.proofs.lemmas.List.{map-append}
 use Rattle.std.specs.Option.{option_copied, IsSome}
@@ -20,7 +21,7 @@ use Rattle.thes_base.specs.Listing.{IsListing}
 use Rattle.thes_base.specs.Machine.{owned}
 use Rattle.thes_base.specs.Resources.{numbered}
 use Rattle.thes_base.specs.Views.{Tagged, tagged_cmp}
-use Rattle.thes_base.proofs.LabelSets.{labels_total, labels_exact}
+use Rattle.thes_base.proofs.LabelSets.{labels_total, labels_exact, same_kind}
 use Rattle.thes_vocab.specs.LabelData.{AreLabelsOf, data_cmp, has_own, own_label}
 use Rattle.thes_core.specs.Shown.{tagged, is_of_kind}
 
@@ -50,19 +51,6 @@ kind_itself Scope = refl
 
 kinds_tie : (j k : LabelKind) → label_kind_no j ≡ label_kind_no k → nat_cmp (label_kind_no j) (label_kind_no k) ≡ Equal
 kinds_tie j k e = subst (λ n. nat_cmp (label_kind_no j) n ≡ Equal) e (tied_itself nat_cmp_total (label_kind_no j))
-
-same_kind : (j k : LabelKind) → label_kind_no j ≡ label_kind_no k → j ≡ k
-same_kind j k e =
-    let tied : data_cmp (own_label j [] []) (own_label k [] []) ≡ Equal = as_owned (own_label j [] []) (own_label k [] []) ∙ ap (λ q. ordering_then q Equal) (kinds_tie j k e) in
-    ap (λ (l : LabelData). l.kind) (data_exact (own_label j [] []) (own_label k [] []) tied)
-
-or_right : (a b : Bool) → b ≡ true → (a || b) ≡ true
-or_right true b e = refl
-or_right false b e = e
-
-or_left : (a b : Bool) → a ≡ true → (a || b) ≡ true
-or_left true b e = refl
-or_left false b e = absurd (cc)
 
 module _ (kind : LabelKind) where
   abbrev shown : List LabelData → List Tagged
@@ -109,10 +97,6 @@ module _ (kind : LabelKind) where
     | true ↦ (suc c.0, omega (arith, c.1), c.2)
     | false ↦ c
   ]
-
-  or_cases : (a b : Bool) → (a || b) ≡ true → (a ≡ true) ⊎ (b ≡ true)
-  or_cases true b e = inl refl
-  or_cases false b e = inr e
 
   found : (xs : List LabelData) (l : LabelData) → is_of_kind kind l ≡ true → has_own xs l ≡ true → Contains (shown xs) (tagged l)
   found [] l k e = absurd (true≢false (sym e))

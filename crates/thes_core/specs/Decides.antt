@@ -6,7 +6,7 @@ use Rattle.thes_base.specs.declared.request.Command.{Command}
 use Rattle.thes_base.specs.declared.request.Answer.{Answer}
 use Rattle.thes_base.specs.State.{State}
 use Rattle.thes_base.specs.Refusals.{Setting}
-use Rattle.thes_base.specs.Machine.{Step, Run, HasNewKey, next_state, row_of}
+use Rattle.thes_base.specs.Machine.{HasNewKey, Step, Run, next_state, row_of}
 use Rattle.thes_core.specs.declared.verdict.Verdict.{Verdict}
 use Rattle.thes_core.specs.declared.verdict.Verdict.TheVariants.{Settled, Accepted}
 use Rattle.thes_core.specs.Kept.{Kept}
@@ -21,19 +21,22 @@ abbrev pub Decides : Setting → State → Command → Verdict → Type 0
 Decides setting s command (Settled answer) = Step setting s command answer s
 Decides setting s command Accepted = Accepts setting s command
 
--- The core holds this state and gives this answer. Want of memory leaves it spent.
+-- The core holds this state and gives this answer. Running out of memory leaves it spent.
 abbrev pub Makes : Kept → State → Answer → Result Answer Fault → Kept → Type 0
-Makes old state answer (Ok given) new = (given ≡ answer) × (new.state ≡ state) × (new.spent ≡ false) × (new.setting ≡ old.setting)
+Makes old state answer (Ok given) new =
+    (given ≡ answer) × (new.state ≡ state) × (new.spent ≡ false) × (new.setting ≡ old.setting)
 Makes old state answer (Err fault) new = (fault ≡ OutOfMemory) × (new.spent ≡ true)
 
--- One step of the machine. After want of memory the core holds the state before, or it is spent.
+-- One step of the machine. After running out of memory the core holds the state before, or it is spent.
 abbrev pub Performs : Kept → Command → Result Answer Fault → Kept → Type 0
-Performs old command (Ok answer) new = Step old.setting old.state command answer new.state × (new.spent ≡ false) × (new.setting ≡ old.setting)
+Performs old command (Ok answer) new =
+    Step old.setting old.state command answer new.state × (new.spent ≡ false) × (new.setting ≡ old.setting)
 Performs old command (Err fault) new = (fault ≡ OutOfMemory) × ((new ≡ old) ⊎ (new.spent ≡ true))
 
 -- the core holds this state, or it is spent
 abbrev pub IsLeftAt : Kept → State → Kept → Type 0
-IsLeftAt old s new = (new.spent ≡ true) ⊎ ((new.spent ≡ false) × (new.state ≡ s) × (new.setting ≡ old.setting))
+IsLeftAt old s new =
+    (new.spent ≡ true) ⊎ ((new.spent ≡ false) × (new.state ≡ s) × (new.setting ≡ old.setting))
 
 -- Some of the requests were answered by the machine, and its answers are kept after those before.
 -- The core then holds the state that these requests lead to, or is spent.
@@ -50,5 +53,7 @@ pub record RunsPart (old : Kept) (commands : List Command) (before after : List 
 -- A run of the machine, with its answers after those before; or, where memory ran out, that of a first part.
 abbrev pub Runs : Kept → List Command → List Answer → List Answer → Result (Unit {0}) Fault → Kept → Type 0
 Runs old commands before after (Ok _) new =
-    (answers : List Answer) × (after ≡ before ++ answers) × Run old.setting old.state commands answers new.state × (new.spent ≡ false) × (new.setting ≡ old.setting)
-Runs old commands before after (Err fault) new = (fault ≡ OutOfMemory) × RunsPart old commands before after new
+    (answers : List Answer) × (after ≡ before ++ answers) × Run old.setting old.state commands answers new.state
+    × (new.spent ≡ false) × (new.setting ≡ old.setting)
+Runs old commands before after (Err fault) new =
+    (fault ≡ OutOfMemory) × RunsPart old commands before after new

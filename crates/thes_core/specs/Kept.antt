@@ -6,7 +6,7 @@ use Rattle.thes_base.specs.Refusals.{Setting}
 pub record Kept : Type 0 where
   pub state : State
   pub setting : Setting
-  -- want of memory has left the state half changed
+  -- running out of memory has left the state half changed
   pub spent : Bool
 
 -- The core holds this state.

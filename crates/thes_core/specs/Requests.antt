@@ -1,10 +1,46 @@
--- Requests for new resources.
-use Rattle.std.specs.Prelude.{Bool, true, false, Option, None, Some}
+-- What the parts of a thesaurus say of a request, and what it makes of them.
+use Rattle.std.specs.Prelude.{◌≡◌, ℕ, Bool, true, false}
+use Rattle.std.specs.FinSet as set
+use Rattle.thes_base.specs.declared.data.Link.{Link}
 use Rattle.thes_base.specs.declared.data.NewResource.{NewResource}
 use Rattle.thes_base.specs.declared.data.NewResource.TheVariants.{Scheme, Concept, Collection, Outside}
+use Rattle.thes_base.specs.declared.request.Answer.{Answer}
 use Rattle.thes_base.specs.declared.request.Command.{Command}
 use Rattle.thes_base.specs.declared.request.Command.TheVariants as request
-use Rattle.thes_core.specs.declared.room.Growth.{Growth}
+use Rattle.thes_base.specs.declared.fault.Refusal.TheVariants.{LinkThere}
+use Rattle.thes_base.specs.Rows.{Row, refused_if, accepted}
+use Rattle.thes_base.specs.Links.{Links, HeldIn, norm, unless_consistent}
+use Rattle.thes_base.specs.State.{State}
+use Rattle.thes_base.specs.Machine.{next_state, answer_of, row_of}
+use Rattle.thes_core.specs.declared.thesaurus.Thesaurus.{Thesaurus}
+use Rattle.thes_core.specs.Decides.{Accepts}
+use Rattle.thes_core.specs.View.{state_of, setting_of, IsKept, KnowsOutside}
+
+-- what refuses the request in the state that the parts stand for
+abbrev pub Judges : Thesaurus → Command → Row
+Judges t command = row_of (setting_of t) (state_of t) (next_state command (state_of t)) command
+
+-- what the links held say against one more, in the order of its ends in which it is kept
+abbrev pub unless_linkable : (ℕ → Bool) → Links → Link → Row
+unless_linkable outside links l =
+    let kept = norm outside l in
+    refused_if (HeldIn links kept) LinkThere (unless_consistent (HeldIn (set.insert links kept)) accepted)
+
+-- the parts are what they keep, and nothing refuses the request
+pub record Allows (t : Thesaurus) (command : Command) : Type 0 where
+  pub kept : IsKept t
+  pub accepts : Accepts (setting_of t) (state_of t) command
+
+-- The parts stand for this state, and are set as before.
+pub record Becomes (old : Thesaurus) (s : State) (new : Thesaurus) : Type 0 where
+  pub state : state_of new ≡ s
+  pub setting : setting_of new ≡ setting_of old
+  pub outside : KnowsOutside new
+
+-- The parts stand for the next state of the machine, and the answer is the machine's.
+pub record ChangesBy (command : Command) (old new : Thesaurus) (answer : Answer) : Type 0 where
+  pub answer_is : answer ≡ answer_of command (state_of old)
+  pub becomes : Becomes old (next_state command (state_of old)) new
 
 -- the request that makes the resource
 abbrev pub command_of : NewResource → Command
@@ -13,20 +49,7 @@ command_of (Concept scheme tag text) = request.Concept scheme tag text
 command_of (Collection scheme tag text) = request.Collection scheme tag text
 command_of (Outside iri) = request.Outside iri
 
--- the new resource that a request asks for
-abbrev pub new_of : Command → Option NewResource
-new_of (request.Scheme tag text) = Some (Scheme tag text)
-new_of (request.Concept scheme tag text) = Some (Concept scheme tag text)
-new_of (request.Collection scheme tag text) = Some (Collection scheme tag text)
-new_of (request.Outside iri) = Some (Outside iri)
-new_of _ = None
-
 -- an outside concept
 abbrev pub is_foreign : NewResource → Bool
 is_foreign (Outside iri) = true
 is_foreign _ = false
-
--- the resource itself, and its label if it has one
-abbrev pub growth_of_new : NewResource → Growth
-growth_of_new (Outside iri) = record { resources = 1; labels = 0; links = 0; postings = 0; moves = 0 }
-growth_of_new _ = record { resources = 1; labels = 1; links = 0; postings = 0; moves = 0 }

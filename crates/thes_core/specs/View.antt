@@ -8,7 +8,14 @@ use Rattle.thes_base.specs.Legal.{Legal}
 use Rattle.thes_core.specs.declared.thesaurus.Thesaurus.{Thesaurus}
 
 abbrev pub state_of : Thesaurus → State
-state_of t = record { resources = t.vocab.resources; iris = t.vocab.iris; labels = t.vocab.labels; links = t.graph.links; histories = t.book }
+state_of t =
+    record {
+      resources = t.vocab.resources;
+      iris = t.vocab.iris;
+      labels = t.vocab.labels;
+      links = t.graph.links;
+      histories = t.book;
+    }
 
 abbrev pub setting_of : Thesaurus → Setting
 setting_of t = record { base = t.vocab.base; limits = t.limits }
@@ -22,9 +29,3 @@ pub record IsKept (t : Thesaurus) : Type 0 where
   pub fit : IsSetting (setting_of t)
   pub legal : Legal t.vocab.base (state_of t)
   pub outside : KnowsOutside t
-
--- The parts stand for this state, and are set as before.
-pub record Becomes (old : Thesaurus) (s : State) (new : Thesaurus) : Type 0 where
-  pub state : state_of new ≡ s
-  pub setting : setting_of new ≡ setting_of old
-  pub outside : KnowsOutside new

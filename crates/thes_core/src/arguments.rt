@@ -1,5 +1,5 @@
-//! What a request's arguments are refused for: numbers that name nothing, the wrong kind of thing, a dead concept,
-//! one resource twice, or the wrong schemes.
+//! What a request's arguments are refused for: numbers that name nothing, the wrong kind of resource, a dead
+//! concept, one resource twice, or the wrong schemes.
 ghost use Rattle.std.specs.Prelude.{◌≡◌, ◌↔◌, ℕ, List, Some, IsTrue};
 ghost use Rattle.thes_base.specs.declared.data.Resource.{Resource};
 ghost use Rattle.thes_base.specs.Rows.{accepted};
@@ -74,7 +74,11 @@ fn form(kind: LinkKind) -> LinkForm
     ensures { result ≡ form_of kind }
 {
     match kind {
-        LinkKind::Broader | LinkKind::Related => LinkForm::Within,
+        LinkKind::Broader
+        | LinkKind::BroaderGeneric
+        | LinkKind::BroaderPartitive
+        | LinkKind::BroaderInstantial
+        | LinkKind::Related => LinkForm::Within,
         LinkKind::Member => LinkForm::Membership,
         LinkKind::Exact
         | LinkKind::Close
@@ -86,8 +90,9 @@ fn form(kind: LinkKind) -> LinkForm
 
 // Whether the two ends are of the kinds that the form of the link asks for.
 fn are_ends(form: LinkForm, a: &Resource, b: &Resource) -> bool
-    ensures { (resources : List Resource) (m n : ℕ) → numbered resources m ≡ Some a.now → numbered resources n ≡ Some b.now →
-        IsTrue result ↔ AreEnds resources form m n }
+    ensures { (resources : List Resource) (m n : ℕ)
+        → numbered resources m ≡ Some a.now → numbered resources n ≡ Some b.now
+        → IsTrue result ↔ AreEnds resources form m n }
 {
     match form {
         LinkForm::Within => a.kind == ResourceKind::Concept && b.kind == ResourceKind::Concept,
@@ -103,8 +108,9 @@ fn are_ends(form: LinkForm, a: &Resource, b: &Resource) -> bool
 
 // Whether the schemes of the two ends are those that the form of the link asks for.
 fn have_schemes(form: LinkForm, a: &Resource, b: &Resource) -> bool
-    ensures { (resources : List Resource) (m n : ℕ) → numbered resources m ≡ Some a.now → numbered resources n ≡ Some b.now →
-        IsTrue result ↔ HaveSchemes resources form m n }
+    ensures { (resources : List Resource) (m n : ℕ)
+        → numbered resources m ≡ Some a.now → numbered resources n ≡ Some b.now
+        → IsTrue result ↔ HaveSchemes resources form m n }
 {
     match form {
         LinkForm::Within | LinkForm::Membership => a.scheme == b.scheme,

@@ -1,18 +1,11 @@
-//! What an accepted request makes of the parts. After want of memory they may be at odds.
-ghost use Rattle.std.specs.Prelude.{◌≡◌, ◌+◌, None, IfOk, OnOk, List, ℕ, length};
-ghost use Rattle.thes_base.specs.declared.data.History.{History};
+//! What an accepted request makes of the parts. After running out of memory they may be at odds.
+ghost use Rattle.std.specs.Prelude.{◌≡◌, IfOk};
 ghost use Rattle.thes_base.specs.declared.request.Command.TheVariants as request;
-ghost use Rattle.thes_base.specs.Postings.{standing_count};
-ghost use Rattle.thes_base.specs.Changes.{next_number};
-ghost use Rattle.thes_base.specs.Machine.{next_state, answer_of};
-ghost use Rattle.thes_core.specs.Decides.{Accepts};
-ghost use Rattle.thes_core.specs.Requests.{command_of, is_foreign};
-ghost use Rattle.thes_core.specs.View.{state_of, setting_of, IsKept, Becomes};
+ghost use Rattle.thes_core.specs.Requests.{Allows, ChangesBy, command_of, is_foreign};
 
-use crate::judging::new_resource;
 use crate::thesaurus::Thesaurus;
 use std::alloc::AllocError;
-use thes_base::data::{Label, Link, NewResource};
+use thes_base::data::{Label, Link, LinkKind, NewResource};
 use thes_base::number::{PostNo, ResNo};
 use thes_base::request::{Answer, Command};
 use thes_base::text::{Key, RecordName, Tag, Text};
@@ -25,143 +18,141 @@ fn is_outside(new: &NewResource) -> bool
 }
 
 impl Thesaurus {
-    // A new resource.
-    pub(crate) fn make(&mut self, new: NewResource) -> Result<ResNo, AllocError>
-        requires kept { IsKept self.old }
-        requires accepted { Accepts (setting_of self.old) (state_of self.old) (command_of new) }
-        ensures number { IfOk result (λ n. n ≡ next_number (state_of self.old)) }
-        ensures state { OnOk result (Becomes self.old (next_state (command_of new) (state_of self.old)) self.new) }
+    // Makes what an accepted request asks for, and answers it.
+    pub(crate) fn change(&mut self, command: &Command) -> Result<Answer, AllocError>
+        requires { Allows self.old command.now }
+        ensures { IfOk result (ChangesBy command.now self.old self.new) }
+    {
+        let alloc = self.alloc;
+        match command {
+            Command::Scheme(tag, text) => self.make(NewResource::Scheme(
+                tag.try_clone(alloc)?,
+                text.try_clone(alloc)?,
+            )),
+            Command::Concept(scheme, tag, text) => self.make(NewResource::Concept(
+                *scheme,
+                tag.try_clone(alloc)?,
+                text.try_clone(alloc)?,
+            )),
+            Command::Collection(scheme, tag, text) => self.make(NewResource::Collection(
+                *scheme,
+                tag.try_clone(alloc)?,
+                text.try_clone(alloc)?,
+            )),
+            Command::Outside(iri) => self.make(NewResource::Outside(iri.try_clone(alloc)?)),
+            Command::AddLabel(owner, label) => self.add_label(*owner, label),
+            Command::DropLabel(owner, label) => Ok(self.drop_label(*owner, label)),
+            Command::Relabel(owner, tag, text, keep) => self.relabel(*owner, tag, text, *keep),
+            Command::Link(kind, a, b) => self.link(*kind, *a, *b),
+            Command::Unlink(kind, a, b) => Ok(self.unlink(*kind, *a, *b)),
+            Command::Deprecate(concept) => Ok(self.deprecate(*concept)),
+            Command::Merge(source, target) => self.merge(*source, *target),
+            Command::Split(source, tag, text, postings) => {
+                self.split(*source, tag, text, postings.as_slice())
+            }
+            Command::Post(key, rec, concept) => self.post(key, rec, *concept),
+            Command::Withdraw(posting) => Ok(self.withdraw(*posting)),
+        }
+    }
+
+    // Makes a resource.
+    fn make(&mut self, new: NewResource) -> Result<Answer, AllocError>
+        requires { Allows self.old (command_of new) }
+        ensures { IfOk result (ChangesBy (command_of new) self.old self.new) }
     {
         let is_outside = is_outside(&new);
         let number = self.vocab.add_resource(new)?;
         if is_outside {
             self.graph.mark_outside(number)?;
         }
-        Ok(number)
-    }
-
-    // A new resource, with the answer to its request.
-    fn made(&mut self, new: NewResource) -> Result<Answer, AllocError>
-        requires kept { IsKept self.old }
-        requires accepted { Accepts (setting_of self.old) (state_of self.old) (command_of new) }
-        ensures answer { IfOk result (λ a. a ≡ Answer.Number (next_number (state_of self.old))) }
-        ensures state { OnOk result (Becomes self.old (next_state (command_of new) (state_of self.old)) self.new) }
-    {
-        let number = self.make(new)?;
         Ok(Answer::Number(number.get()))
     }
 
-    // One more label.
-    pub(crate) fn add_label(&mut self, owner: ResNo, label: &Label) -> Result<(), AllocError>
-        requires kept { IsKept self.old }
-        requires accepted { Accepts (setting_of self.old) (state_of self.old) (request.AddLabel owner label.now) }
-        ensures { OnOk result (Becomes self.old (next_state (request.AddLabel owner label.now) (state_of self.old)) self.new) }
+    // Adds a label.
+    fn add_label(&mut self, owner: ResNo, label: &Label) -> Result<Answer, AllocError>
+        requires { Allows self.old (request.AddLabel owner label.now) }
+        ensures { IfOk result (ChangesBy (request.AddLabel owner label.now) self.old self.new) }
     {
-        self.vocab.add_label(owner, label)
+        self.vocab.add_label(owner, label)?;
+        Ok(Answer::Done)
     }
 
-    // A label less.
-    pub(crate) fn drop_label(&mut self, owner: ResNo, label: &Label)
-        requires kept { IsKept self.old }
-        requires accepted { Accepts (setting_of self.old) (state_of self.old) (request.DropLabel owner label.now) }
-        ensures { Becomes self.old (next_state (request.DropLabel owner label.now) (state_of self.old)) self.new }
+    // Removes a label.
+    fn drop_label(&mut self, owner: ResNo, label: &Label) -> Answer
+        requires { Allows self.old (request.DropLabel owner label.now) }
+        ensures { ChangesBy (request.DropLabel owner label.now) self.old self.new result }
     {
         self.vocab.drop_label(owner, label);
+        Answer::Done
     }
 
-    // Another preferred label.
-    pub(crate) fn relabel(
+    // Replaces a preferred label.
+    fn relabel(
         &mut self,
         owner: ResNo,
         tag: &Tag,
         text: &Text,
         keep: bool,
-    ) -> Result<(), AllocError>
-        requires kept { IsKept self.old }
-        requires accepted { Accepts (setting_of self.old) (state_of self.old) (request.Relabel owner tag.now text.now keep) }
-        ensures { OnOk result (Becomes self.old (next_state (request.Relabel owner tag.now text.now keep) (state_of self.old)) self.new) }
+    ) -> Result<Answer, AllocError>
+        requires { Allows self.old (request.Relabel owner tag.now text.now keep) }
+        ensures { let command = request.Relabel owner tag.now text.now keep in
+            IfOk result (ChangesBy command self.old self.new) }
     {
-        self.vocab.relabel(owner, tag, text, keep)
+        self.vocab.relabel(owner, tag, text, keep)?;
+        Ok(Answer::Done)
     }
 
-    // One more link.
-    pub(crate) fn link(&mut self, link: &Link) -> Result<(), AllocError>
-        requires kept { IsKept self.old }
-        requires accepted { Accepts (setting_of self.old) (state_of self.old) (request.Link link.now.kind link.now.a link.now.b) }
-        ensures { OnOk result (Becomes self.old (next_state (request.Link link.now.kind link.now.a link.now.b) (state_of self.old)) self.new) }
+    // Adds a link.
+    fn link(&mut self, kind: LinkKind, a: ResNo, b: ResNo) -> Result<Answer, AllocError>
+        requires { Allows self.old (request.Link kind a b) }
+        ensures { IfOk result (ChangesBy (request.Link kind a b) self.old self.new) }
     {
-        self.graph.add(link)
+        self.graph.add(&Link { kind, a, b })?;
+        Ok(Answer::Done)
     }
 
-    // A link less.
-    pub(crate) fn unlink(&mut self, link: &Link)
-        requires kept { IsKept self.old }
-        requires accepted { Accepts (setting_of self.old) (state_of self.old) (request.Unlink link.now.kind link.now.a link.now.b) }
-        ensures { Becomes self.old (next_state (request.Unlink link.now.kind link.now.a link.now.b) (state_of self.old)) self.new }
+    // Removes a link.
+    fn unlink(&mut self, kind: LinkKind, a: ResNo, b: ResNo) -> Answer
+        requires { Allows self.old (request.Unlink kind a b) }
+        ensures { ChangesBy (request.Unlink kind a b) self.old self.new result }
     {
-        self.graph.remove(link);
+        self.graph.remove(&Link { kind, a, b });
+        Answer::Done
     }
 
-    // A concept that is dead.
-    pub(crate) fn deprecate(&mut self, concept: ResNo)
-        requires kept { IsKept self.old }
-        requires accepted { Accepts (setting_of self.old) (state_of self.old) (request.Deprecate concept) }
-        ensures { Becomes self.old (next_state (request.Deprecate concept) (state_of self.old)) self.new }
+    // Marks a concept as dead.
+    fn deprecate(&mut self, concept: ResNo) -> Answer
+        requires { Allows self.old (request.Deprecate concept) }
+        ensures { ChangesBy (request.Deprecate concept) self.old self.new result }
     {
         self.vocab.mark_dead(concept, None);
         self.graph.drop_all(concept);
+        Answer::Done
     }
 
-    // Two concepts as one. Answers how many postings moved.
-    pub(crate) fn merge(&mut self, source: ResNo, target: ResNo) -> Result<u32, AllocError>
-        requires kept { IsKept self.old }
-        requires accepted { Accepts (setting_of self.old) (state_of self.old) (request.Merge source target) }
-        ensures moved { IfOk result (λ k. k ≡ standing_count source self.old.book) }
-        ensures state { OnOk result (Becomes self.old (next_state (request.Merge source target) (state_of self.old)) self.new) }
+    // Joins two concepts. Answers how many postings moved.
+    fn merge(&mut self, source: ResNo, target: ResNo) -> Result<Answer, AllocError>
+        requires { Allows self.old (request.Merge source target) }
+        ensures { IfOk result (ChangesBy (request.Merge source target) self.old self.new) }
     {
         self.vocab.take_labels(source, target)?;
         self.graph.contract(source, target)?;
         let moved = self.book.move_all(source, target)?;
         self.vocab.mark_dead(source, Some(target));
-        Ok(moved)
+        Ok(Answer::Moved(moved))
     }
 
-    // A posting of a new key.
-    pub(crate) fn post(
-        &mut self,
-        key: &Key,
-        rec: &RecordName,
-        concept: ResNo,
-    ) -> Result<PostNo, AllocError>
-        requires kept { IsKept self.old }
-        requires accepted { Accepts (setting_of self.old) (state_of self.old) (request.Post key.now rec.now concept) }
-        ensures number { IfOk result (λ n. n ≡ length self.old.book + 1) }
-        ensures state { OnOk result (Becomes self.old (next_state (request.Post key.now rec.now concept) (state_of self.old)) self.new) }
-    {
-        self.book.post(key, rec, concept)
-    }
-
-    // A posting that is withdrawn.
-    pub(crate) fn withdraw(&mut self, posting: PostNo)
-        requires kept { IsKept self.old }
-        requires accepted { Accepts (setting_of self.old) (state_of self.old) (request.Withdraw posting) }
-        ensures { Becomes self.old (next_state (request.Withdraw posting) (state_of self.old)) self.new }
-    {
-        self.book.withdraw(posting);
-    }
-
-    // A concept that takes postings of another. Answers its number, and how many postings moved.
-    pub(crate) fn split(
+    // Makes a concept that takes postings of another. Answers its number, and how many postings moved.
+    fn split(
         &mut self,
         source: ResNo,
         tag: &Tag,
         text: &Text,
         postings: &[PostNo],
-    ) -> Result<(ResNo, u32), AllocError>
-        requires kept { IsKept self.old }
-        requires accepted { Accepts (setting_of self.old) (state_of self.old) (request.Split source tag.now text.now postings.now) }
-        ensures parted { IfOk result (λ p. (p.0 ≡ next_number (state_of self.old)) × (p.1 ≡ length postings.now)) }
-        ensures state { OnOk result (Becomes self.old (next_state (request.Split source tag.now text.now postings.now) (state_of self.old)) self.new) }
+    ) -> Result<Answer, AllocError>
+        requires { Allows self.old (request.Split source tag.now text.now postings.now) }
+        ensures { let command = request.Split source tag.now text.now postings.now in
+            IfOk result (ChangesBy command self.old self.new) }
     {
         let scheme = self.scheme(source);
         let new = NewResource::Concept(
@@ -171,69 +162,24 @@ impl Thesaurus {
         );
         let concept = self.vocab.add_resource(new)?;
         let moved = self.book.move_listed(source, concept, postings)?;
-        Ok((concept, moved))
+        Ok(Answer::Parted(concept.get(), moved))
     }
 
-    /// Makes what an accepted request asks for, and answers it.
-    pub(crate) fn change(&mut self, command: &Command) -> Result<Answer, AllocError>
-        requires kept { IsKept self.old }
-        requires accepted { Accepts (setting_of self.old) (state_of self.old) command.now }
-        ensures answer { IfOk result (λ a. a ≡ answer_of command.now (state_of self.old)) }
-        ensures state { OnOk result (Becomes self.old (next_state command.now (state_of self.old)) self.new) }
+    // Accepts a posting of a new key.
+    fn post(&mut self, key: &Key, rec: &RecordName, concept: ResNo) -> Result<Answer, AllocError>
+        requires { Allows self.old (request.Post key.now rec.now concept) }
+        ensures { IfOk result (ChangesBy (request.Post key.now rec.now concept) self.old self.new) }
     {
-        if let Some(new) = new_resource(self.alloc, command)? {
-            return self.made(new);
-        }
-        match command {
-            Command::AddLabel(owner, label) => {
-                self.add_label(*owner, label)?;
-                Ok(Answer::Done)
-            }
-            Command::DropLabel(owner, label) => {
-                self.drop_label(*owner, label);
-                Ok(Answer::Done)
-            }
-            Command::Relabel(owner, tag, text, keep) => {
-                self.relabel(*owner, tag, text, *keep)?;
-                Ok(Answer::Done)
-            }
-            Command::Link(kind, a, b) => {
-                self.link(&Link {
-                    kind: *kind,
-                    a: *a,
-                    b: *b,
-                })?;
-                Ok(Answer::Done)
-            }
-            Command::Unlink(kind, a, b) => {
-                self.unlink(&Link {
-                    kind: *kind,
-                    a: *a,
-                    b: *b,
-                });
-                Ok(Answer::Done)
-            }
-            Command::Deprecate(concept) => {
-                self.deprecate(*concept);
-                Ok(Answer::Done)
-            }
-            Command::Merge(source, target) => {
-                let moved = self.merge(*source, *target)?;
-                Ok(Answer::Moved(moved))
-            }
-            Command::Split(source, tag, text, postings) => {
-                let (concept, moved) = self.split(*source, tag, text, postings.as_slice())?;
-                Ok(Answer::Parted(concept.get(), moved))
-            }
-            Command::Post(key, rec, concept) => {
-                let number = self.post(key, rec, *concept)?;
-                Ok(Answer::Number(number.get()))
-            }
-            Command::Withdraw(posting) => {
-                self.withdraw(*posting);
-                Ok(Answer::Done)
-            }
-            _ => unreachable!(),
-        }
+        let number = self.book.post(key, rec, concept)?;
+        Ok(Answer::Number(number.get()))
+    }
+
+    // Withdraws a posting.
+    fn withdraw(&mut self, posting: PostNo) -> Answer
+        requires { Allows self.old (request.Withdraw posting) }
+        ensures { ChangesBy (request.Withdraw posting) self.old self.new result }
+    {
+        self.book.withdraw(posting);
+        Answer::Done
     }
 }

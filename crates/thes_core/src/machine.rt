@@ -22,7 +22,7 @@ use thes_vocab::Vocab;
 #[derive(Drop)]
 pub struct Core {
     pub(crate) thesaurus: Thesaurus,
-    // Want of memory has left the parts at odds.
+    // Running out of memory has left the parts at odds.
     pub(crate) spent: bool,
 }
 
@@ -65,7 +65,7 @@ impl Core {
         }
     }
 
-    /// What a request meets, before anything changes. The caller names the state that the core holds.
+    /// Decides what a request is answered with, or that it may be applied. The caller names the state that the core holds.
     pub fn decide(&self, command: &Command) -> Result<Verdict, Fault>
         ghost state: { State }
         requires unspent { self.now.spent ≡ false }
@@ -83,11 +83,12 @@ impl Core {
         }
     }
 
-    /// Makes what an accepted request asks for, and answers it. Want of memory leaves the core spent.
+    /// Makes what an accepted request asks for, and answers it. Running out of memory leaves the core spent.
     pub fn apply(&mut self, command: &Command) -> Result<Answer, Fault>
         requires unspent { self.old.spent ≡ false }
         requires accepted { Accepts self.old.setting self.old.state command.now }
-        ensures made { Makes self.old (next_state command.now self.old.state) (answer_of command.now self.old.state) result self.new }
+        ensures made { let s = self.old.state in
+            Makes self.old (next_state command.now s) (answer_of command.now s) result self.new }
         ensures in_order { OnOk result (IsInOrder self.new.setting.base self.new.state) }
     {
         // That its texts have their forms is known from here on.
@@ -102,9 +103,9 @@ impl Core {
         }
     }
 
-    /// Performs a request: what it is answered with, and the state after it, in which each posting that isn't withdrawn
-    /// stands at exactly one live concept, the counts add up, and the triples meet the conditions of SKOS. Want of memory
-    /// changes nothing, or leaves the core spent.
+    /// Performs a request, and answers it. In the state after it each posting that isn't withdrawn stands at exactly one
+    /// live concept, the counts add up, and the triples meet the conditions of SKOS. Running out of memory changes
+    /// nothing, or leaves the core spent.
     pub fn step(&mut self, command: &Command) -> Result<Answer, Fault>
         requires { self.old.spent ≡ false }
         ensures performs { Performs self.old command.now result self.new }

@@ -1,4 +1,4 @@
-//! What can be looked up in a core. No call but `is_spent` may be made of a spent one.
+//! Look-ups in a core. Of a spent one only `is_spent` may be asked.
 ghost use Rattle.std.specs.Prelude.{◌≡◌, ◌↔◌, ◌⊎◌, ℕ, Some, false, true, filter, length, map, IfOk, IsTrue, MatchOption, option_map};
 ghost use Rattle.std.specs.FinMap as dict;
 ghost use Rattle.std.specs.FinSet as set;
@@ -11,13 +11,13 @@ ghost use Rattle.thes_base.specs.Links.{HeldIn, norm};
 ghost use Rattle.thes_base.specs.Listing.{IsListing};
 ghost use Rattle.thes_base.specs.Postings.{accepted_count, move_count, place, standing_count, stands_at, withdrawn_count};
 ghost use Rattle.thes_base.specs.Resources.{is_outside, numbered, IsLive};
-ghost use Rattle.thes_base.specs.Views.{totals_of, HasLink, IsMapping, mapping_cmp};
+ghost use Rattle.thes_base.specs.Views.{totals_of, HasLink, HasBroader, IsMapping, IsTyped, mapping_cmp, typed_cmp};
 ghost use Rattle.thes_vocab.specs.LabelData.{AreLabelsOf};
 ghost use Rattle.thes_vocab.specs.Vocabulary.{IsHolder};
 
 use crate::machine::Core;
 use std::alloc::{AllocError, Global};
-use thes_base::data::{History, Label, Link, LinkKind, Resource, Totals};
+use thes_base::data::{History, Label, Link, LinkKind, Resource, Totals, TypedKind};
 use thes_base::number::{PostNo, ResNo};
 use thes_base::text::{Iri, Tag, Text};
 
@@ -33,8 +33,9 @@ pub struct Sizes {
 }
 
 impl Core {
-    /// Whether want of memory has left the state half changed. A spent core answers nothing more. In any other each posting
-    /// that isn't withdrawn stands at exactly one live concept, the counts add up, and the triples meet the conditions.
+    /// Whether running out of memory has left the state half changed. A spent core answers nothing more. In any other
+    /// each posting that isn't withdrawn stands at exactly one live concept, the counts add up, and the triples meet the
+    /// conditions.
     pub fn is_spent(&self) -> bool
         ensures value { result ≡ self.now.spent }
         ensures in_order { result ≡ false → IsInOrder self.now.setting.base self.now.state }
@@ -98,7 +99,8 @@ impl Core {
     /// The numbers of the postings that stand at a concept, rising.
     pub fn standing_at(&self, concept: ResNo) -> &[PostNo]
         requires { self.now.spent ≡ false }
-        ensures { result.now ≡ map (λ h. h.number) (filter (stands_at concept) self.now.state.histories) }
+        ensures { let standing = filter (stands_at concept) self.now.state.histories in
+            result.now ≡ map (λ h. h.number) standing }
     {
         self.thesaurus.book.standing_at(concept)
     }
@@ -138,7 +140,9 @@ impl Core {
     /// The live concept of the scheme that has this preferred label.
     pub fn holder(&self, scheme: ResNo, tag: &Tag, text: &Text) -> Option<ResNo>
         requires { self.now.spent ≡ false }
-        ensures { MatchOption result (¬ IsTaken self.now.state.resources self.now.state.labels scheme tag.now text.now) (IsHolder self.now.state.resources self.now.state.labels scheme tag.now text.now) }
+        ensures { let s = self.now.state in
+            MatchOption result (¬ IsTaken s.resources s.labels scheme tag.now text.now)
+            (IsHolder s.resources s.labels scheme tag.now text.now) }
     {
         self.thesaurus.vocab.holder(scheme, tag, text)
     }
@@ -146,7 +150,8 @@ impl Core {
     /// The number of the outside concept with this IRI.
     pub fn outside(&self, iri: &Iri) -> Option<ResNo>
         requires { self.now.spent ≡ false }
-        ensures { MatchOption result ((n : ℕ) → ¬ (dict.get self.now.state.iris n ≡ Some iri.now)) (λ n. dict.get self.now.state.iris n ≡ Some iri.now) }
+        ensures { let has_iri = λ (n : ℕ). dict.get self.now.state.iris n ≡ Some iri.now in
+            MatchOption result ((n : ℕ) → ¬ has_iri n) has_iri }
     {
         self.thesaurus.vocab.outside(iri)
     }
@@ -162,23 +167,26 @@ impl Core {
     /// Whether the link is held, in the order of its ends in which it is kept.
     pub fn has(&self, link: &Link) -> bool
         requires { self.now.spent ≡ false }
-        ensures { IsTrue result ↔ HeldIn self.now.state.links (norm (is_outside self.now.state.resources) link.now) }
+        ensures { let s = self.now.state in
+            IsTrue result ↔ HeldIn s.links (norm (is_outside s.resources) link.now) }
     {
         self.thesaurus.graph.has(link)
     }
 
-    /// The concepts that are broader than this one in its own scheme, rising.
+    /// The concepts that are broader than this one in its own scheme, by a link of whatever type, rising.
     pub fn broader_of(&self, alloc: Global, n: ResNo) -> Result<Vec<ResNo>, AllocError>
         requires { self.now.spent ≡ false }
-        ensures { IfOk result (λ found. IsListing nat_cmp (λ b. HasLink self.now.state.links kinds.Broader n b) found.items) }
+        ensures { let is_broader = HasBroader self.now.state.links n in
+            IfOk result (λ found. IsListing nat_cmp is_broader found.items) }
     {
         self.thesaurus.graph.broader_of(alloc, n)
     }
 
-    /// The concepts that are narrower than this one in its own scheme, rising.
+    /// The concepts that are narrower than this one in its own scheme, by a link of whatever type, rising.
     pub fn narrower_of(&self, alloc: Global, n: ResNo) -> Result<Vec<ResNo>, AllocError>
         requires { self.now.spent ≡ false }
-        ensures { IfOk result (λ found. IsListing nat_cmp (λ a. HasLink self.now.state.links kinds.Broader a n) found.items) }
+        ensures { let is_narrower = λ (a : ℕ). HasBroader self.now.state.links a n in
+            IfOk result (λ found. IsListing nat_cmp is_narrower found.items) }
     {
         self.thesaurus.graph.narrower_of(alloc, n)
     }
@@ -186,7 +194,8 @@ impl Core {
     /// The concepts related to this one in its own scheme, rising.
     pub fn related_of(&self, alloc: Global, n: ResNo) -> Result<Vec<ResNo>, AllocError>
         requires { self.now.spent ≡ false }
-        ensures { IfOk result (λ found. IsListing nat_cmp (λ m. HasLink self.now.state.links kinds.Related n m ⊎ HasLink self.now.state.links kinds.Related m n) found.items) }
+        ensures { let has = HasLink self.now.state.links kinds.Related in
+            IfOk result (λ found. IsListing nat_cmp (λ m. has n m ⊎ has m n) found.items) }
     {
         self.thesaurus.graph.related_of(alloc, n)
     }
@@ -194,7 +203,8 @@ impl Core {
     /// The collections that the concept is a member of, rising.
     pub fn collections_of(&self, alloc: Global, n: ResNo) -> Result<Vec<ResNo>, AllocError>
         requires { self.now.spent ≡ false }
-        ensures { IfOk result (λ found. IsListing nat_cmp (λ c. HasLink self.now.state.links kinds.Member c n) found.items) }
+        ensures { let has_member = λ (c : ℕ). HasLink self.now.state.links kinds.Member c n in
+            IfOk result (λ found. IsListing nat_cmp has_member found.items) }
     {
         self.thesaurus.graph.collections_of(alloc, n)
     }
@@ -202,8 +212,18 @@ impl Core {
     /// The mappings of the concept as seen from it, by the words of their kinds and then by number.
     pub fn mapped(&self, alloc: Global, n: ResNo) -> Result<Vec<(LinkKind, ResNo)>, AllocError>
         requires { self.now.spent ≡ false }
-        ensures { IfOk result (λ found. IsListing mapping_cmp (IsMapping self.now.state.links n) found.items) }
+        ensures { let is_mapping = IsMapping self.now.state.links n in
+            IfOk result (λ found. IsListing mapping_cmp is_mapping found.items) }
     {
         self.thesaurus.graph.mapped(alloc, n)
+    }
+
+    /// The typed hierarchical links of the concept as seen from it, by their words and then by number.
+    pub fn typed_of(&self, alloc: Global, n: ResNo) -> Result<Vec<(TypedKind, ResNo)>, AllocError>
+        requires { self.now.spent ≡ false }
+        ensures { let is_typed = IsTyped self.now.state.links n in
+            IfOk result (λ found. IsListing typed_cmp is_typed found.items) }
+    {
+        self.thesaurus.graph.typed_of(alloc, n)
     }
 }

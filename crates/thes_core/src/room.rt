@@ -21,6 +21,13 @@ impl Growth {
         postings: 0,
         moves: 0,
     };
+
+    /// A resource with its preferred label.
+    pub const NAMED: Growth = Growth {
+        resources: 1,
+        labels: 1,
+        ..Growth::NONE
+    };
 }
 
 /// Whether a count may rise by so many: to its limit at most, and not at all if it is past the limit already.

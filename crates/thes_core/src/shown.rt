@@ -1,4 +1,4 @@
-//! What of a core is shown in lists. None may be asked of a spent one.
+//! Lists shown from a core, which must not be spent.
 ghost use Rattle.std.specs.Prelude.{◌≡◌, ℕ, Some, false, filter, map, IfOk};
 ghost use Rattle.thes_base.specs.declared.data.History.{History};
 ghost use Rattle.thes_base.specs.Resources.{numbered};
@@ -53,7 +53,8 @@ impl Core {
         kind: LabelKind,
     ) -> Result<Vec<&Label>, AllocError>
         requires { self.now.spent ≡ false }
-        ensures { IfOk result (λ found. AreLabels self.now.state owner kind (map (λ l. tagged l.now) found.items)) }
+        ensures { let are_labels = AreLabels self.now.state owner kind in
+            IfOk result (λ found. are_labels (map (λ l. tagged l.now) found.items)) }
     {
         of_kind(alloc, self.labels_of(owner), kind)
     }
@@ -61,7 +62,8 @@ impl Core {
     /// The histories of the postings that stand at a concept, by their numbers.
     pub fn histories_at(&self, alloc: Global, concept: ResNo) -> Result<Vec<&History>, AllocError>
         requires { self.now.spent ≡ false }
-        ensures { IfOk result (λ found. map (λ h. h.now) found.items ≡ standing_histories concept self.now.state.histories) }
+        ensures { let standing = standing_histories concept self.now.state.histories in
+            IfOk result (λ found. map (λ h. h.now) found.items ≡ standing) }
     {
         standing_in(alloc, &self.thesaurus.book, concept)
     }

@@ -1,29 +1,12 @@
-//! Worked examples, which go through all crates.
+//! Tests that go through all crates, of what neither a stored script (thes_scripts) nor a run of the program (tests/) can say: devices
+//! that fail, and a core that is called as a library.
 #![tactic(auto)]
 
 #[cfg(test)]
-mod collections;
-#[cfg(test)]
 mod devices;
-#[cfg(test)]
-mod forms;
-#[cfg(test)]
-mod hierarchy;
-#[cfg(test)]
-mod labels;
 #[cfg(test)]
 mod library;
 #[cfg(test)]
-mod lines;
-#[cfg(test)]
-mod mappings;
-#[cfg(test)]
-mod numbers;
-#[cfg(test)]
-mod postings;
-#[cfg(test)]
 mod readers;
-#[cfg(test)]
-mod requests;
 #[cfg(test)]
 mod run;

@@ -1,7 +1,7 @@
 //! The calls of a core, each made directly: what it decides of a request, what it makes of it, and what can be looked up.
 ghost use Rattle.std.specs.Prelude.{◌≡◌, false, IfSome};
 
-use crate::run::{Exchange, Store, filled};
+use crate::run::{Store, filled};
 use std::alloc::{AllocError, Global};
 use std::test::Fail;
 use thes_base::data::{
@@ -191,17 +191,13 @@ fn a_new_core_holds_nothing(rt: HostRuntime) -> Result<(), Fail> {
 }
 
 // Cats with a posting are merged into Mammals.
-static MERGED: [Exchange; 2] = [
-    (
-        r#"{"do":"post","key":"k1","record":"r1","concept":2}"#,
-        r#"{"ok":1}"#,
-    ),
-    (r#"{"do":"merge","source":2,"target":3}"#, r#"{"moved":1}"#),
-];
+const MERGED: &str = r#"{"do":"post","key":"k1","record":"r1","concept":2}
+{"do":"merge","source":2,"target":3}
+"#;
 
 #[test]
 fn sizes_and_totals_are_told(rt: HostRuntime) -> Result<(), Fail> {
-    let store = filled(&rt, rt.alloc(), &MERGED)?;
+    let store = filled(rt.alloc(), MERGED)?;
     let sizes = Sizes {
         resources: 4,
         labels: 5,
@@ -222,7 +218,7 @@ fn sizes_and_totals_are_told(rt: HostRuntime) -> Result<(), Fail> {
 
 #[test]
 fn places_and_counts_are_told(rt: HostRuntime) -> Result<(), Fail> {
-    let store = filled(&rt, rt.alloc(), &MERGED)?;
+    let store = filled(rt.alloc(), MERGED)?;
     for (posting, place) in [
         (PostNo::new(1), Some(ResNo::new(3))),
         (PostNo::new(2), None),
@@ -238,7 +234,7 @@ fn places_and_counts_are_told(rt: HostRuntime) -> Result<(), Fail> {
 #[test]
 fn postings_at_a_concept_are_listed(rt: HostRuntime) -> Result<(), Fail> {
     let alloc = rt.alloc();
-    let store = filled(&rt, alloc, &MERGED)?;
+    let store = filled(alloc, MERGED)?;
     let listed = store.standing_at(ResNo::new(3)).unwrap_or(&[]);
     assert_eq!(rt; listed.first().copied(), Some(PostNo::new(1)));
     assert_eq!(rt; listed.len(), 1);
@@ -251,7 +247,7 @@ fn postings_at_a_concept_are_listed(rt: HostRuntime) -> Result<(), Fail> {
 
 #[test]
 fn a_history_is_told(rt: HostRuntime) -> Result<(), Fail> {
-    let store = filled(&rt, rt.alloc(), &MERGED)?;
+    let store = filled(rt.alloc(), MERGED)?;
     let Some(history) = store.history(PostNo::new(1)) else {
         return Err(Fail::new("the posting has no history"));
     };
@@ -269,7 +265,7 @@ fn a_history_is_told(rt: HostRuntime) -> Result<(), Fail> {
 
 #[test]
 fn a_resource_is_told(rt: HostRuntime) -> Result<(), Fail> {
-    let store = filled(&rt, rt.alloc(), &MERGED)?;
+    let store = filled(rt.alloc(), MERGED)?;
     let cats = Resource {
         kind: ResourceKind::Concept,
         scheme: Some(ResNo::new(1)),
@@ -287,7 +283,7 @@ fn a_resource_is_told(rt: HostRuntime) -> Result<(), Fail> {
 #[test]
 fn labels_are_listed(rt: HostRuntime) -> Result<(), Fail> {
     let alloc = rt.alloc();
-    let store = filled(&rt, alloc, &MERGED)?;
+    let store = filled(alloc, MERGED)?;
     let wanted = [(LabelKind::Pref, "Mammals"), (LabelKind::Alt, "Cats")];
     let labels = store.labels_of(ResNo::new(3)).unwrap_or(&[]);
     assert_eq!(rt; labels.len(), wanted.len());
@@ -303,7 +299,7 @@ fn labels_are_listed(rt: HostRuntime) -> Result<(), Fail> {
 #[test]
 fn a_preferred_label_is_told(rt: HostRuntime) -> Result<(), Fail> {
     let alloc = rt.alloc();
-    let store = filled(&rt, alloc, &MERGED)?;
+    let store = filled(alloc, MERGED)?;
     for (owner, tag, text) in [
         (2, "en", Some("Cats")),
         (3, "en", Some("Mammals")),
@@ -319,7 +315,7 @@ fn a_preferred_label_is_told(rt: HostRuntime) -> Result<(), Fail> {
 #[test]
 fn the_holder_of_a_preferred_label_is_told(rt: HostRuntime) -> Result<(), Fail> {
     let alloc = rt.alloc();
-    let store = filled(&rt, alloc, &MERGED)?;
+    let store = filled(alloc, MERGED)?;
     let tag = Tag::read(alloc, "en")?;
     for (text, holder) in [("Cats", None), ("Mammals", Some(ResNo::new(3)))] {
         let name = Text::read(alloc, text)?;
@@ -329,37 +325,18 @@ fn the_holder_of_a_preferred_label_is_told(rt: HostRuntime) -> Result<(), Fail> 
 }
 
 // Cats are below Mammals, beside Pets, one of the House animals, and as good as an outside concept.
-static LINKED: [Exchange; 6] = [
-    (
-        r#"{"do":"collection","scheme":1,"tag":"en","text":"House animals"}"#,
-        r#"{"ok":5}"#,
-    ),
-    (
-        r#"{"do":"outside","iri":"http://example.org/x"}"#,
-        r#"{"ok":6}"#,
-    ),
-    (
-        r#"{"do":"link","kind":"broader","a":2,"b":3}"#,
-        r#"{"done":true}"#,
-    ),
-    (
-        r#"{"do":"link","kind":"related","a":4,"b":2}"#,
-        r#"{"done":true}"#,
-    ),
-    (
-        r#"{"do":"link","kind":"member","a":5,"b":2}"#,
-        r#"{"done":true}"#,
-    ),
-    (
-        r#"{"do":"link","kind":"close","a":2,"b":6}"#,
-        r#"{"done":true}"#,
-    ),
-];
+const LINKED: &str = r#"{"do":"collection","scheme":1,"tag":"en","text":"House animals"}
+{"do":"outside","iri":"http://example.org/x"}
+{"do":"link","kind":"broader","a":2,"b":3}
+{"do":"link","kind":"related","a":4,"b":2}
+{"do":"link","kind":"member","a":5,"b":2}
+{"do":"link","kind":"close","a":2,"b":6}
+"#;
 
 #[test]
 fn an_outside_concept_is_found(rt: HostRuntime) -> Result<(), Fail> {
     let alloc = rt.alloc();
-    let store = filled(&rt, alloc, &LINKED)?;
+    let store = filled(alloc, LINKED)?;
     for (iri, number) in [
         ("http://example.org/x", Some(ResNo::new(6))),
         ("http://example.org/y", None),
@@ -376,7 +353,7 @@ fn an_outside_concept_is_found(rt: HostRuntime) -> Result<(), Fail> {
 
 #[test]
 fn links_are_found(rt: HostRuntime) -> Result<(), Fail> {
-    let store = filled(&rt, rt.alloc(), &LINKED)?;
+    let store = filled(rt.alloc(), LINKED)?;
     for (kind, a, b, held) in [
         (LinkKind::Broader, 2, 3, true),
         (LinkKind::Broader, 3, 2, false),
@@ -397,7 +374,7 @@ fn links_are_found(rt: HostRuntime) -> Result<(), Fail> {
 #[test]
 fn broader_and_narrower_concepts_are_listed(rt: HostRuntime) -> Result<(), Fail> {
     let alloc = rt.alloc();
-    let store = filled(&rt, alloc, &LINKED)?;
+    let store = filled(alloc, LINKED)?;
     let (cats, mammals) = (ResNo::new(2), ResNo::new(3));
     assert_eq!(rt;
         store.broader_of(alloc, cats)?.as_slice(),
@@ -414,7 +391,7 @@ fn broader_and_narrower_concepts_are_listed(rt: HostRuntime) -> Result<(), Fail>
 #[test]
 fn related_concepts_and_collections_are_listed(rt: HostRuntime) -> Result<(), Fail> {
     let alloc = rt.alloc();
-    let store = filled(&rt, alloc, &LINKED)?;
+    let store = filled(alloc, LINKED)?;
     let (cats, pets) = (ResNo::new(2), ResNo::new(4));
     assert_eq!(rt;
         store.related_of(alloc, cats)?.as_slice(),
@@ -432,25 +409,15 @@ fn related_concepts_and_collections_are_listed(rt: HostRuntime) -> Result<(), Fa
 }
 
 // Cats are below an outside concept, which is below Pets.
-static MAPPED: [Exchange; 3] = [
-    (
-        r#"{"do":"outside","iri":"http://example.org/x"}"#,
-        r#"{"ok":5}"#,
-    ),
-    (
-        r#"{"do":"link","kind":"broad","a":2,"b":5}"#,
-        r#"{"done":true}"#,
-    ),
-    (
-        r#"{"do":"link","kind":"narrow","a":4,"b":5}"#,
-        r#"{"done":true}"#,
-    ),
-];
+const MAPPED: &str = r#"{"do":"outside","iri":"http://example.org/x"}
+{"do":"link","kind":"broad","a":2,"b":5}
+{"do":"link","kind":"narrow","a":4,"b":5}
+"#;
 
 #[test]
 fn mappings_are_listed_as_seen_from_an_end(rt: HostRuntime) -> Result<(), Fail> {
     let alloc = rt.alloc();
-    let store = filled(&rt, alloc, &MAPPED)?;
+    let store = filled(alloc, MAPPED)?;
     let (cats, pets, other) = (ResNo::new(2), ResNo::new(4), ResNo::new(5));
     let from_cats = [(LinkKind::Broad, other)];
     let from_other = [(LinkKind::Broad, pets), (LinkKind::Narrow, cats)];
@@ -462,12 +429,10 @@ fn mappings_are_listed_as_seen_from_an_end(rt: HostRuntime) -> Result<(), Fail> 
     Ok(())
 }
 
-static NOTHING: [Exchange; 0] = [];
-
 // What is decided changes nothing.
 #[test]
 fn a_request_is_decided(rt: HostRuntime) -> Result<(), Fail> {
-    let store = filled(&rt, rt.alloc(), &NOTHING)?;
+    let store = filled(rt.alloc(), "")?;
     let (cats, mammals) = (ResNo::new(2), ResNo::new(3));
     assert_eq!(rt; store.decide_broader(cats, mammals), Ok(Verdict::Accepted));
     assert_eq!(rt; store.has(LinkKind::Broader, cats, mammals), Some(false));
@@ -476,7 +441,7 @@ fn a_request_is_decided(rt: HostRuntime) -> Result<(), Fail> {
 
 #[test]
 fn a_request_is_applied(rt: HostRuntime) -> Result<(), Fail> {
-    let mut store = filled(&rt, rt.alloc(), &NOTHING)?;
+    let mut store = filled(rt.alloc(), "")?;
     let (cats, mammals) = (ResNo::new(2), ResNo::new(3));
     assert_eq!(rt; store.apply_broader(cats, mammals), Ok(Some(Answer::Done)));
     assert_eq!(rt; store.has(LinkKind::Broader, cats, mammals), Some(true));
@@ -485,7 +450,7 @@ fn a_request_is_applied(rt: HostRuntime) -> Result<(), Fail> {
 
 #[test]
 fn a_request_is_refused(rt: HostRuntime) -> Result<(), Fail> {
-    let store = filled(&rt, rt.alloc(), &LINKED)?;
+    let store = filled(rt.alloc(), LINKED)?;
     let refused = Verdict::Settled(Answer::No(Refusal::Cycle));
     assert_eq!(rt;
         store.decide_broader(ResNo::new(3), ResNo::new(2)),
@@ -496,7 +461,7 @@ fn a_request_is_refused(rt: HostRuntime) -> Result<(), Fail> {
 
 #[test]
 fn a_request_is_performed(rt: HostRuntime) -> Result<(), Fail> {
-    let mut store = filled(&rt, rt.alloc(), &LINKED)?;
+    let mut store = filled(rt.alloc(), LINKED)?;
     let refused = Answer::No(Refusal::Cycle);
     assert_eq!(rt;
         store.step_broader(ResNo::new(3), ResNo::new(2)),

@@ -1,6 +1,6 @@
 -- A script, a line further.
 use Rattle.std.proofs.Common.{◌≡◌, ◌≢◌, ◌⊎◌, inl, inr, ◌∙◌, sym, ap, refl, subst, ℕ, ◌+◌, ◌<◌, ◌≤◌, ◌↔◌, List, [], ◌∷◌, ◌++◌, length, length-append, append_assoc, append-nil, Bool, true, false, Option, Some, None, Result, Err, arith}
-use Rattle.std.proofs.KnownBytes.{Appends-trans, Appends-nil, Consumes-trans, Consumes-nil, Consumes-kept}
+use Rattle.std.proofs.KnownBytes.{Appends-trans, Appends-nil, Consumes-trans, Consumes-nil, Consumes-kept, Keeps-refl}
 use Rattle.std.proofs.lemmas.Grind.{flat_map-append, fold-append}
 use Rattle.std.proofs.lemmas.List.Elements.{All-push, All-nil, All-head, All-tail}
 use Rattle.std.specs.List.{All}
@@ -113,21 +113,6 @@ module _ {R W S : Type 0} (remaining : R → Option (List ℕ)) (contents : W �
       noted = v.noted ∙ (ap (λ x. noted x (outcome_of v.fate)) s.noted ∙ sym (noted_more s.fates v.fate));
     }
 
-    -- nothing more is left
-    pub served_all : ended_of reader ≡ true → failed_of reader ≡ false → failed_of writer ≡ false → is_open desk ≡ true → Completes remaining contents serves is_open old (scene reader writer desk) ended
-    served_all e r w o = let all = all_taken (unread remaining old.reader) (unread remaining reader) held s.bytes s.taken (s.last e) in record {
-      input = s.bytes;
-      taken = all.0;
-      end = all.1;
-      told = e;
-      working = (r, w);
-      fates = s.fates;
-      lines = s.lines;
-      stays_open = o;
-      text = s.text;
-      noted = s.noted;
-    }
-
     -- no line was found
     pub served_end : (reader' : Pipe R) (held' : List ℕ) → FindsEnd (left remaining held reader) (left remaining held' reader') (ended_of reader') → failed_of reader' ≡ false → failed_of writer ≡ false → is_open desk ≡ true
         → Completes remaining contents serves is_open old (scene reader' writer desk) ended
@@ -145,6 +130,10 @@ module _ {R W S : Type 0} (remaining : R → Option (List ℕ)) (contents : W �
           text = s.text;
           noted = s.noted;
         }
+
+    -- nothing more is left
+    pub served_all : ended_of reader ≡ true → failed_of reader ≡ false → failed_of writer ≡ false → is_open desk ≡ true → Completes remaining contents serves is_open old (scene reader writer desk) ended
+    served_all e r w o = served_end reader held (Keeps-refl (left remaining held reader), s.last e, e) r w o
 
     -- it stopped between two lines
     pub served_stopped : (reader' : Pipe R) (fault : PipeFault) → ended_of reader ≡ false → IsCause remaining contents serves is_open old (scene reader' writer desk) fault s.bytes (left remaining held reader) (script_text s.fates)

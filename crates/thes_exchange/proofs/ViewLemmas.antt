@@ -7,7 +7,7 @@ use Rattle.thes_base.specs.declared.data.Move.{Move}
 use Rattle.thes_base.specs.Postings.{led}
 use Rattle.thes_base.specs.Views.{ConceptShown}
 use Rattle.thes_exchange.specs.ConceptMembers.{with_labels, with_links, with_facts}
-use Rattle.thes_exchange.specs.ViewTexts.{num, number_or_null, listed, tagged_data, mapping_data, move_data, row_data, concept_data, postings_data, posting_data}
+use Rattle.thes_exchange.specs.ViewTexts.{num, number_or_null, listed, tagged_data, mapping_data, typed_data, move_data, row_data, concept_data, postings_data, posting_data}
 
 list_has_none : {A : Type 0} (show : A → Data) → ((x : A) → has_float (show x) ≡ false) → (xs : List A) → has_float (listed show xs) ≡ false
 list_has_none show none [] = refl
@@ -32,6 +32,7 @@ concept_has_no_float c =
       or_null_has_none c.replaced,
       or_null_has_none c.scheme,
       list_has_none tagged_data (λ x. refl) c.scope,
+      list_has_none typed_data (λ x. refl) c.typed,
     ) refl
 
 pub postings_have_no_float : (hs : List History) → has_float (postings_data hs) ≡ false

@@ -18,9 +18,9 @@ refusal_text r = codes "{\"no\":\"" ++ (refusal_code r).name ++ codes "\"}\n"
 abbrev pub form_fault_text : FormFault → List ℕ
 form_fault_text f = codes "{\"bad\":\"" ++ (form_code f).name ++ codes "\"}\n"
 
-abbrev pub fault_text : Fault → List ℕ
-fault_text (faults.BadStore table) = codes "{\"fault\":\"BadStore\",\"table\":\"" ++ table_name table ++ codes "\"}\n"
-fault_text f = codes "{\"fault\":\"" ++ (fault_code f).name ++ codes "\"}\n"
+abbrev pub fault_reply_text : Fault → List ℕ
+fault_reply_text (faults.BadStore table) = codes "{\"fault\":\"BadStore\",\"table\":\"" ++ table_name table ++ codes "\"}\n"
+fault_reply_text f = codes "{\"fault\":\"" ++ (fault_code f).name ++ codes "\"}\n"
 
 abbrev pub answer_text : Answer → List ℕ
 answer_text (Number n) = codes "{\"ok\":" ++ decimal n ++ codes "}\n"
@@ -33,4 +33,4 @@ answer_text (No r) = refusal_text r
 abbrev pub reply_text : Reply → List ℕ
 reply_text (replies.Answer a) = answer_text a
 reply_text (replies.Bad f) = form_fault_text f
-reply_text (replies.Fault f) = fault_text f
+reply_text (replies.Fault f) = fault_reply_text f

@@ -2,7 +2,7 @@
 use Rattle.std.specs.Prelude.{codes}
 use Rattle.serde_json.specs.Data.{Members, boolean, put}
 use Rattle.thes_base.specs.Views.{ConceptShown}
-use Rattle.thes_exchange.specs.ViewTexts.{num, number_or_null, listed, tagged_data, mapping_data}
+use Rattle.thes_exchange.specs.ViewTexts.{num, number_or_null, listed, tagged_data, mapping_data, typed_data}
 
 unfoldable pub with_labels : ConceptShown → Members → Members
 with_labels c ms =
@@ -13,11 +13,12 @@ with_labels c ms =
 
 unfoldable pub with_links : ConceptShown → Members → Members
 with_links c ms =
-    put (codes "related") (listed num c.related)
+    put (codes "typed") (listed typed_data c.typed)
+    (put (codes "related") (listed num c.related)
     (put (codes "narrower") (listed num c.narrower)
     (put (codes "mappings") (listed mapping_data c.mappings)
     (put (codes "collections") (listed num c.collections)
-    (put (codes "broader") (listed num c.broader) ms))))
+    (put (codes "broader") (listed num c.broader) ms)))))
 
 unfoldable pub with_facts : ConceptShown → Members → Members
 with_facts c ms =

@@ -27,7 +27,7 @@ abbrev pub IsLineOf : View → List ℕ → Type 0
 IsLineOf (views.No r) text = ⊥
 IsLineOf view text = text ≡ view_text view
 
--- The line of the state's view that the query asks for, or the refusal. Want of memory may stand in its place.
+-- The line of the state's view that the query asks for, or the refusal. Running out of memory may stand in its place.
 abbrev pub IsViewed : State → Query → Result Viewed Fault → Type 0
 IsViewed s query (Ok (viewed.Line text)) = (view : View) × IsView s query view × IsLineOf view text
 IsViewed s query (Ok (viewed.No r)) = IsView s query (views.No r)
@@ -44,7 +44,7 @@ is_unspent core = not core.spent
 abbrev pub CoreServes : Serving Kept
 CoreServes = Serves CorePerforms CoreShows
 
--- A run of the machine leads from the one state to the other, or want of memory has left the core spent.
+-- A run of the machine leads from the one state to the other, or running out of memory has left the core spent.
 abbrev pub IsLed : Kept → Kept → Type 0
 IsLed old new =
     (new.spent ≡ true)

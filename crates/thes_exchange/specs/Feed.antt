@@ -1,9 +1,10 @@
 -- The bytes that are still to come, and what a line of them is.
-use Rattle.std.specs.Prelude.{◌≡◌, ◌≢◌, ℕ, ◌<◌, ◌≤◌, ◌==◌, Bool, true, false, if◌then◌else◌, List, [], ◌∷◌, ◌++◌, length, Option, None, Some}
+use Rattle.std.specs.Prelude.{◌≡◌, ◌≢◌, ℕ, ◌<◌, ◌≤◌, ◌==◌, Bool, true, false, if◌then◌else◌, List, [], ◌∷◌, ◌++◌, length, take, drop, Option, None, Some}
 use Rattle.std.specs.Str.Lines.{strip_carriage_return}
 use Rattle.std.specs.Io.KnownBytes.{Consumes, Keeps, IsAtEnd, prepend_known}
 use Rattle.thes_base.specs.Pipe.{unread}
 use Rattle.thes_base.specs.declared.pipe.Pipe.{Pipe}
+use Rattle.thes_exchange.specs.declared.feed.Run.{Run}
 use Rattle.thes_exchange.specs.declared.feed.Found.{Found}
 use Rattle.thes_exchange.specs.declared.feed.Found.TheVariants.{Line}
 
@@ -52,6 +53,13 @@ pub record IsTooLong (old : Option (List ℕ)) : Type 0 where
 abbrev pub TakesByte : Option ℕ → Option (List ℕ) → Option (List ℕ) → Bool → Type 0
 TakesByte None old new ended = Keeps old new × IsAtEnd new × (ended ≡ true)
 TakesByte (Some b) old new ended = Consumes old new (b ∷ []) × (ended ≡ false)
+
+-- some of what was held was taken, with no newline in it, and the line has it, if it has all before it
+pub record TakesRun (old new line line' : List ℕ) (kept : Bool) (run : Run) : Type 0 where
+  pub within : run.count ≤ length old
+  pub rest : new ≡ drop run.count old
+  pub one : has_newline (take run.count old) ≡ false
+  pub added : run.kept ≡ true → (kept ≡ true) × (line' ≡ line ++ take run.count old)
 
 -- What a look for a line found.
 

@@ -1,6 +1,6 @@
--- What the bytes of a request ask for, or their first fault. First every member is there and of its kind; then each has its
--- form, in the order in which its line names it.
-use Rattle.std.specs.Prelude.{ℕ, List, All, codes, map, unwrap_or, option_and_then, Option, None, Some, if◌then◌else◌}
+-- What the bytes of a request ask for, or their first fault. Three rules, in this order: the bytes are JSON; the object has the
+-- members that its line of the table names and no others, each of its kind; each member has its form, in the line's order.
+use Rattle.std.specs.Prelude.{ℕ, Bool, List, All, codes, map, unwrap_or, option_and_then, Option, None, Some, if◌then◌else◌}
 use Rattle.std.specs.Str.{is_utf8}
 use Rattle.std.specs.Char.{to_ascii_lowercase}
 use Rattle.serde_json.specs.Data.{Num, Data}
@@ -11,6 +11,7 @@ use Rattle.thes_base.specs.Data.{LabelData}
 use Rattle.thes_base.specs.declared.data.LabelKind.{LabelKind}
 use Rattle.thes_base.specs.declared.data.LabelKind.TheVariants.{Pref, Alt, Hidden, Scope}
 use Rattle.thes_base.specs.declared.data.Link.{Link}
+use Rattle.thes_base.specs.declared.data.LinkKind.{LinkKind}
 use Rattle.thes_base.specs.declared.fault.FormFault.TheVariants as bad
 use Rattle.thes_base.specs.declared.request.Command.{Command}
 use Rattle.thes_base.specs.declared.request.Command.TheVariants as request
@@ -32,24 +33,24 @@ use Rattle.thes_exchange.specs.declared.request.Request.TheVariants.{Do, Get}
 abbrev pub whole : Num → ℕ
 whole x = unwrap_or (as_u64 x) 0
 
-abbrev pub number_of : Num → Reading ℕ
-number_of x = formed (IsNumber (whole x)) bad.BadNumber (whole x)
+abbrev pub number_form : Num → Reading ℕ
+number_form x = formed (IsNumber (whole x)) bad.BadNumber (whole x)
 
 -- a tag is kept in lower case
-abbrev pub tag_of : List ℕ → Reading (List ℕ)
-tag_of text = formed (IsTag text) bad.BadTag (map to_ascii_lowercase text)
+abbrev pub tag_form : List ℕ → Reading (List ℕ)
+tag_form text = formed (IsTag text) bad.BadTag (map to_ascii_lowercase text)
 
-abbrev pub text_of : List ℕ → Reading (List ℕ)
-text_of text = formed (IsText text) bad.BadText text
+abbrev pub text_form : List ℕ → Reading (List ℕ)
+text_form text = formed (IsText text) bad.BadText text
 
-abbrev pub iri_of : List ℕ → Reading (List ℕ)
-iri_of text = formed (IsIri text) bad.BadIri text
+abbrev pub iri_form : List ℕ → Reading (List ℕ)
+iri_form text = formed (IsIri text) bad.BadIri text
 
-abbrev pub key_of : List ℕ → Reading (List ℕ)
-key_of text = formed (IsKey text) bad.BadKey text
+abbrev pub key_form : List ℕ → Reading (List ℕ)
+key_form text = formed (IsKey text) bad.BadKey text
 
-abbrev pub record_of : List ℕ → Reading (List ℕ)
-record_of text = formed (IsRecordName text) bad.BadRecord text
+abbrev pub record_form : List ℕ → Reading (List ℕ)
+record_form text = formed (IsRecordName text) bad.BadRecord text
 
 -- a note is longer than a name
 abbrev pub IsLabelText : LabelKind → List ℕ → Type 0
@@ -58,225 +59,152 @@ IsLabelText Alt text = IsText text
 IsLabelText Hidden text = IsText text
 IsLabelText Scope text = IsNote text
 
-abbrev pub label_text_of : LabelKind → List ℕ → Reading (List ℕ)
-label_text_of kind text = formed (IsLabelText kind text) bad.BadText text
+abbrev pub label_text_form : LabelKind → List ℕ → Reading (List ℕ)
+label_text_form kind text = formed (IsLabelText kind text) bad.BadText text
 
 pub record AreNumbers (ns : List ℕ) : Type 0 where
   pub each : All IsNumber ns
 
-abbrev pub numbers_of : List Num → Reading (List ℕ)
-numbers_of xs = formed (AreNumbers (map whole xs)) bad.BadNumber (map whole xs)
+abbrev pub numbers_form : List Num → Reading (List ℕ)
+numbers_form xs = formed (AreNumbers (map whole xs)) bad.BadNumber (map whole xs)
 
--- What changes the state: a line of the table each. The count is of all members, `do` among them.
+-- Members: where one is found, and what it is read as.
 
-unfoldable pub scheme_of : Data → Reading Command
-scheme_of d = do
-  _ ← shaped (members_of 3 d)
-  tag ← shaped (text_in (codes "tag") d)
-  text ← shaped (text_in (codes "text") d)
-  t ← tag_of tag
-  x ← text_of text
-  reads (request.Scheme t x)
+pub record Member (X A : Type 0) : Type 1 where
+  pub found : Data → Option X
+  pub form : X → Reading A
 
-unfoldable pub concept_of : Data → Reading Command
-concept_of d = do
-  _ ← shaped (members_of 4 d)
-  scheme ← shaped (number_in (codes "scheme") d)
-  tag ← shaped (text_in (codes "tag") d)
-  text ← shaped (text_in (codes "text") d)
-  n ← number_of scheme
-  t ← tag_of tag
-  x ← text_of text
-  reads (request.Concept n t x)
+abbrev pub number_at : List ℕ → Member Num ℕ
+number_at name = record { found = number_in name; form = number_form }
 
-unfoldable pub collection_of : Data → Reading Command
-collection_of d = do
-  _ ← shaped (members_of 4 d)
-  scheme ← shaped (number_in (codes "scheme") d)
-  tag ← shaped (text_in (codes "tag") d)
-  text ← shaped (text_in (codes "text") d)
-  n ← number_of scheme
-  t ← tag_of tag
-  x ← text_of text
-  reads (request.Collection n t x)
+abbrev pub a_tag : Member (List ℕ) (List ℕ)
+a_tag = record { found = text_in (codes "tag"); form = tag_form }
 
-unfoldable pub outside_of : Data → Reading Command
-outside_of d = do
+abbrev pub a_text : Member (List ℕ) (List ℕ)
+a_text = record { found = text_in (codes "text"); form = text_form }
+
+abbrev pub an_iri : Member (List ℕ) (List ℕ)
+an_iri = record { found = text_in (codes "iri"); form = iri_form }
+
+abbrev pub a_key : Member (List ℕ) (List ℕ)
+a_key = record { found = text_in (codes "key"); form = key_form }
+
+abbrev pub a_record : Member (List ℕ) (List ℕ)
+a_record = record { found = text_in (codes "record"); form = record_form }
+
+-- true or false
+abbrev pub a_keep : Member Bool Bool
+a_keep = record { found = truth_in (codes "keep"); form = reads }
+
+-- the word of a kind of link
+abbrev pub a_link_kind : Member LinkKind LinkKind
+a_link_kind = record { found = λ d. option_and_then link_kind_named (text_in (codes "kind") d); form = reads }
+
+abbrev pub some_postings : Member (List Num) (List ℕ)
+some_postings = record { found = numbers_in (codes "postings"); form = numbers_form }
+
+-- Lines of the table: with `do` or `get` so many members, all of them there, and then the form of each.
+
+unfoldable pub line0 : {C : Type 0} → C → Data → Reading C
+line0 makes d = do
+  _ ← shaped (members_of 1 d)
+  reads makes
+
+unfoldable pub line1 : {X A C : Type 0} → (A → C) → Member X A → Data → Reading C
+line1 makes m d = do
   _ ← shaped (members_of 2 d)
-  iri ← shaped (text_in (codes "iri") d)
-  x ← iri_of iri
-  reads (request.Outside x)
+  x ← shaped (m.found d)
+  a ← m.form x
+  reads (makes a)
 
--- a label with its owner
-unfoldable pub label_of : Data → Reading (ℕ × LabelData)
-label_of d = do
+unfoldable pub line2 : {X A Y B C : Type 0} → (A → B → C) → Member X A → Member Y B → Data → Reading C
+line2 makes m n d = do
+  _ ← shaped (members_of 3 d)
+  x ← shaped (m.found d)
+  y ← shaped (n.found d)
+  a ← m.form x
+  b ← n.form y
+  reads (makes a b)
+
+unfoldable pub line3 : {X A Y B Z D C : Type 0} → (A → B → D → C) → Member X A → Member Y B → Member Z D → Data → Reading C
+line3 makes m n o d = do
+  _ ← shaped (members_of 4 d)
+  x ← shaped (m.found d)
+  y ← shaped (n.found d)
+  z ← shaped (o.found d)
+  a ← m.form x
+  b ← n.form y
+  e ← o.form z
+  reads (makes a b e)
+
+unfoldable pub line4 : {X A Y B Z D U E C : Type 0} → (A → B → D → E → C) → Member X A → Member Y B → Member Z D → Member U E → Data → Reading C
+line4 makes m n o p d = do
+  _ ← shaped (members_of 5 d)
+  x ← shaped (m.found d)
+  y ← shaped (n.found d)
+  z ← shaped (o.found d)
+  u ← shaped (p.found d)
+  a ← m.form x
+  b ← n.form y
+  e ← o.form z
+  f ← p.form u
+  reads (makes a b e f)
+
+-- Two lines that two requests share.
+
+-- a label with its owner: the form of its text is that of its kind
+unfoldable pub label_line : Data → Reading (ℕ × LabelData)
+label_line d = do
   _ ← shaped (members_of 5 d)
   owner ← shaped (number_in (codes "owner") d)
   kind ← shaped (option_and_then label_kind_named (text_in (codes "kind") d))
   tag ← shaped (text_in (codes "tag") d)
   text ← shaped (text_in (codes "text") d)
-  n ← number_of owner
-  t ← tag_of tag
-  x ← label_text_of kind text
+  n ← number_form owner
+  t ← tag_form tag
+  x ← label_text_form kind text
   reads (n, record { kind = kind; tag = t; text = x })
 
-unfoldable pub add_label_of : Data → Reading Command
-add_label_of d = do
-  l ← label_of d
-  reads (request.AddLabel l.0 l.1)
+abbrev pub link_line : Data → Reading Link
+link_line d = line3 (λ kind a b. record { kind = kind; a = a; b = b }) a_link_kind (number_at (codes "a")) (number_at (codes "b")) d
 
-unfoldable pub drop_label_of : Data → Reading Command
-drop_label_of d = do
-  l ← label_of d
-  reads (request.DropLabel l.0 l.1)
+unfoldable pub made_of : {A C : Type 0} → (A → C) → Reading A → Reading C
+made_of makes line = do
+  x ← line
+  reads (makes x)
 
-unfoldable pub relabel_of : Data → Reading Command
-relabel_of d = do
-  _ ← shaped (members_of 5 d)
-  owner ← shaped (number_in (codes "owner") d)
-  tag ← shaped (text_in (codes "tag") d)
-  text ← shaped (text_in (codes "text") d)
-  keep ← shaped (truth_in (codes "keep") d)
-  n ← number_of owner
-  t ← tag_of tag
-  x ← text_of text
-  reads (request.Relabel n t x keep)
-
-unfoldable pub link_of : Data → Reading Link
-link_of d = do
-  _ ← shaped (members_of 4 d)
-  kind ← shaped (option_and_then link_kind_named (text_in (codes "kind") d))
-  a ← shaped (number_in (codes "a") d)
-  b ← shaped (number_in (codes "b") d)
-  m ← number_of a
-  n ← number_of b
-  reads (record { kind = kind; a = m; b = n })
-
-unfoldable pub add_link_of : Data → Reading Command
-add_link_of d = do
-  l ← link_of d
-  reads (request.Link l.kind l.a l.b)
-
-unfoldable pub unlink_of : Data → Reading Command
-unlink_of d = do
-  l ← link_of d
-  reads (request.Unlink l.kind l.a l.b)
-
-unfoldable pub deprecate_of : Data → Reading Command
-deprecate_of d = do
-  _ ← shaped (members_of 2 d)
-  concept ← shaped (number_in (codes "concept") d)
-  n ← number_of concept
-  reads (request.Deprecate n)
-
-unfoldable pub merge_of : Data → Reading Command
-merge_of d = do
-  _ ← shaped (members_of 3 d)
-  source ← shaped (number_in (codes "source") d)
-  target ← shaped (number_in (codes "target") d)
-  m ← number_of source
-  n ← number_of target
-  reads (request.Merge m n)
-
-unfoldable pub split_of : Data → Reading Command
-split_of d = do
-  _ ← shaped (members_of 5 d)
-  source ← shaped (number_in (codes "source") d)
-  tag ← shaped (text_in (codes "tag") d)
-  text ← shaped (text_in (codes "text") d)
-  postings ← shaped (numbers_in (codes "postings") d)
-  n ← number_of source
-  t ← tag_of tag
-  x ← text_of text
-  ps ← numbers_of postings
-  reads (request.Split n t x ps)
-
-unfoldable pub post_of : Data → Reading Command
-post_of d = do
-  _ ← shaped (members_of 4 d)
-  key ← shaped (text_in (codes "key") d)
-  rec ← shaped (text_in (codes "record") d)
-  concept ← shaped (number_in (codes "concept") d)
-  k ← key_of key
-  r ← record_of rec
-  n ← number_of concept
-  reads (request.Post k r n)
-
-unfoldable pub withdraw_of : Data → Reading Command
-withdraw_of d = do
-  _ ← shaped (members_of 2 d)
-  posting ← shaped (number_in (codes "posting") d)
-  n ← number_of posting
-  reads (request.Withdraw n)
-
+-- The table: what stands at `do`, and the other members in the order in which their forms are looked at.
 abbrev pub command_of : Verb → Data → Reading Command
-command_of does.Scheme d = scheme_of d
-command_of does.Concept d = concept_of d
-command_of does.Collection d = collection_of d
-command_of does.Outside d = outside_of d
-command_of does.AddLabel d = add_label_of d
-command_of does.DropLabel d = drop_label_of d
-command_of does.Relabel d = relabel_of d
-command_of does.Link d = add_link_of d
-command_of does.Unlink d = unlink_of d
-command_of does.Deprecate d = deprecate_of d
-command_of does.Merge d = merge_of d
-command_of does.Split d = split_of d
-command_of does.Post d = post_of d
-command_of does.Withdraw d = withdraw_of d
+command_of does.Scheme d = line2 request.Scheme a_tag a_text d
+command_of does.Concept d = line3 request.Concept (number_at (codes "scheme")) a_tag a_text d
+command_of does.Collection d = line3 request.Collection (number_at (codes "scheme")) a_tag a_text d
+command_of does.Outside d = line1 request.Outside an_iri d
+command_of does.AddLabel d = made_of (λ l. request.AddLabel l.0 l.1) (label_line d)
+command_of does.DropLabel d = made_of (λ l. request.DropLabel l.0 l.1) (label_line d)
+command_of does.Relabel d = line4 request.Relabel (number_at (codes "owner")) a_tag a_text a_keep d
+command_of does.Link d = made_of (λ l. request.Link l.kind l.a l.b) (link_line d)
+command_of does.Unlink d = made_of (λ l. request.Unlink l.kind l.a l.b) (link_line d)
+command_of does.Deprecate d = line1 request.Deprecate (number_at (codes "concept")) d
+command_of does.Merge d = line2 request.Merge (number_at (codes "source")) (number_at (codes "target")) d
+command_of does.Split d = line4 request.Split (number_at (codes "source")) a_tag a_text some_postings d
+command_of does.Post d = line3 request.Post a_key a_record (number_at (codes "concept")) d
+command_of does.Withdraw d = line1 request.Withdraw (number_at (codes "posting")) d
 
--- What shows the state.
-
-unfoldable pub totals_of : Data → Reading Query
-totals_of d = do
-  _ ← shaped (members_of 1 d)
-  reads asked.Totals
-
-unfoldable pub shown_concept_of : Data → Reading Query
-shown_concept_of d = do
-  _ ← shaped (members_of 2 d)
-  number ← shaped (number_in (codes "number") d)
-  n ← number_of number
-  reads (asked.Concept n)
-
-unfoldable pub shown_postings_of : Data → Reading Query
-shown_postings_of d = do
-  _ ← shaped (members_of 2 d)
-  concept ← shaped (number_in (codes "concept") d)
-  n ← number_of concept
-  reads (asked.Postings n)
-
-unfoldable pub shown_posting_of : Data → Reading Query
-shown_posting_of d = do
-  _ ← shaped (members_of 2 d)
-  number ← shaped (number_in (codes "number") d)
-  n ← number_of number
-  reads (asked.Posting n)
-
+-- and what stands at `get`
 abbrev pub query_of : Noun → Data → Reading Query
-query_of gets.Totals d = totals_of d
-query_of gets.Concept d = shown_concept_of d
-query_of gets.Postings d = shown_postings_of d
-query_of gets.Posting d = shown_posting_of d
-
-unfoldable pub do_of : Verb → Data → Reading Request
-do_of verb d = do
-  c ← command_of verb d
-  reads (Do c)
-
-unfoldable pub get_of : Noun → Data → Reading Request
-get_of noun d = do
-  q ← query_of noun d
-  reads (Get q)
+query_of gets.Totals d = line0 asked.Totals d
+query_of gets.Concept d = line1 asked.Concept (number_at (codes "number")) d
+query_of gets.Postings d = line1 asked.Postings (number_at (codes "concept")) d
+query_of gets.Posting d = line1 asked.Posting (number_at (codes "number")) d
 
 -- Where there is `do`, `get` would be a member too many.
 abbrev pub by_words : Option Data → Option Data → Data → Reading Request
 by_words (Some word) _ d = do
   verb ← shaped (option_and_then verb_named (as_str word))
-  do_of verb d
+  made_of Do (command_of verb d)
 by_words None (Some word) d = do
   noun ← shaped (option_and_then noun_named (as_str word))
-  get_of noun d
+  made_of Get (query_of noun d)
 by_words None None d = fails bad.BadShape
 
 unfoldable pub request_in : Data → Reading Request

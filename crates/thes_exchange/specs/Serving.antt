@@ -30,7 +30,7 @@ abbrev pub Serving : Type 0 → Type 1
 Serving S = S → List ℕ → Outcome → S → Type 0
 
 -- The line is read, and its request performed or its view shown. A line that is no request changes nothing. A fault may stand
--- in place of any answer: that of the desk, or want of memory for reading, and then nothing changes.
+-- in place of any answer: that of the desk, or running out of memory while reading, and then nothing changes.
 abbrev pub Serves : {S : Type 0} → Performing S → Showing S → Serving S
 Serves performs shows old line (Told (reply.Answer a)) new =
     ((command : Command) × Reaches (request_of line) (Ok (Do command)) × performs old command (Ok a) new)

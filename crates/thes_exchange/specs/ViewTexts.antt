@@ -6,9 +6,10 @@ use Rattle.serde_json.specs.Written.{compact_text}
 use Rattle.thes_base.specs.declared.data.History.{History}
 use Rattle.thes_base.specs.declared.data.LinkKind.{LinkKind}
 use Rattle.thes_base.specs.declared.data.Move.{Move}
+use Rattle.thes_base.specs.declared.data.TypedKind.{TypedKind}
 use Rattle.thes_base.specs.Postings.{place}
 use Rattle.thes_base.specs.Views.{Tagged, ConceptShown}
-use Rattle.thes_exchange.specs.Words.{link_word}
+use Rattle.thes_base.specs.Words.{link_word, typed_word}
 use Rattle.thes_exchange.specs.AnswerTexts.{refusal_text}
 use Rattle.thes_base.specs.declared.data.Totals.{Totals}
 use Rattle.thes_exchange.specs.declared.view.View.{View}
@@ -27,8 +28,15 @@ listed show xs = array (items_of (map show xs))
 abbrev pub tagged_data : Tagged → Data
 tagged_data l = array (item (string l.tag) (item (string l.text) no_items))
 
+-- a word and the number that it leads to
+abbrev pub word_data : List ℕ → ℕ → Data
+word_data word n = array (item (string word) (item (num n) no_items))
+
 abbrev pub mapping_data : LinkKind × ℕ → Data
-mapping_data m = array (item (string (link_word m.0)) (item (num m.1) no_items))
+mapping_data m = word_data (link_word m.0) m.1
+
+abbrev pub typed_data : TypedKind × ℕ → Data
+typed_data m = word_data (typed_word m.0) m.1
 
 abbrev pub move_data : Move → Data
 move_data m = array (item (num m.number) (item (num m.source) (item (num m.target) no_items)))
@@ -60,7 +68,8 @@ concept_data c = object
     (member (codes "scheme") (number_or_null c.scheme)
     (member (codes "scope") (listed tagged_data c.scope)
     (member (codes "top") (boolean c.top)
-    no_members)))))))))))))))
+    (member (codes "typed") (listed typed_data c.typed)
+    no_members))))))))))))))))
 
 abbrev pub postings_data : List History → Data
 postings_data hs = object (member (codes "postings") (listed row_data hs) no_members)

@@ -5,6 +5,7 @@ use Rattle.thes_base.specs.declared.data.LabelKind.{LabelKind}
 use Rattle.thes_base.specs.declared.data.LabelKind.TheVariants as labels
 use Rattle.thes_base.specs.declared.data.LinkKind.{LinkKind}
 use Rattle.thes_base.specs.declared.data.LinkKind.TheVariants as links
+use Rattle.thes_base.specs.Words.{link_word}
 use Rattle.thes_exchange.specs.declared.words.Verb.{Verb}
 use Rattle.thes_exchange.specs.declared.words.Verb.TheVariants as does
 use Rattle.thes_exchange.specs.declared.words.Noun.{Noun}
@@ -23,19 +24,11 @@ label_word labels.Scope = codes "scope"
 abbrev pub label_kind_named : List ℕ → Option LabelKind
 label_kind_named text = named label_word (labels.Pref ∷ labels.Alt ∷ labels.Hidden ∷ labels.Scope ∷ []) text
 
-abbrev pub link_word : LinkKind → List ℕ
-link_word links.Broader = codes "broader"
-link_word links.Related = codes "related"
-link_word links.Exact = codes "exact"
-link_word links.Close = codes "close"
-link_word links.Broad = codes "broad"
-link_word links.Narrow = codes "narrow"
-link_word links.RelMatch = codes "relMatch"
-link_word links.Member = codes "member"
-
 abbrev pub link_kind_named : List ℕ → Option LinkKind
 link_kind_named text =
-    named link_word (links.Broader ∷ links.Related ∷ links.Exact ∷ links.Close ∷ links.Broad ∷ links.Narrow ∷ links.RelMatch ∷ links.Member ∷ []) text
+    named link_word
+    (links.Broader ∷ links.Related ∷ links.Exact ∷ links.Close ∷ links.Broad ∷ links.Narrow ∷ links.RelMatch ∷ links.Member
+    ∷ links.BroaderGeneric ∷ links.BroaderPartitive ∷ links.BroaderInstantial ∷ []) text
 
 -- what stands at `do`
 abbrev pub verb_word : Verb → List ℕ

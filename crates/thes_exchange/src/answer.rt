@@ -1,16 +1,11 @@
 //! Answers as lines of JSON.
-ghost use Rattle.std.specs.Prelude.{◌≡◌, ◌+◌, ◌≤◌, ◌++◌, [], length, codes, decimal};
+ghost use Rattle.std.specs.Prelude.{◌≡◌, ◌+◌, ◌≤◌, ◌++◌, length, codes, decimal};
 ghost use Rattle.thes_base.specs.Names.{form_code, refusal_code, fault_code, table_name};
-ghost use Rattle.thes_exchange.specs.AnswerTexts.{answer_text, fault_text, form_fault_text, refusal_text, reply_text};
+ghost use Rattle.thes_exchange.specs.AnswerTexts.{answer_text, fault_reply_text, form_fault_text, refusal_text, reply_text};
 
-use arrayvec::ArrayString;
-use itoa::Buffer;
-use std::marker::Model;
+use crate::line::Line;
 use thes_base::fault::{Fault, FormFault, Refusal};
 use thes_base::request::Answer;
-
-#[cfg(test)]
-mod tests;
 
 /// What a request is answered with.
 #[derive(Clone, Copy, Debug, PartialEq, Eq)]
@@ -18,59 +13,6 @@ pub enum Reply {
     Answer(Answer),
     Bad(FormFault),
     Fault(Fault),
-}
-
-/// The line of a reply, kept without memory of its own.
-#[derive(Drop)]
-pub struct Line {
-    text: ArrayString<64>,
-}
-
-impl Model for Line {
-    ghost use Rattle.std.specs.Prelude.{List, ℕ};
-
-    ghost Value = { List ℕ };
-
-    ghost view = { λ line. line.text.bytes };
-}
-
-impl Line {
-    // A line that begins with a text.
-    fn of(text: &str) -> Line
-        requires { length text.now ≤ 64 }
-        ensures { result ≡ text.now }
-    {
-        let mut line = Line {
-            text: ArrayString::new(),
-        };
-        line.push(text);
-        line
-    }
-
-    // Adds a text at the end.
-    fn push(&mut self, text: &str)
-        requires { length self.old + length text.now ≤ 64 }
-        ensures text { self.new ≡ self.old ++ text.now }
-        ensures len { length self.new ≡ length self.old + length text.now }
-    {
-        self.text.push_str(text);
-    }
-
-    // Adds a number's digits, of which there are at most ten.
-    fn push_number(&mut self, number: u32)
-        requires { length self.old ≤ 54 }
-        ensures text { self.new ≡ self.old ++ decimal number }
-        ensures len { length self.new ≤ length self.old + 10 }
-    {
-        self.push(Buffer::new().format(number));
-    }
-
-    /// The line, with its line feed.
-    pub fn as_bytes(&self) -> &[u8]
-        ensures { result.now ≡ self.now }
-    {
-        self.text.as_str().as_bytes()
-    }
 }
 
 /// The line of a reply.
@@ -151,7 +93,7 @@ fn form_fault_line(fault: FormFault) -> Line
 
 // The line of a fault.
 fn fault_line(fault: Fault) -> Line
-    ensures { result ≡ fault_text fault }
+    ensures { result ≡ fault_reply_text fault }
 {
     match fault {
         Fault::BadStore(table) => name_line("{\"fault\":\"BadStore\",\"table\":\"", table.name()),

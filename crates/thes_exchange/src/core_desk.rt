@@ -28,7 +28,7 @@ fn viewed(core: &Core, alloc: Global, query: &Query) -> Result<Viewed, AllocErro
 }
 
 /// Each request is a step of the machine, after which the state is in order, and each view is one of the core's state,
-/// which stays as it is. Want of memory within a request changes nothing, or closes the desk for good.
+/// which stays as it is. Running out of memory within a request changes nothing, or closes the desk for good.
 impl Desk for Core {
     ghost use Rattle.thes_exchange.specs.CoreDesk.{CorePerforms, CoreShows, is_unspent};
 

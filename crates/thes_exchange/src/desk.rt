@@ -67,7 +67,7 @@ pub trait Desk {
         requires { is_open self.old ≡ true }
         ensures { shows self.old query.now result self.new };
 
-    /// Whether it may be asked anything. Want of memory within a request can close it for good.
+    /// Whether it may be asked anything. Running out of memory within a request can close it for good.
     fn is_open(&self) -> bool
         ensures { result ≡ is_open self.now };
 }

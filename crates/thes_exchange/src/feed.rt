@@ -1,10 +1,11 @@
 //! The lines of a reader.
-ghost use Rattle.std.specs.Prelude.{◌≡◌, ◌≢◌, ◌≤◌, ◌<◌, ◌⊎◌, ℕ, Bool, List, [], ◌∷◌, ◌++◌, length, true, false, IfOk, IfErr, OnOk, OnErr, IsErrOf, Option, IsTrue, MatchOption, ◌↔◌};
+ghost use Rattle.std.specs.Prelude.{◌≡◌, ◌≢◌, ◌≤◌, ◌<◌, ◌⊎◌, ℕ, Bool, List, [], ◌∷◌, ◌++◌, length, take, drop, true, false, IfOk, IfErr, OnOk, OnErr, IsErrOf, Option, IsTrue, MatchOption, ◌↔◌};
 ghost use Rattle.std.specs.Io.KnownBytes.{Consumes, Keeps, IsAtEnd};
 ghost use Rattle.std.specs.Str.Lines.{strip_carriage_return};
 ghost use Rattle.thes_base.specs.Pipe.{failed_of, ended_of, denied_of, IsFresh, PaysCalls, unread};
-ghost use Rattle.thes_exchange.specs.Feed.{left, TakesByte, TakesPart, IsTooLong, FindsLine, FindsEnd};
+ghost use Rattle.thes_exchange.specs.Feed.{left, has_newline, TakesByte, TakesRun, TakesPart, IsTooLong, FindsLine, FindsEnd};
 
+use memchr::memchr;
 use std::alloc::{AllocError, Global};
 use std::io::Read;
 use std::marker::Model;
@@ -37,7 +38,14 @@ pub enum Found {
     End,
 }
 
-const LINE_LIMIT: u32 = 1_048_576;
+// Bytes of a line that were taken out, and whether the line has them and all before them.
+#[derive(Clone, Copy)]
+struct Run {
+    count: usize,
+    kept: bool,
+}
+
+const LINE_LIMIT: usize = 1_048_576;
 
 const BUFFER_SIZE: usize = 4096;
 
@@ -63,7 +71,8 @@ impl Feed {
         requires { IsFresh reader.old }
         ensures byte { IfOk result (λ found. TakesByte found
             (left R.remaining self.old reader.old) (left R.remaining self.new reader.new) (ended_of reader.new)) }
-        ensures err { OnErr result (Keeps (left R.remaining self.old reader.old) (left R.remaining self.new reader.new)
+        ensures err { OnErr result (Keeps (left R.remaining self.old reader.old)
+            (left R.remaining self.new reader.new)
             × (ended_of reader.new ≡ false)) }
         ensures emptied { OnErr result (self.new ≡ []) }
         ensures failed { IsErrOf result Stop.Failed ↔ (failed_of reader.new ≡ true) }
@@ -88,9 +97,11 @@ impl Feed {
             (left R.remaining self.old reader.old) (left R.remaining self.new reader.new) (ended_of reader.new)) }
         ensures end { IfOk result (λ found. found ≡ Found.End → FindsEnd
             (left R.remaining self.old reader.old) (left R.remaining self.new reader.new) (ended_of reader.new)) }
-        ensures broken { IsErrOf result Stop.Failed → TakesPart (left R.remaining self.old reader.old) (unread R.remaining reader.new) }
+        ensures broken { IsErrOf result Stop.Failed →
+            TakesPart (left R.remaining self.old reader.old) (unread R.remaining reader.new) }
         ensures failed { IsErrOf result Stop.Failed ↔ (failed_of reader.new ≡ true) }
-        ensures too_long { IsErrOf result Stop.TooLong → (denied_of reader.new ≡ true) ⊎ IsTooLong (left R.remaining self.old reader.old) }
+        ensures too_long { IsErrOf result Stop.TooLong → (denied_of reader.new ≡ true)
+            ⊎ IsTooLong (left R.remaining self.old reader.old) }
         ensures denied { denied_of reader.new ≡ true → IsErrOf result Stop.TooLong }
         ensures paid { PaysCalls reader.old reader.new budget.old budget.new }
     {
@@ -111,7 +122,10 @@ impl Feed {
                 }
                 Some(byte) => {
                     taken += 1;
-                    held = keep(line, held, byte);
+                    let kept = keep(line, held, byte);
+                    let run = self.take_run(line, kept, LINE_LIMIT + 1 - taken);
+                    taken += run.count;
+                    held = run.kept;
                 }
             }
         }
@@ -122,8 +136,10 @@ impl Feed {
     fn refill<R: Read>(&mut self, reader: &mut Pipe<R>, budget: &mut Budget) -> Result<bool, Stop>
         requires fresh { IsFresh reader.old }
         requires used { self.old ≡ [] }
-        ensures more { IfOk result (λ more. more ≡ true → (self.new ≢ []) × (ended_of reader.new ≡ false)) }
-        ensures kept { Keeps (left R.remaining self.old reader.old) (left R.remaining self.new reader.new) }
+        ensures more { IfOk result (λ more. more ≡ true → (self.new ≢ [])
+            × (ended_of reader.new ≡ false)) }
+        ensures kept { Keeps (left R.remaining self.old reader.old)
+            (left R.remaining self.new reader.new) }
         ensures end { IfOk result (λ more. more ≡ false → (self.new ≡ [])
             × IsAtEnd (left R.remaining self.new reader.new) × (ended_of reader.new ≡ true)) }
         ensures err { OnErr result ((self.new ≡ []) × (ended_of reader.new ≡ false)) }
@@ -138,6 +154,30 @@ impl Feed {
         Ok(count > 0)
     }
 
+    // Takes out what is held before a newline, at most so many bytes, and puts it behind what the line has, if that was kept.
+    fn take_run(&mut self, line: &mut Vec<u8>, kept: bool, most: usize) -> Run
+        ensures run { TakesRun self.old self.new line.old.items line.new.items kept result }
+        ensures short { result.count ≤ most }
+    {
+        let count = line_length(self.buffered(), most);
+        let kept = kept && line.extend_from_slice(&self.buffered()[..count]).is_ok();
+        self.consume(count);
+        Run { count, kept }
+    }
+
+    fn buffered(&self) -> &[u8]
+        ensures { result.now ≡ self.now }
+    {
+        &self.buffer[self.at..self.filled]
+    }
+
+    fn consume(&mut self, count: usize)
+        requires { count ≤ length self.old }
+        ensures { self.new ≡ drop count self.old }
+    {
+        self.at += count;
+    }
+
     fn take_byte(&mut self) -> u8
         requires { self.old ≢ [] }
         ensures { self.old ≡ result ∷ self.new }
@@ -146,6 +186,16 @@ impl Feed {
         self.at += 1;
         byte
     }
+}
+
+// How many bytes come before a newline, at most so many.
+fn line_length(bytes: &[u8], most: usize) -> usize
+    ensures within { result ≤ length bytes.now }
+    ensures short { result ≤ most }
+    ensures one { has_newline (take result bytes.now) ≡ false }
+{
+    let most = most.min(bytes.len());
+    memchr(b'\n', &bytes[..most]).unwrap_or(most)
 }
 
 fn drop_carriage_return(line: &mut Vec<u8>)

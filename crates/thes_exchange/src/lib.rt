@@ -6,6 +6,7 @@ pub mod core_desk;
 pub mod desk;
 mod feed;
 pub mod laws;
+pub mod line;
 mod lines;
 mod members;
 pub mod request;

@@ -45,10 +45,13 @@ impl Lines {
             (left R.remaining self.old.feed reader.old) (left R.remaining self.new.feed reader.new) (ended_of reader.new)) }
         ensures end { IfOk result (λ found. found ≡ Found.End → FindsEnd
             (left R.remaining self.old.feed reader.old) (left R.remaining self.new.feed reader.new) (ended_of reader.new)) }
-        ensures count { IfOk result (λ found. found ≢ Found.End → (self.new.count ≡ self.old.count + 1) × (self.new.count ≤ lines_limit)) }
-        ensures broken { IsErrOf result Stop.Failed → TakesPart (left R.remaining self.old.feed reader.old) (unread R.remaining reader.new) }
+        ensures count { IfOk result (λ found. found ≢ Found.End →
+            (self.new.count ≡ self.old.count + 1) × (self.new.count ≤ lines_limit)) }
+        ensures broken { IsErrOf result Stop.Failed →
+            TakesPart (left R.remaining self.old.feed reader.old) (unread R.remaining reader.new) }
         ensures failed { IsErrOf result Stop.Failed ↔ (failed_of reader.new ≡ true) }
-        ensures too_long { IsErrOf result Stop.TooLong → (denied_of reader.new ≡ true) ⊎ (IsTooLong (left R.remaining self.old.feed reader.old)
+        ensures too_long { IsErrOf result Stop.TooLong → (denied_of reader.new ≡ true)
+            ⊎ (IsTooLong (left R.remaining self.old.feed reader.old)
             ⊎ ((self.old.count ≡ lines_limit) × (raw : List ℕ) × TakesLine
             (left R.remaining self.old.feed reader.old) (left R.remaining self.new.feed reader.new) raw (ended_of reader.new))) }
         ensures denied { denied_of reader.new ≡ true → IsErrOf result Stop.TooLong }

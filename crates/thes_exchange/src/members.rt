@@ -26,7 +26,8 @@ fn member_count(value: &Value) -> Option<usize>
 /// An object with this many members.
 pub fn has_members(count: usize, value: &Value) -> Result<(), ReadStop>
     ensures ok { OnOk result (has_count count (as_object (view value.now)) ≡ true) }
-    ensures err { IfErr result (λ e. (e ≡ BAD_SHAPE) × (has_count count (as_object (view value.now)) ≡ false)) }
+    ensures err { IfErr result (λ e. (e ≡ BAD_SHAPE)
+        × (has_count count (as_object (view value.now)) ≡ false)) }
 {
     match member_count(value) {
         Some(held) if held == count => Ok(()),
@@ -37,7 +38,8 @@ pub fn has_members(count: usize, value: &Value) -> Result<(), ReadStop>
 /// The member with this name, a number.
 pub fn number_in<'a>(name: &str, value: &'a Value) -> Result<&'a Number, ReadStop>
     ensures ok { IfOk result (λ n. number_in name.now (view value.now) ≡ Some (number_view n.now)) }
-    ensures err { IfErr result (λ e. (e ≡ BAD_SHAPE) × (number_in name.now (view value.now) ≡ None)) }
+    ensures err { IfErr result (λ e. (e ≡ BAD_SHAPE)
+        × (number_in name.now (view value.now) ≡ None)) }
 {
     value.get(name).and_then(Value::as_number).ok_or(BAD_SHAPE)
 }
@@ -53,23 +55,28 @@ pub fn text_in<'a>(name: &str, value: &'a Value) -> Result<&'a str, ReadStop>
 /// The member with this name, true or false.
 pub fn truth_in(name: &str, value: &Value) -> Result<bool, ReadStop>
     ensures ok { IfOk result (λ b. truth_in name.now (view value.now) ≡ Some b) }
-    ensures err { IfErr result (λ e. (e ≡ BAD_SHAPE) × (truth_in name.now (view value.now) ≡ None)) }
+    ensures err { IfErr result (λ e. (e ≡ BAD_SHAPE)
+        × (truth_in name.now (view value.now) ≡ None)) }
 {
     value.get(name).and_then(Value::as_bool).ok_or(BAD_SHAPE)
 }
 
 /// The member with this name, the word of a kind of label.
 pub fn label_kind_in(name: &str, value: &Value) -> Result<LabelKind, ReadStop>
-    ensures ok { IfOk result (λ k. option_and_then label_kind_named (text_in name.now (view value.now)) ≡ Some k) }
-    ensures err { IfErr result (λ e. (e ≡ BAD_SHAPE) × (option_and_then label_kind_named (text_in name.now (view value.now)) ≡ None)) }
+    ensures ok { IfOk result (λ k. option_and_then label_kind_named
+        (text_in name.now (view value.now)) ≡ Some k) }
+    ensures err { IfErr result (λ e. (e ≡ BAD_SHAPE)
+        × (option_and_then label_kind_named (text_in name.now (view value.now)) ≡ None)) }
 {
     label_kind_named(text_in(name, value)?).ok_or(BAD_SHAPE)
 }
 
 /// The member with this name, the word of a kind of link.
 pub fn link_kind_in(name: &str, value: &Value) -> Result<LinkKind, ReadStop>
-    ensures ok { IfOk result (λ k. option_and_then link_kind_named (text_in name.now (view value.now)) ≡ Some k) }
-    ensures err { IfErr result (λ e. (e ≡ BAD_SHAPE) × (option_and_then link_kind_named (text_in name.now (view value.now)) ≡ None)) }
+    ensures ok { IfOk result (λ k. option_and_then link_kind_named
+        (text_in name.now (view value.now)) ≡ Some k) }
+    ensures err { IfErr result (λ e. (e ≡ BAD_SHAPE)
+        × (option_and_then link_kind_named (text_in name.now (view value.now)) ≡ None)) }
 {
     link_kind_named(text_in(name, value)?).ok_or(BAD_SHAPE)
 }
@@ -80,8 +87,10 @@ pub fn numbers_in<'a>(
     name: &str,
     value: &'a Value,
 ) -> Result<Vec<&'a Number>, ReadStop>
-    ensures ok { IfOk result (λ v. numbers_in name.now (view value.now) ≡ Some (map (λ n. number_view n.now) v.items)) }
-    ensures err { IfErr result (λ e. (e ≡ ReadStop.OutOfMemory) ⊎ ((e ≡ BAD_SHAPE) × (numbers_in name.now (view value.now) ≡ None))) }
+    ensures ok { IfOk result (λ v. numbers_in name.now (view value.now) ≡ Some
+        (map (λ n. number_view n.now) v.items)) }
+    ensures err { IfErr result (λ e. (e ≡ ReadStop.OutOfMemory)
+        ⊎ ((e ≡ BAD_SHAPE) × (numbers_in name.now (view value.now) ≡ None))) }
 {
     let array = value.get(name).and_then(Value::as_array).ok_or(BAD_SHAPE)?;
     all_numbers(alloc, array)
@@ -89,8 +98,10 @@ pub fn numbers_in<'a>(
 
 // The values, if each is a number.
 fn all_numbers<'a>(alloc: Global, values: &'a [Value]) -> Result<Vec<&'a Number>, ReadStop>
-    ensures ok { IfOk result (λ v. all_numbers (items_view values.now) ≡ Some (map (λ n. number_view n.now) v.items)) }
-    ensures err { IfErr result (λ e. (e ≡ ReadStop.OutOfMemory) ⊎ ((e ≡ BAD_SHAPE) × (all_numbers (items_view values.now) ≡ None))) }
+    ensures ok { IfOk result (λ v. all_numbers (items_view values.now) ≡ Some
+        (map (λ n. number_view n.now) v.items)) }
+    ensures err { IfErr result (λ e. (e ≡ ReadStop.OutOfMemory)
+        ⊎ ((e ≡ BAD_SHAPE) × (all_numbers (items_view values.now) ≡ None))) }
 {
     let mut numbers = Vec::new(alloc);
     for value in values {
@@ -103,7 +114,8 @@ fn all_numbers<'a>(alloc: Global, values: &'a [Value]) -> Result<Vec<&'a Number>
 /// A value that is the word of something to do.
 pub fn verb_at(word: &Value) -> Result<Verb, ReadStop>
     ensures ok { IfOk result (λ v. option_and_then verb_named (as_str (view word.now)) ≡ Some v) }
-    ensures err { IfErr result (λ e. (e ≡ BAD_SHAPE) × (option_and_then verb_named (as_str (view word.now)) ≡ None)) }
+    ensures err { IfErr result (λ e. (e ≡ BAD_SHAPE)
+        × (option_and_then verb_named (as_str (view word.now)) ≡ None)) }
 {
     word.as_str().and_then(verb_named).ok_or(BAD_SHAPE)
 }
@@ -111,7 +123,8 @@ pub fn verb_at(word: &Value) -> Result<Verb, ReadStop>
 /// A value that is the word of something to see.
 pub fn noun_at(word: &Value) -> Result<Noun, ReadStop>
     ensures ok { IfOk result (λ n. option_and_then noun_named (as_str (view word.now)) ≡ Some n) }
-    ensures err { IfErr result (λ e. (e ≡ BAD_SHAPE) × (option_and_then noun_named (as_str (view word.now)) ≡ None)) }
+    ensures err { IfErr result (λ e. (e ≡ BAD_SHAPE)
+        × (option_and_then noun_named (as_str (view word.now)) ≡ None)) }
 {
     word.as_str().and_then(noun_named).ok_or(BAD_SHAPE)
 }

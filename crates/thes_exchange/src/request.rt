@@ -6,7 +6,8 @@ ghost use Rattle.thes_base.specs.Reads.{Reads};
 ghost use Rattle.thes_base.specs.declared.fault.FormFault.TheVariants.{BadNumber, BadText, NotJson};
 ghost use Rattle.thes_base.specs.Data.{kind_of, text_of};
 ghost use Rattle.thes_exchange.specs.Readings.{Gives};
-ghost use Rattle.thes_exchange.specs.Requests.{whole, AreNumbers, IsLabelText, scheme_of, concept_of, collection_of, outside_of, label_of, add_label_of, drop_label_of, relabel_of, link_of, add_link_of, unlink_of, deprecate_of, merge_of, split_of, post_of, withdraw_of, command_of, totals_of, shown_concept_of, shown_postings_of, shown_posting_of, query_of, do_of, get_of, request_in, json_in, request_of};
+ghost use Rattle.thes_exchange.specs.Requests.{whole, AreNumbers, IsLabelText, label_line, link_line, made_of, command_of, query_of, request_in, json_in, request_of};
+ghost use Rattle.thes_exchange.specs.declared.request.Request.TheVariants.{Do, Get};
 
 use crate::members::{
     BAD_SHAPE, has_members, label_kind_in, link_kind_in, noun_at, number_in, numbers_in, text_in,
@@ -20,9 +21,6 @@ use thes_base::fault::{FormFault, ReadStop};
 use thes_base::number::{PostNo, ResNo};
 use thes_base::request::{Command, PostNos};
 use thes_base::text::{Iri, Key, Note, RecordName, Tag, Text};
-
-#[cfg(test)]
-mod tests;
 
 const BAD_NUMBER: ReadStop = ReadStop::Form(FormFault::BadNumber);
 
@@ -44,7 +42,8 @@ pub enum Request {
 
 // The number, if it is one that a resource may have.
 fn res_no(number: &Number) -> Result<ResNo, ReadStop>
-    ensures { let n = whole (number_view number.now) in Reads (IsNumber n) BadNumber (λ m. m ≡ n) result }
+    ensures { let n = whole (number_view number.now) in Reads (IsNumber n) BadNumber
+        (λ m. m ≡ n) result }
 {
     number
         .as_u64()
@@ -55,7 +54,8 @@ fn res_no(number: &Number) -> Result<ResNo, ReadStop>
 
 // The number, if it is one that a posting may have.
 fn post_no(number: &Number) -> Result<PostNo, ReadStop>
-    ensures { let n = whole (number_view number.now) in Reads (IsNumber n) BadNumber (λ m. m ≡ n) result }
+    ensures { let n = whole (number_view number.now) in Reads (IsNumber n) BadNumber
+        (λ m. m ≡ n) result }
 {
     number
         .as_u64()
@@ -66,7 +66,8 @@ fn post_no(number: &Number) -> Result<PostNo, ReadStop>
 
 // The numbers, if each is one that a posting may have.
 fn post_nos(alloc: Global, numbers: &[&Number]) -> Result<PostNos, ReadStop>
-    ensures { let ns = map whole (map (λ n. number_view n.now) numbers.now) in Reads (AreNumbers ns) BadNumber (λ ms. ms ≡ ns) result }
+    ensures { let ns = map whole (map (λ n. number_view n.now) numbers.now) in Reads
+        (AreNumbers ns) BadNumber (λ ms. ms ≡ ns) result }
 {
     let mut list = PostNos::new(alloc);
     for number in numbers {
@@ -76,9 +77,9 @@ fn post_nos(alloc: Global, numbers: &[&Number]) -> Result<PostNos, ReadStop>
 }
 
 // A new scheme.
-#[tactic(auto, unfolding(crate::specs::Requests::scheme_of))]
-fn scheme_of(alloc: Global, value: &Value) -> Result<Command, ReadStop>
-    ensures { Gives (scheme_of (view value.now)) result }
+#[tactic(auto, unfolding(crate::specs::Requests::line2))]
+fn scheme_in(alloc: Global, value: &Value) -> Result<Command, ReadStop>
+    ensures { Gives (command_of Verb.Scheme (view value.now)) result }
 {
     has_members(3, value)?;
     let tag = text_in("tag", value)?;
@@ -87,9 +88,9 @@ fn scheme_of(alloc: Global, value: &Value) -> Result<Command, ReadStop>
 }
 
 // A new concept.
-#[tactic(auto, unfolding(crate::specs::Requests::concept_of))]
-fn concept_of(alloc: Global, value: &Value) -> Result<Command, ReadStop>
-    ensures { Gives (concept_of (view value.now)) result }
+#[tactic(auto, unfolding(crate::specs::Requests::line3))]
+fn concept_in(alloc: Global, value: &Value) -> Result<Command, ReadStop>
+    ensures { Gives (command_of Verb.Concept (view value.now)) result }
 {
     has_members(4, value)?;
     let scheme = number_in("scheme", value)?;
@@ -103,9 +104,9 @@ fn concept_of(alloc: Global, value: &Value) -> Result<Command, ReadStop>
 }
 
 // A new collection.
-#[tactic(auto, unfolding(crate::specs::Requests::collection_of))]
-fn collection_of(alloc: Global, value: &Value) -> Result<Command, ReadStop>
-    ensures { Gives (collection_of (view value.now)) result }
+#[tactic(auto, unfolding(crate::specs::Requests::line3))]
+fn collection_in(alloc: Global, value: &Value) -> Result<Command, ReadStop>
+    ensures { Gives (command_of Verb.Collection (view value.now)) result }
 {
     has_members(4, value)?;
     let scheme = number_in("scheme", value)?;
@@ -119,9 +120,9 @@ fn collection_of(alloc: Global, value: &Value) -> Result<Command, ReadStop>
 }
 
 // A new outside concept.
-#[tactic(auto, unfolding(crate::specs::Requests::outside_of))]
-fn outside_of(alloc: Global, value: &Value) -> Result<Command, ReadStop>
-    ensures { Gives (outside_of (view value.now)) result }
+#[tactic(auto, unfolding(crate::specs::Requests::line1))]
+fn outside_in(alloc: Global, value: &Value) -> Result<Command, ReadStop>
+    ensures { Gives (command_of Verb.Outside (view value.now)) result }
 {
     has_members(2, value)?;
     let iri = text_in("iri", value)?;
@@ -129,8 +130,9 @@ fn outside_of(alloc: Global, value: &Value) -> Result<Command, ReadStop>
 }
 
 // A label's value, of this kind.
-fn label_value(alloc: Global, kind: LabelKind, text: &str) -> Result<LabelValue, ReadStop>
-    ensures { Reads (IsLabelText kind text.now) BadText (λ v. (kind_of v ≡ kind) × (text_of v ≡ text.now)) result }
+fn value_of_kind(alloc: Global, kind: LabelKind, text: &str) -> Result<LabelValue, ReadStop>
+    ensures { Reads (IsLabelText kind text.now) BadText (λ v. (kind_of v ≡ kind)
+        × (text_of v ≡ text.now)) result }
 {
     Ok(match kind {
         LabelKind::Pref => LabelValue::Pref(Text::read(alloc, text)?),
@@ -141,9 +143,9 @@ fn label_value(alloc: Global, kind: LabelKind, text: &str) -> Result<LabelValue,
 }
 
 // A label with its owner.
-#[tactic(auto, unfolding(crate::specs::Requests::label_of))]
-fn label_of(alloc: Global, value: &Value) -> Result<(ResNo, Label), ReadStop>
-    ensures { Gives (label_of (view value.now)) result }
+#[tactic(auto, unfolding(crate::specs::Requests::label_line))]
+fn label_in(alloc: Global, value: &Value) -> Result<(ResNo, Label), ReadStop>
+    ensures { Gives (label_line (view value.now)) result }
 {
     has_members(5, value)?;
     let owner = number_in("owner", value)?;
@@ -152,32 +154,32 @@ fn label_of(alloc: Global, value: &Value) -> Result<(ResNo, Label), ReadStop>
     let text = text_in("text", value)?;
     let owner = res_no(owner)?;
     let tag = Tag::read(alloc, tag)?;
-    let value = label_value(alloc, kind, text)?;
+    let value = value_of_kind(alloc, kind, text)?;
     Ok((owner, Label { tag, value }))
 }
 
 // A label to be added.
-#[tactic(auto, using(crate::proofs::ReadingLemmas::stopped), unfolding(crate::specs::Requests::add_label_of))]
-fn add_label_of(alloc: Global, value: &Value) -> Result<Command, ReadStop>
-    ensures { Gives (add_label_of (view value.now)) result }
+#[tactic(auto, using(crate::proofs::ReadingLemmas::stopped), unfolding(crate::specs::Requests::made_of))]
+fn add_label_in(alloc: Global, value: &Value) -> Result<Command, ReadStop>
+    ensures { Gives (command_of Verb.AddLabel (view value.now)) result }
 {
-    let (owner, label) = label_of(alloc, value)?;
+    let (owner, label) = label_in(alloc, value)?;
     Ok(Command::AddLabel(owner, label))
 }
 
 // A label to be dropped.
-#[tactic(auto, using(crate::proofs::ReadingLemmas::stopped), unfolding(crate::specs::Requests::drop_label_of))]
-fn drop_label_of(alloc: Global, value: &Value) -> Result<Command, ReadStop>
-    ensures { Gives (drop_label_of (view value.now)) result }
+#[tactic(auto, using(crate::proofs::ReadingLemmas::stopped), unfolding(crate::specs::Requests::made_of))]
+fn drop_label_in(alloc: Global, value: &Value) -> Result<Command, ReadStop>
+    ensures { Gives (command_of Verb.DropLabel (view value.now)) result }
 {
-    let (owner, label) = label_of(alloc, value)?;
+    let (owner, label) = label_in(alloc, value)?;
     Ok(Command::DropLabel(owner, label))
 }
 
 // A new preferred label.
-#[tactic(auto, unfolding(crate::specs::Requests::relabel_of))]
-fn relabel_of(alloc: Global, value: &Value) -> Result<Command, ReadStop>
-    ensures { Gives (relabel_of (view value.now)) result }
+#[tactic(auto, unfolding(crate::specs::Requests::line4))]
+fn relabel_in(alloc: Global, value: &Value) -> Result<Command, ReadStop>
+    ensures { Gives (command_of Verb.Relabel (view value.now)) result }
 {
     has_members(5, value)?;
     let owner = number_in("owner", value)?;
@@ -193,9 +195,9 @@ fn relabel_of(alloc: Global, value: &Value) -> Result<Command, ReadStop>
 }
 
 // A link.
-#[tactic(auto, unfolding(crate::specs::Requests::link_of))]
-fn link_of(value: &Value) -> Result<Link, ReadStop>
-    ensures { Gives (link_of (view value.now)) result }
+#[tactic(auto, unfolding(crate::specs::Requests::line3))]
+fn link_in(value: &Value) -> Result<Link, ReadStop>
+    ensures { Gives (link_line (view value.now)) result }
 {
     has_members(4, value)?;
     let kind = link_kind_in("kind", value)?;
@@ -209,27 +211,27 @@ fn link_of(value: &Value) -> Result<Link, ReadStop>
 }
 
 // A link to be made.
-#[tactic(auto, using(crate::proofs::ReadingLemmas::stopped), unfolding(crate::specs::Requests::add_link_of))]
-fn add_link_of(value: &Value) -> Result<Command, ReadStop>
-    ensures { Gives (add_link_of (view value.now)) result }
+#[tactic(auto, using(crate::proofs::ReadingLemmas::stopped), unfolding(crate::specs::Requests::made_of))]
+fn add_link_in(value: &Value) -> Result<Command, ReadStop>
+    ensures { Gives (command_of Verb.Link (view value.now)) result }
 {
-    let link = link_of(value)?;
+    let link = link_in(value)?;
     Ok(Command::Link(link.kind, link.a, link.b))
 }
 
 // A link to be undone.
-#[tactic(auto, using(crate::proofs::ReadingLemmas::stopped), unfolding(crate::specs::Requests::unlink_of))]
-fn unlink_of(value: &Value) -> Result<Command, ReadStop>
-    ensures { Gives (unlink_of (view value.now)) result }
+#[tactic(auto, using(crate::proofs::ReadingLemmas::stopped), unfolding(crate::specs::Requests::made_of))]
+fn unlink_in(value: &Value) -> Result<Command, ReadStop>
+    ensures { Gives (command_of Verb.Unlink (view value.now)) result }
 {
-    let link = link_of(value)?;
+    let link = link_in(value)?;
     Ok(Command::Unlink(link.kind, link.a, link.b))
 }
 
 // A concept to be deprecated.
-#[tactic(auto, unfolding(crate::specs::Requests::deprecate_of))]
-fn deprecate_of(value: &Value) -> Result<Command, ReadStop>
-    ensures { Gives (deprecate_of (view value.now)) result }
+#[tactic(auto, unfolding(crate::specs::Requests::line1))]
+fn deprecate_in(value: &Value) -> Result<Command, ReadStop>
+    ensures { Gives (command_of Verb.Deprecate (view value.now)) result }
 {
     has_members(2, value)?;
     let concept = number_in("concept", value)?;
@@ -237,9 +239,9 @@ fn deprecate_of(value: &Value) -> Result<Command, ReadStop>
 }
 
 // Two concepts to be merged.
-#[tactic(auto, unfolding(crate::specs::Requests::merge_of))]
-fn merge_of(value: &Value) -> Result<Command, ReadStop>
-    ensures { Gives (merge_of (view value.now)) result }
+#[tactic(auto, unfolding(crate::specs::Requests::line2))]
+fn merge_in(value: &Value) -> Result<Command, ReadStop>
+    ensures { Gives (command_of Verb.Merge (view value.now)) result }
 {
     has_members(3, value)?;
     let source = number_in("source", value)?;
@@ -248,9 +250,9 @@ fn merge_of(value: &Value) -> Result<Command, ReadStop>
 }
 
 // A concept to be split.
-#[tactic(auto, unfolding(crate::specs::Requests::split_of))]
-fn split_of(alloc: Global, value: &Value) -> Result<Command, ReadStop>
-    ensures { Gives (split_of (view value.now)) result }
+#[tactic(auto, unfolding(crate::specs::Requests::line4))]
+fn split_in(alloc: Global, value: &Value) -> Result<Command, ReadStop>
+    ensures { Gives (command_of Verb.Split (view value.now)) result }
 {
     has_members(5, value)?;
     let source = number_in("source", value)?;
@@ -264,9 +266,9 @@ fn split_of(alloc: Global, value: &Value) -> Result<Command, ReadStop>
 }
 
 // A new posting.
-#[tactic(auto, unfolding(crate::specs::Requests::post_of))]
-fn post_of(alloc: Global, value: &Value) -> Result<Command, ReadStop>
-    ensures { Gives (post_of (view value.now)) result }
+#[tactic(auto, unfolding(crate::specs::Requests::line3))]
+fn post_in(alloc: Global, value: &Value) -> Result<Command, ReadStop>
+    ensures { Gives (command_of Verb.Post (view value.now)) result }
 {
     has_members(4, value)?;
     let key = text_in("key", value)?;
@@ -280,9 +282,9 @@ fn post_of(alloc: Global, value: &Value) -> Result<Command, ReadStop>
 }
 
 // A posting to be withdrawn.
-#[tactic(auto, unfolding(crate::specs::Requests::withdraw_of))]
-fn withdraw_of(value: &Value) -> Result<Command, ReadStop>
-    ensures { Gives (withdraw_of (view value.now)) result }
+#[tactic(auto, unfolding(crate::specs::Requests::line1))]
+fn withdraw_in(value: &Value) -> Result<Command, ReadStop>
+    ensures { Gives (command_of Verb.Withdraw (view value.now)) result }
 {
     has_members(2, value)?;
     let posting = number_in("posting", value)?;
@@ -290,40 +292,40 @@ fn withdraw_of(value: &Value) -> Result<Command, ReadStop>
 }
 
 // What a word at `do` asks for.
-fn command_of(alloc: Global, verb: Verb, value: &Value) -> Result<Command, ReadStop>
+fn command_in(alloc: Global, verb: Verb, value: &Value) -> Result<Command, ReadStop>
     ensures { Gives (command_of verb (view value.now)) result }
 {
     match verb {
-        Verb::Scheme => scheme_of(alloc, value),
-        Verb::Concept => concept_of(alloc, value),
-        Verb::Collection => collection_of(alloc, value),
-        Verb::AddLabel => add_label_of(alloc, value),
-        Verb::DropLabel => drop_label_of(alloc, value),
-        Verb::Relabel => relabel_of(alloc, value),
-        Verb::Link => add_link_of(value),
-        Verb::Unlink => unlink_of(value),
-        Verb::Deprecate => deprecate_of(value),
-        Verb::Merge => merge_of(value),
-        Verb::Post => post_of(alloc, value),
-        Verb::Withdraw => withdraw_of(value),
-        Verb::Outside => outside_of(alloc, value),
-        Verb::Split => split_of(alloc, value),
+        Verb::Scheme => scheme_in(alloc, value),
+        Verb::Concept => concept_in(alloc, value),
+        Verb::Collection => collection_in(alloc, value),
+        Verb::AddLabel => add_label_in(alloc, value),
+        Verb::DropLabel => drop_label_in(alloc, value),
+        Verb::Relabel => relabel_in(alloc, value),
+        Verb::Link => add_link_in(value),
+        Verb::Unlink => unlink_in(value),
+        Verb::Deprecate => deprecate_in(value),
+        Verb::Merge => merge_in(value),
+        Verb::Post => post_in(alloc, value),
+        Verb::Withdraw => withdraw_in(value),
+        Verb::Outside => outside_in(alloc, value),
+        Verb::Split => split_in(alloc, value),
     }
 }
 
 // The totals.
-#[tactic(auto, unfolding(crate::specs::Requests::totals_of))]
-fn totals_of(value: &Value) -> Result<Query, ReadStop>
-    ensures { Gives (totals_of (view value.now)) result }
+#[tactic(auto, unfolding(crate::specs::Requests::line0))]
+fn totals_in(value: &Value) -> Result<Query, ReadStop>
+    ensures { Gives (query_of Noun.Totals (view value.now)) result }
 {
     has_members(1, value)?;
     Ok(Query::Totals)
 }
 
 // A concept to be shown.
-#[tactic(auto, unfolding(crate::specs::Requests::shown_concept_of))]
-fn shown_concept_of(value: &Value) -> Result<Query, ReadStop>
-    ensures { Gives (shown_concept_of (view value.now)) result }
+#[tactic(auto, unfolding(crate::specs::Requests::line1))]
+fn shown_concept_in(value: &Value) -> Result<Query, ReadStop>
+    ensures { Gives (query_of Noun.Concept (view value.now)) result }
 {
     has_members(2, value)?;
     let number = number_in("number", value)?;
@@ -331,9 +333,9 @@ fn shown_concept_of(value: &Value) -> Result<Query, ReadStop>
 }
 
 // A concept whose postings are to be shown.
-#[tactic(auto, unfolding(crate::specs::Requests::shown_postings_of))]
-fn shown_postings_of(value: &Value) -> Result<Query, ReadStop>
-    ensures { Gives (shown_postings_of (view value.now)) result }
+#[tactic(auto, unfolding(crate::specs::Requests::line1))]
+fn shown_postings_in(value: &Value) -> Result<Query, ReadStop>
+    ensures { Gives (query_of Noun.Postings (view value.now)) result }
 {
     has_members(2, value)?;
     let concept = number_in("concept", value)?;
@@ -341,9 +343,9 @@ fn shown_postings_of(value: &Value) -> Result<Query, ReadStop>
 }
 
 // A posting to be shown.
-#[tactic(auto, unfolding(crate::specs::Requests::shown_posting_of))]
-fn shown_posting_of(value: &Value) -> Result<Query, ReadStop>
-    ensures { Gives (shown_posting_of (view value.now)) result }
+#[tactic(auto, unfolding(crate::specs::Requests::line1))]
+fn shown_posting_in(value: &Value) -> Result<Query, ReadStop>
+    ensures { Gives (query_of Noun.Posting (view value.now)) result }
 {
     has_members(2, value)?;
     let number = number_in("number", value)?;
@@ -351,31 +353,31 @@ fn shown_posting_of(value: &Value) -> Result<Query, ReadStop>
 }
 
 // What a word at `get` asks for.
-fn query_of(noun: Noun, value: &Value) -> Result<Query, ReadStop>
+fn query_in(noun: Noun, value: &Value) -> Result<Query, ReadStop>
     ensures { Gives (query_of noun (view value.now)) result }
 {
     match noun {
-        Noun::Totals => totals_of(value),
-        Noun::Concept => shown_concept_of(value),
-        Noun::Postings => shown_postings_of(value),
-        Noun::Posting => shown_posting_of(value),
+        Noun::Totals => totals_in(value),
+        Noun::Concept => shown_concept_in(value),
+        Noun::Postings => shown_postings_in(value),
+        Noun::Posting => shown_posting_in(value),
     }
 }
 
 // A request with this word at `do`.
-#[tactic(auto, using(crate::proofs::ReadingLemmas::stopped), unfolding(crate::specs::Requests::do_of))]
-fn do_of(alloc: Global, verb: Verb, value: &Value) -> Result<Request, ReadStop>
-    ensures { Gives (do_of verb (view value.now)) result }
+#[tactic(auto, using(crate::proofs::ReadingLemmas::stopped), unfolding(crate::specs::Requests::made_of))]
+fn do_in(alloc: Global, verb: Verb, value: &Value) -> Result<Request, ReadStop>
+    ensures { Gives (made_of Do (command_of verb (view value.now))) result }
 {
-    Ok(Request::Do(command_of(alloc, verb, value)?))
+    Ok(Request::Do(command_in(alloc, verb, value)?))
 }
 
 // A request with this word at `get`.
-#[tactic(auto, using(crate::proofs::ReadingLemmas::stopped), unfolding(crate::specs::Requests::get_of))]
-fn get_of(noun: Noun, value: &Value) -> Result<Request, ReadStop>
-    ensures { Gives (get_of noun (view value.now)) result }
+#[tactic(auto, using(crate::proofs::ReadingLemmas::stopped), unfolding(crate::specs::Requests::made_of))]
+fn get_in(noun: Noun, value: &Value) -> Result<Request, ReadStop>
+    ensures { Gives (made_of Get (query_of noun (view value.now))) result }
 {
-    Ok(Request::Get(query_of(noun, value)?))
+    Ok(Request::Get(query_in(noun, value)?))
 }
 
 // The request that a value is.
@@ -384,10 +386,10 @@ fn request_in(alloc: Global, value: &Value) -> Result<Request, ReadStop>
     ensures { Gives (request_in (view value.now)) result }
 {
     if let Some(word) = value.get("do") {
-        return do_of(alloc, verb_at(word)?, value);
+        return do_in(alloc, verb_at(word)?, value);
     }
     match value.get("get") {
-        Some(word) => get_of(noun_at(word)?, value),
+        Some(word) => get_in(noun_at(word)?, value),
         None => Err(BAD_SHAPE),
     }
 }
@@ -395,7 +397,8 @@ fn request_in(alloc: Global, value: &Value) -> Result<Request, ReadStop>
 // What the bytes are as JSON.
 fn json_in(alloc: Global, bytes: &[u8]) -> Result<Value, ReadStop>
     ensures ok { IfOk result (λ v. json_in bytes.now ≡ Some (view v)) }
-    ensures err { IfErr result (λ e. (e ≡ ReadStop.OutOfMemory) ⊎ ((e ≡ ReadStop.Form NotJson) × (json_in bytes.now ≡ None))) }
+    ensures err { IfErr result (λ e. (e ≡ ReadStop.OutOfMemory)
+        ⊎ ((e ≡ ReadStop.Form NotJson) × (json_in bytes.now ≡ None))) }
 {
     match Value::from_slice(alloc, bytes) {
         Ok(value) => Ok(value),

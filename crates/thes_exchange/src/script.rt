@@ -16,9 +16,6 @@ use thes_base::fault::{Fault, PipeFault};
 use thes_base::pipe::{Budget, Pipe};
 use thes_base::request::Answer;
 
-#[cfg(test)]
-mod tests;
-
 /// How a script ended.
 #[derive(Clone, Copy, Debug, PartialEq, Eq)]
 pub struct Ended {
@@ -71,8 +68,10 @@ fn is_skipped(line: &[u8], found: Found) -> bool
 // What a line that is not blank is answered with. One that there was no memory for is not performed.
 fn outcome_for<D: Desk>(alloc: Global, desk: &mut D, line: &[u8], found: Found) -> Outcome
     requires { D.is_open desk.old ≡ true }
-    ensures held { found ≡ Found.Line → Serves D.performs D.shows desk.old line.now result desk.new }
-    ensures unheld { found ≢ Found.Line → (result ≡ Outcome.Told (Reply.Fault Fault.OutOfMemory)) × (desk.new ≡ desk.old) }
+    ensures held { found ≡ Found.Line →
+        Serves D.performs D.shows desk.old line.now result desk.new }
+    ensures unheld { found ≢ Found.Line → (result ≡ Outcome.Told (Reply.Fault Fault.OutOfMemory))
+        × (desk.new ≡ desk.old) }
 {
     match found {
         Found::Line => serve(alloc, desk, line),
@@ -92,9 +91,11 @@ fn serve_line<W: Write, D: Desk>(
 ) -> Result<(), PipeFault>
     requires writer { IsFresh writer.old }
     requires open { D.is_open desk.old ≡ true }
-    ensures ok { OnOk result ((text : List ℕ) → (found ≡ Found.Line → text ≡ line.now) → ServesLine W.contents
+    ensures ok { OnOk result ((text : List ℕ) → (found ≡ Found.Line → text ≡ line.now) →
+        ServesLine W.contents
         (Serves D.performs D.shows) D.is_open text desk.old desk.new writer.old writer.new ended.old ended.new) }
-    ensures stopped { IfErr result (λ fault. (text : List ℕ) → (found ≡ Found.Line → text ≡ line.now) → StopsAtLine
+    ensures stopped { IfErr result (λ fault. (text : List ℕ) →
+        (found ≡ Found.Line → text ≡ line.now) → StopsAtLine
         W.contents (Serves D.performs D.shows) D.is_open text desk.old desk.new writer.old writer.new fault) }
     ensures paid { PaysCalls writer.old writer.new budget.old budget.new }
 {
@@ -126,9 +127,11 @@ pub fn script<R: Read, W: Write, D: Desk>(
     requires reader { IsFresh reader.old }
     requires writer { IsFresh writer.old }
     requires open { D.is_open desk.old ≡ true }
-    ensures completed { IfOk result (Completes R.remaining W.contents (Serves D.performs D.shows) D.is_open
+    ensures completed { IfOk result
+        (Completes R.remaining W.contents (Serves D.performs D.shows) D.is_open
         (scene reader.old writer.old desk.old) (scene reader.new writer.new desk.new)) }
-    ensures stopped { IfErr result (Stops R.remaining W.contents (Serves D.performs D.shows) D.is_open
+    ensures stopped { IfErr result
+        (Stops R.remaining W.contents (Serves D.performs D.shows) D.is_open
         (scene reader.old writer.old desk.old) (scene reader.new writer.new desk.new)) }
     ensures calls { KeepsToLimit reader.old reader.new writer.old writer.new }
 {

@@ -29,17 +29,18 @@ pub fn serve<D: Desk>(alloc: Global, desk: &mut D, line: &[u8]) -> Outcome
     ensures { Serves D.performs D.shows desk.old line.now result desk.new }
 {
     match read_request(alloc, line) {
-        Ok(Request::Do(command)) => perform(desk, &command),
-        Ok(Request::Get(query)) => show(alloc, desk, &query),
+        Ok(Request::Do(command)) => answer_command(desk, &command),
+        Ok(Request::Get(query)) => answer_query(alloc, desk, &query),
         Err(ReadStop::Form(fault)) => Outcome::Told(Reply::Bad(fault)),
         Err(ReadStop::OutOfMemory) => Outcome::Told(Reply::Fault(Fault::OutOfMemory)),
     }
 }
 
 // What a request is answered with, whatever line asked for it.
-fn perform<D: Desk>(desk: &mut D, command: &Command) -> Outcome
+fn answer_command<D: Desk>(desk: &mut D, command: &Command) -> Outcome
     requires { D.is_open desk.old ≡ true }
-    ensures { (line : List ℕ) → Reaches (request_of line) (Ok (Do command.now)) → Serves D.performs D.shows desk.old line result desk.new }
+    ensures { (line : List ℕ) → Reaches (request_of line) (Ok (Do command.now)) →
+        Serves D.performs D.shows desk.old line result desk.new }
 {
     match desk.perform(command) {
         Ok(answer) => Outcome::Told(Reply::Answer(answer)),
@@ -48,9 +49,10 @@ fn perform<D: Desk>(desk: &mut D, command: &Command) -> Outcome
 }
 
 // What a query is answered with, whatever line asked for it.
-fn show<D: Desk>(alloc: Global, desk: &mut D, query: &Query) -> Outcome
+fn answer_query<D: Desk>(alloc: Global, desk: &mut D, query: &Query) -> Outcome
     requires { D.is_open desk.old ≡ true }
-    ensures { (line : List ℕ) → Reaches (request_of line) (Ok (Get query.now)) → Serves D.performs D.shows desk.old line result desk.new }
+    ensures { (line : List ℕ) → Reaches (request_of line) (Ok (Get query.now)) →
+        Serves D.performs D.shows desk.old line result desk.new }
 {
     match desk.show(alloc, query) {
         Ok(Viewed::Line(line)) => Outcome::Shown(line),
@@ -63,11 +65,14 @@ impl Outcome {
     /// Writes the line, by one call of the pipe. It takes no memory.
     pub fn write<W: Write>(&self, writer: &mut Pipe<W>, budget: &mut Budget) -> Result<(), Stop>
         requires { failed_of writer.old ≡ false }
-        ensures ok { OnOk result (Appends (written W.contents writer.old) (written W.contents writer.new) (outcome_text self.now)) }
-        ensures err { OnErr result (AppendsFront (written W.contents writer.old) (written W.contents writer.new) (outcome_text self.now)) }
+        ensures ok { OnOk result (Appends (written W.contents writer.old)
+            (written W.contents writer.new) (outcome_text self.now)) }
+        ensures err { OnErr result (AppendsFront (written W.contents writer.old)
+            (written W.contents writer.new) (outcome_text self.now)) }
         ensures ended { ended_of writer.new ≡ ended_of writer.old }
         ensures failed { IsErrOf result Stop.Failed ↔ (failed_of writer.new ≡ true) }
-        ensures denied { IsTrue (denied_of writer.new) ↔ (IsTrue (denied_of writer.old) ⊎ IsErrOf result Stop.TooLong) }
+        ensures denied { IsTrue (denied_of writer.new)
+            ↔ (IsTrue (denied_of writer.old) ⊎ IsErrOf result Stop.TooLong) }
         ensures paid { PaysCalls writer.old writer.new budget.old budget.new }
     {
         match self {

@@ -5,19 +5,15 @@ ghost use Rattle.serde_json.specs.Written.{has_float};
 ghost use Rattle.thes_base.specs.Postings.{place};
 ghost use Rattle.thes_core.specs.Shown.{tagged};
 ghost use Rattle.thes_exchange.specs.ConceptMembers.{with_labels, with_links, with_facts};
-ghost use Rattle.thes_exchange.specs.ViewTexts.{num, listed, number_or_null, tagged_data, mapping_data, move_data, row_data, totals_data, concept_data, postings_data, posting_data, line_text, view_text};
+ghost use Rattle.thes_exchange.specs.ViewTexts.{num, listed, number_or_null, tagged_data, mapping_data, typed_data, word_data, move_data, row_data, totals_data, concept_data, postings_data, posting_data, line_text, view_text};
 
 use crate::answer::refusal_line;
-use crate::words::link_word;
 use serde_json::{Map, Value, json, put};
 use std::alloc::{AllocError, Global};
 use std::marker::Model;
-use thes_base::data::{History, Label, LinkKind, Move, Totals};
+use thes_base::data::{History, Label, LinkKind, Move, Totals, TypedKind};
 use thes_base::fault::Refusal;
 use thes_base::number::ResNo;
-
-#[cfg(test)]
-mod tests;
 
 /// A concept with its labels, its links and the count of the postings that stand at it.
 #[derive(Drop)]
@@ -37,6 +33,7 @@ pub struct ConceptView<'a> {
     pub scheme: Option<ResNo>,
     pub scope: Vec<&'a Label>,
     pub top: bool,
+    pub typed: Vec<(TypedKind, ResNo)>,
 }
 
 impl<'a> Model for ConceptView<'a> {
@@ -62,6 +59,7 @@ impl<'a> Model for ConceptView<'a> {
       scheme = c.scheme;
       scope = map (λ l. tagged l.now) c.scope.items;
       top = c.top;
+      typed = c.typed.items;
     } };
 }
 
@@ -140,21 +138,33 @@ fn labels_value(alloc: Global, labels: &[&Label]) -> Result<Value, AllocError>
     Ok(Value::Array(list))
 }
 
-// A mapping as JSON: its word and its other end.
-fn mapping_value(alloc: Global, mapping: (LinkKind, ResNo)) -> Result<Value, AllocError>
-    ensures { IfOk result (λ v. view v ≡ mapping_data mapping) }
+// A word and a number as JSON.
+fn word_value(alloc: Global, word: &str, number: ResNo) -> Result<Value, AllocError>
+    ensures { IfOk result (λ v. view v ≡ word_data word.now number) }
 {
-    let (kind, other) = mapping;
-    json!(in alloc; [link_word(kind), other.get()])
+    json!(in alloc; [word, number.get()])
 }
 
-// Mappings as JSON.
+// Mappings as JSON: of each its word and its other end.
 fn mappings_value(alloc: Global, mappings: &[(LinkKind, ResNo)]) -> Result<Value, AllocError>
     ensures { IfOk result (λ v. view v ≡ listed mapping_data mappings.now) }
 {
     let mut list = Vec::new(alloc);
     for mapping in mappings {
-        list.push(mapping_value(alloc, *mapping)?)?;
+        let (kind, other) = *mapping;
+        list.push(word_value(alloc, kind.word(), other)?)?;
+    }
+    Ok(Value::Array(list))
+}
+
+// Typed links as JSON: of each its word and its other end.
+fn typed_value(alloc: Global, typed: &[(TypedKind, ResNo)]) -> Result<Value, AllocError>
+    ensures { IfOk result (λ v. view v ≡ listed typed_data typed.now) }
+{
+    let mut list = Vec::new(alloc);
+    for link in typed {
+        let (kind, other) = *link;
+        list.push(word_value(alloc, kind.word(), other)?)?;
     }
     Ok(Value::Array(list))
 }
@@ -166,7 +176,8 @@ fn put_labels(
     alloc: Global,
     concept: &ConceptView,
 ) -> Result<(), AllocError>
-    ensures { OnOk result (members_view members.new.entries ≡ with_labels concept.now (members_view members.old.entries)) }
+    ensures { OnOk result (members_view members.new.entries ≡ with_labels concept.now
+        (members_view members.old.entries)) }
 {
     put(members, alloc, "alt", labels_value(alloc, &concept.alt)?)?;
     put(
@@ -191,7 +202,8 @@ fn put_links(
     alloc: Global,
     concept: &ConceptView,
 ) -> Result<(), AllocError>
-    ensures { OnOk result (members_view members.new.entries ≡ with_links concept.now (members_view members.old.entries)) }
+    ensures { OnOk result (members_view members.new.entries ≡ with_links concept.now
+        (members_view members.old.entries)) }
 {
     put(
         members,
@@ -222,7 +234,8 @@ fn put_links(
         alloc,
         "related",
         numbers_value(alloc, &concept.related)?,
-    )
+    )?;
+    put(members, alloc, "typed", typed_value(alloc, &concept.typed)?)
 }
 
 // Adds what else is shown of it.
@@ -232,7 +245,8 @@ fn put_facts(
     alloc: Global,
     concept: &ConceptView,
 ) -> Result<(), AllocError>
-    ensures { OnOk result (members_view members.new.entries ≡ with_facts concept.now (members_view members.old.entries)) }
+    ensures { OnOk result (members_view members.new.entries ≡ with_facts concept.now
+        (members_view members.old.entries)) }
 {
     put(members, alloc, "live", Value::from(concept.live))?;
     put(members, alloc, "number", Value::from(concept.number.get()))?;
@@ -326,7 +340,8 @@ fn posting_value(alloc: Global, history: &History) -> Result<Value, AllocError>
 // The line of a value.
 #[tactic(auto, unfolding(crate::specs::ViewTexts::line_text))]
 fn value_line(alloc: Global, value: &Value) -> Result<Vec<u8>, AllocError>
-    ensures { IfOk result (λ text. has_float (view value.now) ≡ false → text.items ≡ line_text (view value.now)) }
+    ensures { IfOk result (λ text. has_float (view value.now) ≡ false →
+        text.items ≡ line_text (view value.now)) }
 {
     let mut text = value.to_vec(alloc)?;
     text.push(b'\n')?;

@@ -59,6 +59,7 @@ fn concept_shown<'a>(
         scheme: resource.scheme,
         scope: core.labels_of_kind(alloc, number, LabelKind::Scope)?,
         top,
+        typed: core.typed_of(alloc, number)?,
     })
 }
 

@@ -1,6 +1,6 @@
 //! The words of requests and views.
 ghost use Rattle.std.specs.Prelude.{◌≡◌};
-ghost use Rattle.thes_exchange.specs.Words.{label_kind_named, link_kind_named, link_word, noun_named, verb_named};
+ghost use Rattle.thes_exchange.specs.Words.{label_kind_named, link_kind_named, noun_named, verb_named};
 
 use thes_base::data::{LabelKind, LinkKind};
 
@@ -94,22 +94,9 @@ pub fn link_kind_named(word: &str) -> Option<LinkKind>
         "narrow" => Some(LinkKind::Narrow),
         "relMatch" => Some(LinkKind::RelMatch),
         "member" => Some(LinkKind::Member),
+        "broaderGeneric" => Some(LinkKind::BroaderGeneric),
+        "broaderPartitive" => Some(LinkKind::BroaderPartitive),
+        "broaderInstantial" => Some(LinkKind::BroaderInstantial),
         _ => None,
-    }
-}
-
-/// The word that a kind of link has.
-pub fn link_word(kind: LinkKind) -> &'static str
-    ensures { result.now ≡ link_word kind }
-{
-    match kind {
-        LinkKind::Broader => "broader",
-        LinkKind::Related => "related",
-        LinkKind::Exact => "exact",
-        LinkKind::Close => "close",
-        LinkKind::Broad => "broad",
-        LinkKind::Narrow => "narrow",
-        LinkKind::RelMatch => "relMatch",
-        LinkKind::Member => "member",
     }
 }

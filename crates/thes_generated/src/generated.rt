@@ -57,7 +57,7 @@ impl Dice {
     }
 
     fn link_kind(&mut self) -> LinkKind {
-        match self.below(11) {
+        match self.below(14) {
             0..=2 => LinkKind::Broader,
             3 => LinkKind::Related,
             4 => LinkKind::Exact,
@@ -65,6 +65,9 @@ impl Dice {
             6 => LinkKind::Broad,
             7 => LinkKind::Narrow,
             8 => LinkKind::RelMatch,
+            9 => LinkKind::BroaderGeneric,
+            10 => LinkKind::BroaderPartitive,
+            11 => LinkKind::BroaderInstantial,
             _ => LinkKind::Member,
         }
     }

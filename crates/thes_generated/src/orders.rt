@@ -51,20 +51,6 @@ pub fn label_word(kind: LabelKind) -> &'static str {
     }
 }
 
-/// The word for a kind of link in a request.
-pub fn link_word(kind: LinkKind) -> &'static str {
-    match kind {
-        LinkKind::Broader => "broader",
-        LinkKind::Related => "related",
-        LinkKind::Exact => "exact",
-        LinkKind::Close => "close",
-        LinkKind::Broad => "broad",
-        LinkKind::Narrow => "narrow",
-        LinkKind::RelMatch => "relMatch",
-        LinkKind::Member => "member",
-    }
-}
-
 /// The tag of a word.
 pub fn tag_of(word: Word) -> &'static str {
     TAGS.get(word.tag).copied().unwrap_or("en")
@@ -99,7 +85,7 @@ fn push_link(
     a: u32,
     b: u32,
 ) -> Result<(), AllocError> {
-    let kind = link_word(kind);
+    let kind = kind.word();
     write!(
         line,
         "{{\"do\":\"{verb}\",\"kind\":\"{kind}\",\"a\":{a},\"b\":{b}}}\n"

@@ -1,32 +1,38 @@
--- A graph's set of links and the rows by their ends.
-use Rattle.std.proofs.Common.{◌≡◌, ◌≢◌, ◌+◌, ◌⊎◌, inl, inr, ℕ, List, [], ◌∷◌, Bool, true, false, cond, ◌||◌, ◌==◌, Contains, length, get_or, Less, refl, sym, ap, subst, ◌∙◌, arith}
-use Rattle.std.specs.Prelude.{filter}
+-- A graph's set of links, and the rows by their ends.
+use Rattle.std.proofs.Common.{◌≡◌, ◌≢◌, ◌+◌, ◌⊎◌, inl, inr, ℕ, List, [], ◌∷◌, Bool, true, false, cond, ◌||◌, ◌==◌, ◌<◌, Contains, length, get_or, map, Less, Option, Some, None, slice_get, refl, sym, ap, subst, ◌∙◌, arith}
+use Rattle.std.specs.Prelude.{filter, option_map}
 use Rattle.std.specs.List.{list_any}
 use Rattle.std.specs.List.Sorted.{IsStrictlySortedBy}
 use Rattle.std.specs.Ordering.{nat_cmp, is_eq}
+use Rattle.std.specs.Cmp.{IsTotalOrder}
 use Rattle.std.specs.declared.cmp.Ordering.{Ordering}
-use Rattle.std.specs.FinSet.{insert, remove, contains, items, from_list, len, contains-from_list, len-insert, len-empty}
+use Rattle.std.specs.FinSet.{IsAntisymmetric, insert, remove, contains, items, from_list, len, contains-from_list, len-insert, len-empty}
 use Rattle.std.specs.BTreeMap.{is_at}
 use Rattle.std.specs.BTreeSet.{insert_key}
 use Rattle.std.specs.Set.{remove_key}
-use Rattle.std.specs.Map.{lookup}
-use Rattle.std.specs.Prelude.{Vec}
-use Rattle.std.specs.declared.alloc.Global.{Global}
 use Rattle.std.proofs.lemmas.Bool.Decides.{Decides-eqb}
+use Rattle.std.proofs.lemmas.List.{length-map, get_or-map, get_or_default}
 use Rattle.std.proofs.lemmas.Map.Keys.{sorted_tail, Less-from_sorted}
-use Rattle.std.proofs.lemmas.List.Kept.{IsStrictlySortedBy-filter}
 use Rattle.thes_base.specs.declared.data.Link.{Link}
 use Rattle.thes_base.specs.Links.{Links, link_cmp, HeldIn, norm}
+use Rattle.thes_base.specs.Listing.{IsListing}
 use Rattle.thes_base.proofs.LinkSets.{links_total, links_exact, link_inserted_cases}
+use Rattle.thes_lists.specs.declared.lists.Lists.{Lists}
+use Rattle.thes_lists.specs.Lists.{listed_at, AreSame, ChangesAt}
+use Rattle.thes_lists.proofs.MemberLemmas.{Has, Has-from, Contains-from}
+use Rattle.thes_lists.proofs.OrderLemmas.{sorted_none, above_head, insert_cases, insert_sorted, remove_had, remove_sorted, never_below_itself}
+use Rattle.thes_lists.proofs.OrderLemmas as order
+use Rattle.thes_lists.proofs.ListingLemmas.{insert_has, remove_apart, remove_keeps, listing_as, listing_insert, listing_remove, listing_same}
+use Rattle.thes_graph.specs.declared.side.Standing.{Standing}
+use Rattle.thes_graph.specs.Side.{standing_at, standing_cmp}
 use Rattle.thes_graph.specs.Reading.{EndsAt, IsRow}
-use Rattle.thes_graph.specs.Net.{ends_at, in_order, listed, links_at}
+use Rattle.thes_graph.specs.Net.{ends_at, in_order, listed, arranged, standings_at, links_at}
 use Rattle.thes_graph.specs.Whole.{AreAll}
-use Rattle.thes_graph.specs.Rows.{Rows, items_of, row_at, IsIndexed}
+use Rattle.thes_graph.specs.Index.{IsIndexed}
 use Rattle.thes_graph.proofs.PivotLemmas.{same_or_not}
 use Rattle.thes_graph.proofs.WeightLemmas.{Contains-none}
-use Rattle.thes_graph.proofs.LinkOrderLemmas.{computed, computed_is}
-use Rattle.thes_graph.proofs.SetLemmas.{same_links, held_from_list, listed_of_held, held_of_item, item_of_held, inserted_held, insert_keeps, remove_keeps, removed_cases, off_of_not, not_held_of, Contains-filter, Contains-from_filter}
-use Rattle.thes_graph.proofs.OrderLemmas.{never_below_itself, sorted_same, insert_members, insert_has, insert_keeps_key, insert_sorted, remove_members, remove_keeps_key, remove_sorted, sorted_none, above_head}
+use Rattle.thes_graph.proofs.LinkOrderLemmas.{computed, computed_is, arranging, arranging_is, standings_total, standings_exact}
+use Rattle.thes_graph.proofs.SetLemmas.{same_links, held_from_list, listed_of_held, held_of_item, item_of_held, inserted_held, insert_keeps, remove_keeps as remove_keeps_link, removed_cases, off_of_not, not_held_of, Contains-map, Contains-from_map, Contains-filter, Contains-from_filter}
 
 abbrev IsSorted : List Link → Type 0
 IsSorted = IsStrictlySortedBy link_cmp
@@ -37,64 +43,76 @@ with_key = insert_key link_cmp
 abbrev without_key : Link → List Link → List Link
 without_key l = remove_key (is_at (link_cmp l))
 
-same_list : (xs ys : List Link) → IsSorted xs → IsSorted ys → ((m : Link) → Contains xs m → Contains ys m) → ((m : Link) → Contains ys m → Contains xs m) → xs ≡ ys
-same_list = sorted_same link_cmp links_total links_exact
+-- a list with one value more, and with one less
+
+module _ {A : Type 0} (c : A → A → Ordering) (o : IsTotalOrder c) (exact : IsAntisymmetric c) where
+  insert_members : (ks : List A) (x m : A) → Contains (insert_key c ks x) m → (m ≡ x) ⊎ Contains ks m
+  insert_members ks x m has = elim (insert_cases c ks x m (Has-from (insert_key c ks x) m has)) [ inl same ↦ inl (sym same) | inr old ↦ inr (Contains-from ks m old) ]
+
+  insert_it : (ks : List A) (x : A) → Contains (insert_key c ks x) x
+  insert_it ks x = Contains-from (insert_key c ks x) x (insert_has c o exact ks x)
+
+  insert_old : (ks : List A) (x m : A) → Contains ks m → Contains (insert_key c ks x) m
+  insert_old ks x m has = Contains-from (insert_key c ks x) m (order.insert_keeps c ks x m (Has-from ks m has))
+
+  -- the values in their order
+
+  in_order_sorted : (xs : List A) → IsStrictlySortedBy c (in_order c xs)
+  in_order_sorted [] = sorted_none c
+  in_order_sorted (x ∷ xs) = insert_sorted c o (in_order c xs) x (in_order_sorted xs)
+
+  in_order_from : (xs : List A) (m : A) → Contains (in_order c xs) m → Contains xs m
+  in_order_from [] m has = has
+  in_order_from (x ∷ xs) m has = Contains-from (x ∷ xs) m (elim (insert_members (in_order c xs) x m has) [
+    | inl same ↦ inl (sym same)
+    | inr old ↦ inr (Has-from xs m (in_order_from xs m old))
+  ])
+
+  in_order_to : (xs : List A) (m : A) → Contains xs m → Contains (in_order c xs) m
+  in_order_to [] m has = has
+  in_order_to (x ∷ xs) m has = elim (Has-from (x ∷ xs) m has) [
+    | inl same ↦ subst (Contains (insert_key c (in_order c xs) x)) same (insert_it (in_order c xs) x)
+    | inr later ↦ insert_old (in_order c xs) x m (in_order_to xs m (Contains-from xs m later))
+  ]
 
 with_cases : (ks : List Link) (l m : Link) → Contains (with_key ks l) m → (m ≡ l) ⊎ Contains ks m
 with_cases = insert_members link_cmp links_total links_exact
 
 with_it : (ks : List Link) (l : Link) → Contains (with_key ks l) l
-with_it = insert_has link_cmp links_total links_exact
+with_it = insert_it link_cmp links_total links_exact
 
 with_old : (ks : List Link) (l m : Link) → Contains ks m → Contains (with_key ks l) m
-with_old = insert_keeps_key link_cmp links_total links_exact
-
-with_sorted : (ks : List Link) (l : Link) → IsSorted ks → IsSorted (with_key ks l)
-with_sorted = insert_sorted link_cmp links_total links_exact
+with_old = insert_old link_cmp links_total links_exact
 
 without_cases : (ks : List Link) (l m : Link) → IsSorted ks → Contains (without_key l ks) m → Contains ks m × (m ≢ l)
-without_cases = remove_members link_cmp links_total links_exact
+without_cases ks l m sorted has =
+    let left = Has-from (without_key l ks) m has in
+    (Contains-from ks m (remove_had link_cmp ks (is_at (link_cmp l)) m left), remove_apart link_cmp links_total links_exact ks l m sorted left)
 
 without_old : (ks : List Link) (l m : Link) → Contains ks m → m ≢ l → Contains (without_key l ks) m
-without_old = remove_keeps_key link_cmp links_total links_exact
-
-without_sorted : (ks : List Link) (l : Link) → IsSorted ks → IsSorted (without_key l ks)
-without_sorted = remove_sorted link_cmp links_total links_exact
+without_old ks l m has other = Contains-from (without_key l ks) m (remove_keeps link_cmp links_total links_exact ks l m other (Has-from ks m has))
 
 -- the links of a set in their order
 
-in_order_sorted : (ls : List Link) → IsSorted (in_order ls)
-in_order_sorted [] = sorted_none link_cmp
-in_order_sorted (l ∷ ls) = with_sorted (in_order ls) l (in_order_sorted ls)
-
-in_order_from : (ls : List Link) (m : Link) → Contains (in_order ls) m → HeldIn (from_list ls) m
-in_order_from [] m has = held_from_list [] m has
-in_order_from (l ∷ ls) m has = elim (with_cases (in_order ls) l m has) [
-  | inl same ↦ subst (HeldIn (from_list (l ∷ ls))) (sym same) (inserted_held (from_list ls) l)
-  | inr old ↦ insert_keeps (from_list ls) l m (in_order_from ls m old)
-]
-
-in_order_to : (ls : List Link) (m : Link) → HeldIn (from_list ls) m → Contains (in_order ls) m
-in_order_to [] m held = listed_of_held [] m held
-in_order_to (l ∷ ls) m held = elim (link_inserted_cases (from_list ls) l m held) [
-  | inl same ↦ subst (λ (w : Link). Contains (with_key (in_order ls) l) w) (sym same) (with_it (in_order ls) l)
-  | inr old ↦ with_old (in_order ls) l m (in_order_to ls m old)
-]
-
 pub held_of_listed : (links : Links) (m : Link) → Contains (listed links) m → HeldIn links m
-held_of_listed links m has = held_of_item links m (listed_of_held (items links) m (in_order_from (items links) m has))
+held_of_listed links m has = held_of_item links m (in_order_from link_cmp links_total links_exact (items links) m has)
 
 pub listed_held : (links : Links) (m : Link) → HeldIn links m → Contains (listed links) m
-listed_held links m held = in_order_to (items links) m (held_from_list (items links) m (item_of_held links m held))
+listed_held links m held = in_order_to link_cmp links_total links_exact (items links) m (item_of_held links m held)
 
 pub listed_sorted : (links : Links) → IsSorted (listed links)
-listed_sorted links = in_order_sorted (items links)
+listed_sorted links = in_order_sorted link_cmp links_total links_exact (items links)
 
 -- a list in order is that of its set
 pub listed_is : (ks : List Link) → IsSorted ks → listed (from_list ks) ≡ ks
-listed_is ks sorted = same_list (listed (from_list ks)) ks (listed_sorted (from_list ks)) sorted
-    (λ m has. listed_of_held ks m (held_of_listed (from_list ks) m has))
-    (λ m has. listed_held (from_list ks) m (held_from_list ks m has))
+listed_is ks sorted =
+    listing_same link_cmp links_total links_exact (Contains ks) (listed (from_list ks)) ks
+    (record {
+      rises = listed_sorted (from_list ks);
+      sound = λ m has. listed_of_held ks m (held_of_listed (from_list ks) m has);
+      complete = λ m has. listed_held (from_list ks) m (held_from_list ks m has);
+    })
+    (record { rises = sorted; sound = λ m has. has; complete = λ m has. has })
 
 -- the links at a node
 
@@ -113,27 +131,106 @@ test_of_ends n l (inr at) = go (l.a == n)
     go true = refl
     go false = (Decides-eqb l.b n).1 at
 
-pub links_at_sorted : (links : Links) (n : ℕ) → IsSorted (links_at links n)
-links_at_sorted links n = IsStrictlySortedBy-filter link_cmp (ends_at n) (listed links) (listed_sorted links)
+-- one of these links, as it stands at the node
+abbrev Stands : List Link → ℕ → Standing → Type 0
+Stands ks n s = Contains ks s.link × EndsAt n s.link × (standing_at n s.link ≡ s)
+
+arranged_listing : (n : ℕ) (ks : List Link) → IsListing standing_cmp (Stands ks n) (arranged n ks)
+arranged_listing n ks = record {
+  rises = in_order_sorted standing_cmp standings_total standings_exact (map (standing_at n) (filter (ends_at n) ks));
+  sound = λ s has.
+      let from = Contains-from_map (standing_at n) (filter (ends_at n) ks) s (in_order_from standing_cmp standings_total standings_exact (map (standing_at n) (filter (ends_at n) ks)) s has) in
+      let both = Contains-from_filter (ends_at n) ks from.0 from.1 in
+      subst (Stands ks n) from.2 (both.0, ends_of_test n from.0 both.1, refl);
+  complete = λ s (has, ends, same).
+      subst (Contains (arranged n ks)) same
+      (in_order_to standing_cmp standings_total standings_exact (map (standing_at n) (filter (ends_at n) ks)) (standing_at n s.link)
+      (Contains-map (standing_at n) (filter (ends_at n) ks) s.link (Contains-filter (ends_at n) ks s.link has (test_of_ends n s.link ends))));
+}
+
+-- two arrangements of which each has what the other has
+same_arranged : (n : ℕ) (ks : List Link) (P : Standing → Type 0) (ss : List Standing) → ((s : Standing) → P s → Stands ks n s) → ((s : Standing) → Stands ks n s → P s) → IsListing standing_cmp P ss
+    → arranged n ks ≡ ss
+same_arranged n ks P ss to from is =
+    listing_same standing_cmp standings_total standings_exact (Stands ks n) (arranged n ks) ss (arranged_listing n ks) (listing_as standing_cmp P (Stands ks n) ss to from is)
+
+module _ (n : ℕ) (ks : List Link) (l : Link) where
+  arranged_with : EndsAt n l → arranged n (with_key ks l) ≡ insert_key standing_cmp (arranged n ks) (standing_at n l)
+  arranged_with at =
+      same_arranged n (with_key ks l) (λ s. Stands ks n s ⊎ (s ≡ standing_at n l)) (insert_key standing_cmp (arranged n ks) (standing_at n l))
+      (λ s p. elim p [
+        | inl (has, ends, same) ↦ (with_old ks l s.link has, ends, same)
+        | inr same ↦ subst (Stands (with_key ks l) n) (sym same) (with_it ks l, at, refl)
+      ])
+      (λ s (has, ends, same). elim (with_cases ks l s.link has) [ inl here ↦ inr (sym same ∙ ap (standing_at n) here) | inr old ↦ inl (old, ends, same) ])
+      (listing_insert standing_cmp standings_total standings_exact (Stands ks n) (arranged n ks) (standing_at n l) (arranged_listing n ks))
+
+  arranged_with_other : (EndsAt n l → ⊥) → arranged n (with_key ks l) ≡ arranged n ks
+  arranged_with_other off =
+      same_arranged n (with_key ks l) (Stands ks n) (arranged n ks)
+      (λ s (has, ends, same). (with_old ks l s.link has, ends, same))
+      (λ s (has, ends, same). (elim (with_cases ks l s.link has) [ inl here ↦ absurd (off (subst (EndsAt n) here ends)) | inr old ↦ old ], ends, same))
+      (arranged_listing n ks)
+
+  arranged_without : IsSorted ks → arranged n (without_key l ks) ≡ remove_key (is_at (standing_cmp (standing_at n l))) (arranged n ks)
+  arranged_without sorted =
+      same_arranged n (without_key l ks) (λ s. Stands ks n s × (s ≢ standing_at n l)) (remove_key (is_at (standing_cmp (standing_at n l))) (arranged n ks))
+      (λ s ((has, ends, same), apart). (without_old ks l s.link has (λ e. apart (sym same ∙ ap (standing_at n) e)), ends, same))
+      (λ s (has, ends, same). let old = without_cases ks l s.link sorted has in ((old.0, ends, same), λ e. old.1 (ap (λ (w : Standing). w.link) e)))
+      (listing_remove standing_cmp standings_total standings_exact (Stands ks n) (arranged n ks) (standing_at n l) (arranged_listing n ks))
+
+  arranged_without_other : IsSorted ks → (EndsAt n l → ⊥) → arranged n (without_key l ks) ≡ arranged n ks
+  arranged_without_other sorted off =
+      same_arranged n (without_key l ks) (Stands ks n) (arranged n ks)
+      (λ s (has, ends, same). (without_old ks l s.link has (λ e. off (subst (EndsAt n) e ends)), ends, same))
+      (λ s (has, ends, same). ((without_cases ks l s.link sorted has).0, ends, same))
+      (arranged_listing n ks)
+
+pub standings_sorted : (links : Links) (n : ℕ) → IsStrictlySortedBy standing_cmp (standings_at links n)
+standings_sorted links n = (arranged_listing n (listed links)).rises
+
+pub standings_from : (links : Links) (n : ℕ) (s : Standing) → Contains (standings_at links n) s → HeldIn links s.link × EndsAt n s.link × (standing_at n s.link ≡ s)
+standings_from links n s has = let is = (arranged_listing n (listed links)).sound s has in (held_of_listed links s.link is.0, is.1, is.2)
+
+pub standings_to : (links : Links) (n : ℕ) (l : Link) → HeldIn links l → EndsAt n l → Contains (standings_at links n) (standing_at n l)
+standings_to links n l held ends = (arranged_listing n (listed links)).complete (standing_at n l) (listed_held links l held, ends, refl)
+
+abbrev link_of : Standing → Link
+link_of s = s.link
 
 pub links_at_from : (links : Links) (n : ℕ) (l : Link) → Contains (links_at links n) l → HeldIn links l × EndsAt n l
 links_at_from links n l has =
-    let both = Contains-from_filter (ends_at n) (listed links) l has in
-    (held_of_listed links l both.0, ends_of_test n l both.1)
+    let from = Contains-from_map link_of (standings_at links n) l has in
+    let is = standings_from links n from.0 from.1 in
+    subst (λ (w : Link). HeldIn links w × EndsAt n w) from.2 (is.0, is.1)
 
 pub links_at_to : (links : Links) (n : ℕ) (l : Link) → HeldIn links l → EndsAt n l → Contains (links_at links n) l
-links_at_to links n l held ends = Contains-filter (ends_at n) (listed links) l (listed_held links l held) (test_of_ends n l ends)
+links_at_to links n l held ends = Contains-map link_of (standings_at links n) (standing_at n l) (standings_to links n l held ends)
+
+-- the links that stand at two places differ
+links_once : (links : Links) (n : ℕ) (i j : ℕ) (d : Link) → i < j → j < length (links_at links n) → get_or (links_at links n) i d ≢ get_or (links_at links n) j d
+links_once links n i j d lt within same =
+    never_below_itself standing_cmp standings_total (get_or (standings_at links n) i (standing_at n d))
+    (subst (λ (s : Standing). standing_cmp (get_or (standings_at links n) i (standing_at n d)) s ≡ Less) (sym one)
+    (Less-from_sorted standing_cmp (standings_at links n) i j (standing_at n d) (standings_sorted links n) lt inside))
+  where
+    inside : j < length (standings_at links n)
+    inside = let P : ℕ → Type 0 = λ k. j < k in subst P (length-map (standings_at links n) link_of) within
+
+    at : (k : ℕ) → k < length (standings_at links n) → standing_at n (get_or (links_at links n) k d) ≡ get_or (standings_at links n) k (standing_at n d)
+    at k lt =
+        ap (standing_at n) (get_or-map link_of (standings_at links n) k (standing_at n d) d lt)
+        ∙ (standings_from links n (get_or (standings_at links n) k (standing_at n d)) (k, lt, get_or_default (standings_at links n) k _ (standing_at n d) lt)).2
+
+    one : get_or (standings_at links n) i (standing_at n d) ≡ get_or (standings_at links n) j (standing_at n d)
+    one = let last : j < length (standings_at links n) = inside in sym (at i (omega arith)) ∙ ap (standing_at n) same ∙ at j last
 
 pub IsRow-links_at : (links : Links) (n : ℕ) → IsRow links n (links_at links n)
-IsRow-links_at links n = record {
-  sound = links_at_from links n;
-  complete = links_at_to links n;
-  once = λ i j d lt within same. never_below_itself link_cmp links_total links_exact (get_or (links_at links n) i d) (subst (λ (w : Link). link_cmp (get_or (links_at links n) i d) w ≡ Less) (sym same) (Less-from_sorted link_cmp (links_at links n) i j d (links_at_sorted links n) lt within));
-}
+IsRow-links_at links n = record { sound = links_at_from links n; complete = links_at_to links n; once = links_once links n }
 
 -- what a row has is what the set has
-pub row_is : (ks : List Link) (n : ℕ) → IsSorted ks → filter (ends_at n) ks ≡ links_at (from_list ks) n
-row_is ks n sorted = ap (filter (ends_at n)) (sym (listed_is ks sorted))
+pub row_is : (ks : List Link) (n : ℕ) → IsSorted ks → arranged n ks ≡ standings_at (from_list ks) n
+row_is ks n sorted = ap (arranged n) (sym (listed_is ks sorted))
 
 -- what the set's own order has put in
 pub with_computed : (ks : List Link) (l : Link) (keys : List Link) → keys ≡ insert_key computed ks l → keys ≡ with_key ks l
@@ -169,130 +266,32 @@ pub from_list_without : (ks : List Link) (l : Link) → IsSorted ks → from_lis
 from_list_without ks l sorted = same_links (from_list (without_key l ks)) (remove (from_list ks) l) to from
   where
     to : (m : Link) → HeldIn (from_list (without_key l ks)) m → HeldIn (remove (from_list ks) l) m
-    to m held = let c = without_cases ks l m sorted (listed_of_held (without_key l ks) m held) in remove_keeps (from_list ks) l m c.1 (held_from_list ks m c.0)
+    to m held = let c = without_cases ks l m sorted (listed_of_held (without_key l ks) m held) in remove_keeps_link (from_list ks) l m c.1 (held_from_list ks m c.0)
 
     from : (m : Link) → HeldIn (remove (from_list ks) l) m → HeldIn (from_list (without_key l ks)) m
     from m held = let c = removed_cases (from_list ks) l m held in held_from_list (without_key l ks) m (without_old ks l m (listed_of_held ks m c.1) c.0)
 
--- the part of the keys that passes a test
-
-module _ (p : Link → Bool) (ks : List Link) (l : Link) (sorted : IsSorted ks) where
-  part_sorted : (xs : List Link) → IsSorted xs → IsSorted (filter p xs)
-  part_sorted xs s = IsStrictlySortedBy-filter link_cmp p xs s
-
-  pub filter_with : p l ≡ true → filter p (with_key ks l) ≡ with_key (filter p ks) l
-  filter_with passes = same_list (filter p (with_key ks l)) (with_key (filter p ks) l) (part_sorted (with_key ks l) (with_sorted ks l sorted)) (with_sorted (filter p ks) l (part_sorted ks sorted)) to from
-    where
-      to : (m : Link) → Contains (filter p (with_key ks l)) m → Contains (with_key (filter p ks) l) m
-      to m has = let both = Contains-from_filter p (with_key ks l) m has in elim (with_cases ks l m both.0) [
-        | inl same ↦ subst (λ (w : Link). Contains (with_key (filter p ks) l) w) (sym same) (with_it (filter p ks) l)
-        | inr old ↦ with_old (filter p ks) l m (Contains-filter p ks m old both.1)
-      ]
-
-      from : (m : Link) → Contains (with_key (filter p ks) l) m → Contains (filter p (with_key ks l)) m
-      from m has = elim (with_cases (filter p ks) l m has) [
-        | inl same ↦ Contains-filter p (with_key ks l) m (subst (λ (w : Link). Contains (with_key ks l) w) (sym same) (with_it ks l)) (ap p same ∙ passes)
-        | inr old ↦ let both = Contains-from_filter p ks m old in Contains-filter p (with_key ks l) m (with_old ks l m both.0) both.1
-      ]
-
-  pub filter_with_other : p l ≡ false → filter p (with_key ks l) ≡ filter p ks
-  filter_with_other fails = same_list (filter p (with_key ks l)) (filter p ks) (part_sorted (with_key ks l) (with_sorted ks l sorted)) (part_sorted ks sorted) to from
-    where
-      to : (m : Link) → Contains (filter p (with_key ks l)) m → Contains (filter p ks) m
-      to m has = let both = Contains-from_filter p (with_key ks l) m has in elim (with_cases ks l m both.0) [
-        | inl same ↦ absurd (not_held_of (p l) fails (sym (ap p same) ∙ both.1))
-        | inr old ↦ Contains-filter p ks m old both.1
-      ]
-
-      from : (m : Link) → Contains (filter p ks) m → Contains (filter p (with_key ks l)) m
-      from m has = let both = Contains-from_filter p ks m has in Contains-filter p (with_key ks l) m (with_old ks l m both.0) both.1
-
-  pub filter_without : filter p (without_key l ks) ≡ without_key l (filter p ks)
-  filter_without = same_list (filter p (without_key l ks)) (without_key l (filter p ks)) (part_sorted (without_key l ks) (without_sorted ks l sorted)) (without_sorted (filter p ks) l (part_sorted ks sorted)) to from
-    where
-      to : (m : Link) → Contains (filter p (without_key l ks)) m → Contains (without_key l (filter p ks)) m
-      to m has =
-          let both = Contains-from_filter p (without_key l ks) m has in
-          let c = without_cases ks l m sorted both.0 in
-          without_old (filter p ks) l m (Contains-filter p ks m c.0 both.1) c.1
-
-      from : (m : Link) → Contains (without_key l (filter p ks)) m → Contains (filter p (without_key l ks)) m
-      from m has =
-          let c = without_cases (filter p ks) l m (part_sorted ks sorted) has in
-          let both = Contains-from_filter p ks m c.0 in
-          Contains-filter p (without_key l ks) m (without_old ks l m both.0 c.1) both.1
-
-  pub filter_without_other : p l ≡ false → filter p (without_key l ks) ≡ filter p ks
-  filter_without_other fails = same_list (filter p (without_key l ks)) (filter p ks) (part_sorted (without_key l ks) (without_sorted ks l sorted)) (part_sorted ks sorted) to from
-    where
-      to : (m : Link) → Contains (filter p (without_key l ks)) m → Contains (filter p ks) m
-      to m has = let both = Contains-from_filter p (without_key l ks) m has in Contains-filter p ks m (without_cases ks l m sorted both.0).0 both.1
-
-      from : (m : Link) → Contains (filter p ks) m → Contains (filter p (without_key l ks)) m
-      from m has =
-          let both = Contains-from_filter p ks m has in
-          Contains-filter p (without_key l ks) m (without_old ks l m both.0 (λ same. not_held_of (p l) fails (sym (ap p same) ∙ both.1))) both.1
-
 -- the rows after a change at both ends of a link
 
-pub record IsAtBoth (f : List Link → List Link) (a b : ℕ) (old new : Rows) : Type 0 where
-  pub here : (n : ℕ) → (a ≡ n) ⊎ (b ≡ n) → row_at new n ≡ f (row_at old n)
-  pub others : (n : ℕ) → a ≢ n → b ≢ n → row_at new n ≡ row_at old n
-
-pub at_both : (f : List Link → List Link) (a b : ℕ) (old middle new : Rows) → a ≢ b
-    → row_at middle a ≡ f (row_at old a) → ((m : ℕ) → m ≢ a → row_at middle m ≡ row_at old m)
-    → row_at new b ≡ f (row_at middle b) → ((m : ℕ) → m ≢ b → row_at new m ≡ row_at middle m) → IsAtBoth f a b old new
-at_both f a b old middle new two here1 others1 here2 others2 = record {
-  here = λ n at. elim at [
-    | inl same ↦ subst (λ (k : ℕ). row_at new k ≡ f (row_at old k)) same (others2 a two ∙ here1)
-    | inr same ↦ subst (λ (k : ℕ). row_at new k ≡ f (row_at old k)) same (here2 ∙ ap f (others1 b (λ e. two (sym e))))
-  ];
-  others = λ n off_a off_b. others2 n (λ e. off_b (sym e)) ∙ others1 n (λ e. off_a (sym e));
-}
-
-module _ (ks : List Link) (outside : List ℕ) (old new : Rows) (l : Link) (index : IsIndexed ks old outside) where
-  node_cases : (n : ℕ) → EndsAt n l ⊎ ((l.a ≢ n) × (l.b ≢ n))
-  node_cases n = go (same_or_not l.a n) (same_or_not l.b n)
+module _ (op : List Standing → Standing → List Standing) (ks later : List Link) (old one both : Lists Standing) (l : Link) (two : l.a ≢ l.b)
+    (first : ChangesAt old one l.a (op (listed_at old l.a) (standing_at l.a l))) (second : ChangesAt one both l.b (op (listed_at one l.b) (standing_at l.b l)))
+    (was : (n : ℕ) → listed_at old n ≡ arranged n ks) (here : (n : ℕ) → EndsAt n l → arranged n later ≡ op (arranged n ks) (standing_at n l))
+    (others : (n : ℕ) → (EndsAt n l → ⊥) → arranged n later ≡ arranged n ks) where
+  rows_changed : (n : ℕ) → listed_at both n ≡ arranged n later
+  rows_changed n = go (same_or_not l.a n) (same_or_not l.b n)
     where
-      go : (l.a ≡ n) ⊎ (l.a ≢ n) → (l.b ≡ n) ⊎ (l.b ≢ n) → EndsAt n l ⊎ ((l.a ≢ n) × (l.b ≢ n))
-      go (inl a) _ = inl (inl a)
-      go (inr off_a) (inl b) = inl (inr b)
-      go (inr off_a) (inr off_b) = inr (off_a, off_b)
+      at_a : listed_at both l.a ≡ arranged l.a later
+      at_a = second.others l.a two ∙ first.here ∙ ap (λ row. op row (standing_at l.a l)) (was l.a) ∙ sym (here l.a (inl refl))
 
-  off_test : (n : ℕ) → l.a ≢ n → l.b ≢ n → ends_at n l ≡ false
-  off_test n off_a off_b = off_of_not (ends_at n l) (λ e. go (ends_of_test n l e))
-    where
-      go : EndsAt n l → ⊥
-      go (inl a) = off_a a
-      go (inr b) = off_b b
+      at_b : listed_at both l.b ≡ arranged l.b later
+      at_b = second.here ∙ ap (λ row. op row (standing_at l.b l)) (first.others l.b (λ e. two (sym e)) ∙ was l.b) ∙ sym (here l.b (inr refl))
 
-  pub IsIndexed-with : l.a ≢ l.b → norm (contains (from_list {R = nat_cmp} outside)) l ≡ l → IsAtBoth (λ row. with_key row l) l.a l.b old new → IsIndexed (with_key ks l) new outside
-  IsIndexed-with two is_normal both = record {
-    ordered = with_sorted ks l index.ordered;
-    two_ends = λ m held. elim (with_cases ks l m (listed_of_held (with_key ks l) m held)) [
-      | inl same ↦ subst (λ (w : Link). w.a ≢ w.b) (sym same) two
-      | inr old ↦ index.two_ends m (held_from_list ks m old)
-    ];
-    normal = λ m held. elim (with_cases ks l m (listed_of_held (with_key ks l) m held)) [
-      | inl same ↦ subst (λ (w : Link). norm (contains (from_list {R = nat_cmp} outside)) w ≡ w) (sym same) is_normal
-      | inr old ↦ index.normal m (held_from_list ks m old)
-    ];
-    rows = λ n. elim (node_cases n) [
-      | inl at ↦ both.here n at ∙ ap (λ row. with_key row l) (index.rows n) ∙ sym (filter_with (ends_at n) ks l index.ordered (test_of_ends n l at))
-      | inr off ↦ both.others n off.0 off.1 ∙ index.rows n ∙ sym (filter_with_other (ends_at n) ks l index.ordered (off_test n off.0 off.1))
-    ];
-  }
-
-  pub IsIndexed-without : IsAtBoth (without_key l) l.a l.b old new → IsIndexed (without_key l ks) new outside
-  IsIndexed-without both = record {
-    ordered = without_sorted ks l index.ordered;
-    two_ends = λ m held. index.two_ends m (held_from_list ks m (without_cases ks l m index.ordered (listed_of_held (without_key l ks) m held)).0);
-    normal = λ m held. index.normal m (held_from_list ks m (without_cases ks l m index.ordered (listed_of_held (without_key l ks) m held)).0);
-    rows = λ n. elim (node_cases n) [
-      | inl at ↦ both.here n at ∙ ap (without_key l) (index.rows n) ∙ sym (filter_without (ends_at n) ks l index.ordered)
-      | inr off ↦ both.others n off.0 off.1 ∙ index.rows n ∙ sym (filter_without_other (ends_at n) ks l index.ordered (off_test n off.0 off.1))
-    ];
-  }
+      go : (l.a ≡ n) ⊎ (l.a ≢ n) → (l.b ≡ n) ⊎ (l.b ≢ n) → listed_at both n ≡ arranged n later
+      go (inl a) _ = subst (λ (k : ℕ). listed_at both k ≡ arranged k later) a at_a
+      go (inr _) (inl b) = subst (λ (k : ℕ). listed_at both k ≡ arranged k later) b at_b
+      go (inr a) (inr b) =
+          second.others n (λ e. b (sym e)) ∙ first.others n (λ e. a (sym e)) ∙ was n
+          ∙ sym (others n (λ at. elim at [ inl e ↦ a e | inr e ↦ b e ]))
 
 -- how many links a set has
 pub len_is : (ks : List Link) → IsSorted ks → len (from_list {R = link_cmp} ks) ≡ length ks
@@ -303,46 +302,79 @@ len_is (k ∷ ks) sorted =
     ∙ one_more (len_is ks (sorted_tail link_cmp k ks sorted))
   where
     absent : HeldIn (from_list ks) k → ⊥
-    absent held = never_below_itself link_cmp links_total links_exact k (above_head link_cmp links_total links_exact k ks k sorted (listed_of_held ks k held))
+    absent held = never_below_itself link_cmp links_total k (above_head link_cmp k ks k sorted (Has-from ks k (listed_of_held ks k held)))
 
     one_more : len (from_list {R = link_cmp} ks) ≡ length ks → len (from_list {R = link_cmp} ks) + 1 ≡ length (k ∷ ks)
     one_more e = omega arith
 
 -- no links
-pub IsIndexed-none : (ks : List Link) (rows : Rows) (outside : List ℕ) → ks ≡ [] → rows.entries ≡ [] → IsIndexed ks rows outside
+pub IsIndexed-none : (ks : List Link) (rows : Lists Standing) (outside : List ℕ) → ks ≡ [] → ((n : ℕ) → listed_at rows n ≡ []) → IsIndexed ks rows outside
 IsIndexed-none ks rows outside none no_rows =
     subst (λ (xs : List Link). IsIndexed xs rows outside) (sym none) (record {
       ordered = sorted_none link_cmp;
       two_ends = λ l held. absurd (Contains-none l (listed_of_held [] l held));
       normal = λ l held. absurd (Contains-none l (listed_of_held [] l held));
-      rows = λ n. ap (λ (es : List (ℕ × Vec Link Global)). items_of (lookup (is_at (nat_cmp n)) es)) no_rows;
+      rows = no_rows;
     })
 
 -- rows that have the same links
-pub IsIndexed-same : (ks : List Link) (outside : List ℕ) (old new : Rows) → ((m : ℕ) → row_at new m ≡ row_at old m) → IsIndexed ks old outside → IsIndexed ks new outside
+pub IsIndexed-same : (ks : List Link) (outside : List ℕ) (old new : Lists Standing) → AreSame old new → IsIndexed ks old outside → IsIndexed ks new outside
 IsIndexed-same ks outside old new same index = record { ordered = index.ordered; two_ends = index.two_ends; normal = index.normal; rows = λ n. same n ∙ index.rows n }
 
-pub row_sorted : (ks : List Link) (outside : List ℕ) (rows : Rows) → IsIndexed ks rows outside → (n : ℕ) → IsSorted (row_at rows n)
-row_sorted ks outside rows index n = subst IsSorted (sym (index.rows n)) (IsStrictlySortedBy-filter link_cmp (ends_at n) ks index.ordered)
+module _ (ks : List Link) (outside : List ℕ) (old : Lists Standing) (index : IsIndexed ks old outside) where
+  pub row_sorted : (n : ℕ) → IsStrictlySortedBy arranging (listed_at old n)
+  row_sorted n =
+      let P : (Standing → Standing → Ordering) → Type 0 = λ cmp. IsStrictlySortedBy cmp (listed_at old n) in
+      subst P (sym arranging_is) (subst (IsStrictlySortedBy standing_cmp) (sym (index.rows n)) (arranged_listing n ks).rises)
 
--- the second of two ends has its row as it was
-pub other_sorted : (a b : ℕ) (old new : Rows) → a ≢ b → ((m : ℕ) → m ≢ a → row_at new m ≡ row_at old m) → IsSorted (row_at old b) → IsSorted (row_at new b)
-other_sorted a b old new two others sorted = subst IsSorted (sym (others b (λ e. two (sym e)))) sorted
+  -- the second of two ends has its row as it was
+  pub other_sorted : (new : Lists Standing) (a b : ℕ) (row : List Standing) → a ≢ b → ChangesAt old new a row → IsStrictlySortedBy arranging (listed_at new b)
+  other_sorted new a b row two changes = subst (IsStrictlySortedBy arranging) (sym (changes.others b (λ e. two (sym e)))) (row_sorted b)
 
--- a graph with one link more, and with one less
-module _ (ks : List Link) (outside : List ℕ) (old one both : Rows) (l : Link) (index : IsIndexed ks old outside) (two : l.a ≢ l.b)
-    (others1 : (m : ℕ) → m ≢ l.a → row_at one m ≡ row_at old m) (others2 : (m : ℕ) → m ≢ l.b → row_at both m ≡ row_at one m) (keys : List Link) where
-  pub IsIndexed-added : norm (contains (from_list {R = nat_cmp} outside)) l ≡ l → row_at one l.a ≡ with_key (row_at old l.a) l → row_at both l.b ≡ with_key (row_at one l.b) l
-      → keys ≡ insert_key computed ks l → IsIndexed keys both outside
-  IsIndexed-added is_normal here1 here2 is =
-      subst (λ (xs : List Link). IsIndexed xs both outside) (sym (with_computed ks l keys is))
-      (IsIndexed-with ks outside old both l index two is_normal (at_both (λ row. with_key row l) l.a l.b old one both two here1 others1 here2 others2))
+  -- a graph with one link more, and with one less
+  module _ (one both : Lists Standing) (l : Link) (s t : Standing) (at_a : s ≡ standing_at l.a l) (at_b : t ≡ standing_at l.b l) (two : l.a ≢ l.b) (keys : List Link) where
+    module _ (op : (Standing → Standing → Ordering) → List Standing → Standing → List Standing)
+        (first : ChangesAt old one l.a (op arranging (listed_at old l.a) s)) (second : ChangesAt one both l.b (op arranging (listed_at one l.b) t)) where
+      first_as : ChangesAt old one l.a (op standing_cmp (listed_at old l.a) (standing_at l.a l))
+      first_as =
+          let P : (Standing → Standing → Ordering) → Type 0 = λ cmp. ChangesAt old one l.a (op cmp (listed_at old l.a) (standing_at l.a l)) in
+          subst P arranging_is (subst (λ (w : Standing). ChangesAt old one l.a (op arranging (listed_at old l.a) w)) at_a first)
 
-  pub IsIndexed-taken : row_at one l.a ≡ without_key l (row_at old l.a) → row_at both l.b ≡ without_key l (row_at one l.b)
-      → keys ≡ remove_key (is_at (computed l)) ks → IsIndexed keys both outside
-  IsIndexed-taken here1 here2 is =
-      subst (λ (xs : List Link). IsIndexed xs both outside) (sym (without_computed ks l keys is))
-      (IsIndexed-without ks outside old both l index (at_both (without_key l) l.a l.b old one both two here1 others1 here2 others2))
+      second_as : ChangesAt one both l.b (op standing_cmp (listed_at one l.b) (standing_at l.b l))
+      second_as =
+          let P : (Standing → Standing → Ordering) → Type 0 = λ cmp. ChangesAt one both l.b (op cmp (listed_at one l.b) (standing_at l.b l)) in
+          subst P arranging_is (subst (λ (w : Standing). ChangesAt one both l.b (op arranging (listed_at one l.b) w)) at_b second)
+
+    pub IsIndexed-added : norm (contains (from_list {R = nat_cmp} outside)) l ≡ l → keys ≡ insert_key computed ks l
+        → ChangesAt old one l.a (insert_key arranging (listed_at old l.a) s) → ChangesAt one both l.b (insert_key arranging (listed_at one l.b) t) → IsIndexed keys both outside
+    IsIndexed-added is_normal is first second =
+        subst (λ (xs : List Link). IsIndexed xs both outside) (sym (with_computed ks l keys is)) (record {
+          ordered = insert_sorted link_cmp links_total ks l index.ordered;
+          two_ends = λ m held. elim (with_cases ks l m (listed_of_held (with_key ks l) m held)) [
+            | inl same ↦ subst (λ (w : Link). w.a ≢ w.b) (sym same) two
+            | inr was ↦ index.two_ends m (held_from_list ks m was)
+          ];
+          normal = λ m held. elim (with_cases ks l m (listed_of_held (with_key ks l) m held)) [
+            | inl same ↦ subst (λ (w : Link). norm (contains (from_list {R = nat_cmp} outside)) w ≡ w) (sym same) is_normal
+            | inr was ↦ index.normal m (held_from_list ks m was)
+          ];
+          rows = rows_changed (insert_key standing_cmp) ks (with_key ks l) old one both l two (first_as insert_key first second) (second_as insert_key first second) index.rows
+              (λ n. arranged_with n ks l) (λ n. arranged_with_other n ks l);
+        })
+
+    abbrev removed : (Standing → Standing → Ordering) → List Standing → Standing → List Standing
+    removed cmp row w = remove_key (is_at (cmp w)) row
+
+    pub IsIndexed-taken : keys ≡ remove_key (is_at (computed l)) ks
+        → ChangesAt old one l.a (remove_key (is_at (arranging s)) (listed_at old l.a)) → ChangesAt one both l.b (remove_key (is_at (arranging t)) (listed_at one l.b)) → IsIndexed keys both outside
+    IsIndexed-taken is first second =
+        subst (λ (xs : List Link). IsIndexed xs both outside) (sym (without_computed ks l keys is)) (record {
+          ordered = remove_sorted link_cmp links_total ks (is_at (link_cmp l)) index.ordered;
+          two_ends = λ m held. index.two_ends m (held_from_list ks m (without_cases ks l m index.ordered (listed_of_held (without_key l ks) m held)).0);
+          normal = λ m held. index.normal m (held_from_list ks m (without_cases ks l m index.ordered (listed_of_held (without_key l ks) m held)).0);
+          rows = rows_changed (removed standing_cmp) ks (without_key l ks) old one both l two (first_as removed first second) (second_as removed first second) index.rows
+              (λ n at. arranged_without n ks l index.ordered) (λ n. arranged_without_other n ks l index.ordered);
+        })
 
 -- the keys are all the links of their set
 pub AreAll-keys : (ks : List Link) → AreAll (from_list {R = link_cmp} ks) ks

@@ -13,9 +13,7 @@ mod JudgeLemmas
 pub mod NormLemmas
 pub mod SetLemmas
 pub mod ContractLemmas
-mod OrderLemmas
 mod LinkOrderLemmas
-mod RowLemmas
 mod IndexLemmas
 mod MarkLemmas
 pub mod ChangeLemmas

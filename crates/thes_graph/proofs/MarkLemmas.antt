@@ -8,7 +8,9 @@ use Rattle.std.specs.BTreeMap.{is_at}
 use Rattle.thes_base.specs.declared.data.Link.{Link}
 use Rattle.thes_base.specs.Links.{HeldIn, is_symmetric, exchanged, norm}
 use Rattle.thes_graph.specs.Reading.{EndsAt}
-use Rattle.thes_graph.specs.Rows.{Rows, IsIndexed}
+use Rattle.thes_lists.specs.declared.lists.Lists.{Lists}
+use Rattle.thes_graph.specs.declared.side.Standing.{Standing}
+use Rattle.thes_graph.specs.Index.{IsIndexed}
 use Rattle.thes_graph.proofs.NumberLemmas.{same_of}
 use Rattle.thes_graph.proofs.SetLemmas.{off_of_not}
 
@@ -38,7 +40,7 @@ norm_same f g l a b =
     ∙ ap (λ o. if is_symmetric (g l.a || o) l.kind && nat_lt l.b l.a then exchanged l else l) b
 
 -- links without an end at n stay as they are kept
-pub IsIndexed-marked : (ks : List Link) (rows : Rows) (old new : List ℕ) (n : ℕ) → IsIndexed ks rows old → from_list {R = nat_cmp} new ≡ insert (from_list old) n
+pub IsIndexed-marked : (ks : List Link) (rows : Lists Standing) (old new : List ℕ) (n : ℕ) → IsIndexed ks rows old → from_list {R = nat_cmp} new ≡ insert (from_list old) n
     → ((l : Link) → HeldIn (from_list ks) l → EndsAt n l → ⊥) → IsIndexed ks rows new
 IsIndexed-marked ks rows old new n index is free = record {
   ordered = index.ordered;

@@ -11,7 +11,9 @@ use Rattle.thes_base.specs.declared.data.Link.{Link}
 use Rattle.thes_base.specs.Links.{Links, HeldIn, norm, sent, sent_link, contracted, without_node}
 use Rattle.thes_graph.specs.Reading.{HaveTwoEnds, EndsAt}
 use Rattle.thes_graph.specs.Sight.{becomes}
-use Rattle.thes_graph.specs.Net.{Net, is_marked, links_at}
+use Rattle.thes_graph.specs.declared.side.Standing.{Standing}
+use Rattle.thes_graph.specs.Side.{standing_at}
+use Rattle.thes_graph.specs.Net.{Net, is_marked, standings_at}
 use Rattle.thes_graph.specs.Moved.{AreNormal, AreMoved, AreNew, merged_link, unless_held, with_all}
 use Rattle.thes_graph.proofs.PivotLemmas.{same_or_not}
 use Rattle.thes_graph.proofs.WeightLemmas.{Contains-none, Contains-head, Contains-later, Contains-cons_cases}
@@ -20,7 +22,7 @@ use Rattle.thes_graph.proofs.JudgeLemmas.{link_same}
 use Rattle.thes_graph.proofs.NormLemmas.{norm_ends, norm_two, norm_again}
 use Rattle.thes_graph.proofs.SetLemmas.{same_links, off_of_not, not_held_of}
 use Rattle.thes_graph.proofs.ContractLemmas.{contracted_from, contracted_to}
-use Rattle.thes_graph.proofs.IndexLemmas.{links_at_from, links_at_to}
+use Rattle.thes_graph.proofs.IndexLemmas.{standings_from, standings_to}
 use Rattle.thes_graph.proofs.ChangeLemmas.{with_from, with_keeps, with_has, without_node_from, without_node_to}
 
 pub Contains-take : {X : Type 0} → (i : ℕ) (xs : List X) (x : X) → Contains (take i xs) x → Contains xs x
@@ -61,17 +63,20 @@ module _ (net : Net) (source target : ℕ) where
   merged_to : (l n : Link) → becomes source target l ≡ Some n → (HeldIn net.links (norm (is_marked net) n) → ⊥) → merged_link net source target l ≡ Some (norm (is_marked net) n)
   merged_to l n gives new = ap (option_and_then (λ m. unless_held net.links (norm (is_marked net) m))) gives ∙ unless_held-new net.links (norm (is_marked net) n) new
 
+  abbrev merged_standing : Standing → Option Link
+  merged_standing s = merged_link net source target s.link
+
   module _ (moved : List Link) (are : AreMoved net source target moved) where
     moved_from : (m : Link) → Contains moved m → (l : Link) × (n : Link) × HeldIn net.links l × (becomes source target l ≡ Some n) × (m ≡ norm (is_marked net) n) × (HeldIn net.links m → ⊥)
     moved_from m has =
-        let r = filter_map-from (merged_link net source target) (links_at net.links source) m (subst (λ (ms : List Link). Contains ms m) are has) in
-        let made = merged_from r.0 m r.2 in
-        (r.0, made.0, (links_at_from net.links source r.0 r.1).0, made.1, made.2, made.3)
+        let r = filter_map-from merged_standing (standings_at net.links source) m (subst (λ (ms : List Link). Contains ms m) are has) in
+        let made = merged_from r.0.link m r.2 in
+        (r.0.link, made.0, (standings_from net.links source r.0 r.1).0, made.1, made.2, made.3)
 
     moved_to : (l n : Link) → HeldIn net.links l → EndsAt source l → becomes source target l ≡ Some n → (HeldIn net.links (norm (is_marked net) n) → ⊥) → Contains moved (norm (is_marked net) n)
     moved_to l n held at gives new =
         subst (λ (ms : List Link). Contains ms (norm (is_marked net) n)) (sym are)
-        (filter_map-to (merged_link net source target) (links_at net.links source) l (norm (is_marked net) n) (links_at_to net.links source l held at) (merged_to l n gives new))
+        (filter_map-to merged_standing (standings_at net.links source) (standing_at source l) (norm (is_marked net) n) (standings_to net.links source l held at) (merged_to l n gives new))
 
     pub AreNew-moved : AreNew net moved
     AreNew-moved = record {

@@ -1,197 +1,151 @@
--- What the readers list: the links at a node lead to numbers that rise.
-use Rattle.std.proofs.Common.{◌≡◌, ◌≢◌, ◌⊎◌, inl, inr, ◌==◌, ◌<◌, ℕ, List, [], ◌∷◌, Bool, true, false, ◌&&◌, ◌||◌, nat_lt, Contains, Option, Some, None, Ordering, Less, Equal, Greater, if◌then◌else◌, Result, Ok, Err, IfOk, refl, sym, ap, subst, ◌∙◌, arith}
-use Rattle.std.specs.List.{filter_map, AllByRecursion}
-use Rattle.std.specs.List.Sorted.{IsStrictlySortedBy}
-use Rattle.std.specs.Ordering.{nat_cmp, ordering_then, MatchOrdering}
-use Rattle.std.specs.Cmp.{nat_cmp_total, tied_itself}
-use Rattle.std.specs.FinSet.{nat_cmp-IsAntisymmetric}
-use Rattle.std.proofs.lemmas.Bool.Decides.{Decides-eqb, nat_tests}
-use Rattle.std.proofs.lemmas.Cmp.{ranked}
-use Rattle.std.proofs.lemmas.Map.Keys.{sorted_tail}
+-- What the readers list: what the links at a node are seen as, each once and in order.
+use Rattle.std.proofs.Common.{◌≡◌, ◌⊎◌, inl, inr, ◌+◌, ◌<◌, ◌++◌, ℕ, List, [], ◌∷◌, Contains, take, length, get_or, Option, Some, None, Ordering, Result, Ok, Err, IfOk, refl, sym, ap, subst, ◌∙◌, append-nil}
+use Rattle.std.specs.List.{filter_map}
+use Rattle.std.specs.Ordering.{nat_cmp}
+use Rattle.std.specs.Cmp.{IsTotalOrder}
+use Rattle.std.specs.FinSet.{IsAntisymmetric}
+use Rattle.std.specs.BTreeSet.{insert_key}
+use Rattle.std.proofs.lemmas.List.Elements.{Contains-push, Contains-push_cases, Contains-append_left}
 use Rattle.thes_base.specs.declared.data.Link.{Link}
 use Rattle.thes_base.specs.declared.data.LinkKind.{LinkKind}
-use Rattle.thes_base.specs.declared.data.LinkKind.TheVariants.{Broader, Related, Exact, Close, Broad, Narrow, RelMatch, Member}
+use Rattle.thes_base.specs.declared.data.LinkKind.TheVariants.{Broader, Related, Member, BroaderGeneric, BroaderPartitive, BroaderInstantial}
 use Rattle.thes_base.specs.declared.data.Direction.{Direction}
-use Rattle.thes_base.specs.declared.data.Direction.TheVariants.{Forward, Backward, Either, Never}
-use Rattle.thes_base.specs.Links.{Links, link_cmp, link_kind_no, HeldIn, Leads, is_symmetric, exchanged, norm}
+use Rattle.thes_base.specs.declared.data.Direction.TheVariants.{Forward, Backward, Either}
+use Rattle.thes_base.specs.Links.{Links, HeldIn, Leads, IsHierarchical}
 use Rattle.thes_base.specs.Listing.{IsListing}
-use Rattle.thes_base.proofs.LinkSets.{links_total, links_exact}
-use Rattle.thes_graph.specs.Reading.{HaveTwoEnds, EndsAt}
-use Rattle.thes_graph.specs.Steps.{step_in}
-use Rattle.thes_graph.specs.Net.{Net, is_marked, links_at}
-use Rattle.thes_graph.specs.Moved.{AreNormal}
-use Rattle.thes_base.specs.Views.{HasLink}
-use Rattle.thes_graph.specs.Linked.{IsLinked, led_by, KeepsOrder}
-use Rattle.thes_graph.proofs.StepLemmas.{step_from_Leads, Leads-from_step}
-use Rattle.thes_graph.proofs.SightLemmas.{map_head, filter_map-from, filter_map-to}
+use Rattle.thes_base.specs.Views.{HasLink, HasBroader}
+use Rattle.thes_lists.proofs.ListingLemmas.{listing_as, listing_insert}
+use Rattle.thes_graph.specs.declared.side.Standing.{Standing}
+use Rattle.thes_graph.specs.declared.linked.Linked.{Linked}
+use Rattle.thes_graph.specs.declared.linked.Linked.TheVariants as list
+use Rattle.thes_graph.specs.Side.{standing_at}
+use Rattle.thes_graph.specs.Reading.{EndsAt}
+use Rattle.thes_graph.specs.Steps.{turned}
+use Rattle.thes_graph.specs.Net.{standings_at}
+use Rattle.thes_graph.specs.Linked.{way_by, way_listed, IsLinked, led_to}
+use Rattle.thes_graph.proofs.StepLemmas.{step_from_Leads, Leads-from_step, Leads-first}
+use Rattle.thes_graph.proofs.SightLemmas.{filter_map-from, filter_map-to}
 use Rattle.thes_graph.proofs.JudgeLemmas.{link_same}
-use Rattle.thes_graph.proofs.WeightLemmas.{Contains-head, Contains-later}
-use Rattle.thes_graph.proofs.OrderLemmas.{sorted_cons, sorted_none, all_make, above_head}
-use Rattle.thes_graph.proofs.IndexLemmas.{links_at_sorted, links_at_from, links_at_to}
-
--- a listing of what is the same property
-pub listing_as : {A : Type 0} (c : A → A → Ordering) (P Q : A → Type 0) (xs : List A) → ((x : A) → P x → Q x) → ((x : A) → Q x → P x) → IsListing c P xs → IsListing c Q xs
-listing_as c P Q xs to from is = record { rises = is.rises; sound = λ x has. to x (is.sound x has); complete = λ x q. is.complete x (from x q) }
+use Rattle.thes_graph.proofs.IndexLemmas.{standings_from, standings_to}
+use Rattle.thes_graph.proofs.MovedLemmas.{filter_map_more}
 
 pub ok_as : {T E : Type 0} (P Q : T → Type 0) (r : Result T E) → ((x : T) → P x → Q x) → IfOk r P → IfOk r Q
 ok_as P Q (Ok x) to is = to x is
 ok_as P Q (Err e) to is = tt
 
-less_from : (x y : ℕ) → x < y → nat_cmp x y ≡ Less
-less_from x y lt = grind (arith, nat_tests)
+-- a held link at the node is seen as p
+abbrev pub IsSeen : {K : Type 0} → Links → ℕ → (Link → Option K) → K → Type 0
+IsSeen links n f p = (l : Link) × HeldIn links l × EndsAt n l × (f l ≡ Some p)
 
-then_less : (A B C D E F : Type 0) (o p : Ordering) → MatchOrdering o A B C → MatchOrdering p D E F → ordering_then o p ≡ Less → A ⊎ (B × D)
-then_less A B C D E F Less p a d e = inl a
-then_less A B C D E F Equal Less b d e = inr (b, d)
-then_less A B C D E F Equal Equal b d e = cc
-then_less A B C D E F Equal Greater b d e = cc
-then_less A B C D E F Greater p a d e = cc
+module _ {K : Type 0} (c : K → K → Ordering) (f : Link → Option K) where
+  abbrev seen_standing : Standing → Option K
+  seen_standing s = f s.link
 
--- of two links of one kind the first has the lesser first end, or else the lesser second end
-less_ends : (k l : Link) → link_cmp k l ≡ Less → k.kind ≡ l.kind → (k.a < l.a) ⊎ ((k.a ≡ l.a) × (k.b < l.b))
-less_ends k l less same =
-    then_less _ _ _ _ _ _ (nat_cmp k.a l.a) (nat_cmp k.b l.b) (ranked k.a l.a (nat_cmp k.a l.a) refl) (ranked k.b l.b (nat_cmp k.b l.b) refl)
-    (sym (ap (λ o. ordering_then o (ordering_then (nat_cmp k.a l.a) (nat_cmp k.b l.b))) kinds) ∙ less)
-  where
-    kinds : nat_cmp (link_kind_no k.kind) (link_kind_no l.kind) ≡ Equal
-    kinds = ap (λ j. nat_cmp (link_kind_no k.kind) (link_kind_no j)) (sym same) ∙ tied_itself nat_cmp_total (link_kind_no k.kind)
+  -- in order stands what these are seen as, and nothing else
+  abbrev pub ListsSeen : List Standing → List K → Type 0
+  ListsSeen ss found = IsListing c (λ p. Contains (filter_map seen_standing ss) p) found
 
--- a related link has its lesser end first
-related_rises : (f : ℕ → Bool) (l : Link) → l.kind ≡ Related → norm f l ≡ l → l.a ≢ l.b → l.a < l.b
-related_rises f l related normal two = go (nat_lt l.b l.a) refl
-  where
-    is : norm f l ≡ (if nat_lt l.b l.a then exchanged l else l)
-    is = ap (λ k. if is_symmetric (f l.a || f l.b) k && nat_lt l.b l.a then exchanged l else l) related
+  -- a loop's step: what one link more is seen as
+  module _ (ss : List Standing) (i : ℕ) (s : Standing) (within : i < length ss) (at : s ≡ get_or ss i s) (found : List K) (is : ListsSeen (take i ss) found) where
+    pub seen_more : IsTotalOrder c → IsAntisymmetric c → (p : K) → Some p ≡ f s.link → ListsSeen (take (i + 1) ss) (insert_key c found p)
+    seen_more o exact p gives =
+        listing_as c (λ q. Contains (filter_map seen_standing (take i ss)) q ⊎ (q ≡ p)) (Contains (filter_map seen_standing (take (i + 1) ss))) (insert_key c found p)
+        (λ q has. into q (elim has [
+          | inl old ↦ Contains-append_left (filter_map seen_standing (take i ss)) (p ∷ []) q old
+          | inr same ↦ subst (Contains (filter_map seen_standing (take i ss) ++ p ∷ [])) (sym same) (Contains-push (filter_map seen_standing (take i ss)) p)
+        ]))
+        (λ q has. elim (Contains-push_cases (filter_map seen_standing (take i ss)) p q (subst (λ (ps : List K). Contains ps q) next has)) [ inl old ↦ inl old | inr same ↦ inr (sym same) ])
+        (listing_insert c o exact (Contains (filter_map seen_standing (take i ss))) found p is)
+      where
+        next : filter_map seen_standing (take (i + 1) ss) ≡ filter_map seen_standing (take i ss) ++ p ∷ []
+        next = filter_map_more seen_standing ss i s (Some p) within at gives
 
-    go : (t : Bool) → nat_lt l.b l.a ≡ t → l.a < l.b
-    go true lt = absurd (two (sym (ap (λ (w : Link). w.a) (sym (ap (λ t. if t then exchanged l else l) lt) ∙ sym is ∙ normal))))
-    go false ge = grind (arith, nat_tests)
+        into : (q : K) → Contains (filter_map seen_standing (take i ss) ++ p ∷ []) q → Contains (filter_map seen_standing (take (i + 1) ss)) q
+        into q has = subst (λ (ps : List K). Contains ps q) (sym next) has
 
--- the kind of a number
-kind_at : ℕ → LinkKind
-kind_at n = if n == 1 then Broader else if n == 2 then Related else if n == 3 then Exact else if n == 4 then Close else if n == 5 then Broad else if n == 6 then Narrow else if n == 7 then RelMatch else Member
+    pub seen_no_more : None ≡ f s.link → ListsSeen (take (i + 1) ss) found
+    seen_no_more none =
+        subst (λ (ps : List K). IsListing c (λ q. Contains ps q) found)
+        (sym (filter_map_more seen_standing ss i s None within at none ∙ append-nil (filter_map seen_standing (take i ss)))) is
 
-kind_back : (k : LinkKind) → kind_at (link_kind_no k) ≡ k
-unfolding kind_at
-kind_back Broader = refl
-kind_back Related = refl
-kind_back Exact = refl
-kind_back Close = refl
-kind_back Broad = refl
-kind_back Narrow = refl
-kind_back RelMatch = refl
-kind_back Member = refl
+  -- the whole row
+  pub seen_listing : (links : Links) (n : ℕ) (P : K → Type 0) → ((p : K) → IsSeen links n f p → P p) → ((p : K) → P p → IsSeen links n f p) → (found : List K) → ListsSeen (standings_at links n) found → IsListing c P found
+  seen_listing links n P to from found is =
+      listing_as c (Contains (filter_map seen_standing (standings_at links n))) P found
+      (λ p has.
+      let r = filter_map-from seen_standing (standings_at links n) p has in
+      let at = standings_from links n r.0 r.1 in
+      to p (r.0.link, at.0, at.1, r.2))
+      (λ p has.
+      let l = from p has in
+      filter_map-to seen_standing (standings_at links n) (standing_at n l.0) p (standings_to links n l.0 l.1 l.2) l.3)
+      is
 
-one_kind : (j k : LinkKind) → link_kind_no j ≡ link_kind_no k → j ≡ k
-one_kind j k e = sym (kind_back j) ∙ ap kind_at e ∙ kind_back k
+-- what links lead to
 
-led_from : (kind : LinkKind) (way : Direction) (n : ℕ) (l : Link) (m : ℕ) → led_by kind way n l ≡ Some m → (l.kind ≡ kind) × Leads way l.a l.b n m
-led_from kind way n l m e = go (link_kind_no l.kind == link_kind_no kind) refl e
-  where
-    none_some : None ≡ Some m → ⊥
-    none_some e = cc
+pub linked_from : (links : Links) (linked : Linked) (n m : ℕ) → IsSeen links n (led_to linked n) m → IsLinked links linked n m
+linked_from links linked n m (l, held, at, gives) = (l, held, Leads-from_step (way_listed linked l.kind) l.a l.b n m gives)
 
-    go : (t : Bool) → (link_kind_no l.kind == link_kind_no kind) ≡ t → (if t then step_in way l.a l.b n else None) ≡ Some m → (l.kind ≡ kind) × Leads way l.a l.b n m
-    go true same e = (one_kind l.kind kind ((Decides-eqb (link_kind_no l.kind) (link_kind_no kind)).0 same), Leads-from_step way l.a l.b n m e)
-    go false other e = absurd (none_some e)
+pub linked_to : (links : Links) (linked : Linked) (n m : ℕ) → IsLinked links linked n m → IsSeen links n (led_to linked n) m
+linked_to links linked n m (l, held, leads) =
+    (l, held, Leads-first (way_listed linked l.kind) l.a l.b n m leads, step_from_Leads (way_listed linked l.kind) l.a l.b n m leads)
 
-led_to : (kind : LinkKind) (way : Direction) (n : ℕ) (l : Link) (m : ℕ) → l.kind ≡ kind → Leads way l.a l.b n m → led_by kind way n l ≡ Some m
-led_to kind way n l m same leads =
-    ap (λ t. if t then step_in way l.a l.b n else None) ((Decides-eqb (link_kind_no l.kind) (link_kind_no kind)).1 (ap link_kind_no same))
-    ∙ step_from_Leads way l.a l.b n m leads
+module _ (links : Links) where
+  held_as : (l : Link) (a b : ℕ) → HeldIn links l → l.a ≡ a → l.b ≡ b → HasLink links l.kind a b
+  held_as l a b held e f = subst (HeldIn links) (link_same l.kind l.kind l.a a l.b b refl e f) held
 
--- a list in order, each item taken to a number, where later ones are taken higher
-module _ {X : Type 0} (c : X → X → Ordering) (Good : X → Type 0) (f : X → Option ℕ)
-    (rises : (x y : X) (m n : ℕ) → Good x → Good y → c x y ≡ Less → f x ≡ Some m → f y ≡ Some n → m < n) (above : (x : X) (xs : List X) (y : X) → IsStrictlySortedBy c (x ∷ xs) → Contains xs y → c x y ≡ Less) where
-  pub filter_map_rises : (xs : List X) → IsStrictlySortedBy c xs → ((x : X) → Contains xs x → Good x) → IsStrictlySortedBy nat_cmp (filter_map f xs)
-  filter_map_rises [] sorted good = sorted_none nat_cmp
-  filter_map_rises (x ∷ xs) sorted good = go (filter_map_rises xs (sorted_tail c x xs sorted) (λ y has. good y (Contains-later x xs y has))) (map_head f x xs)
-    where
-      after : (m : ℕ) → f x ≡ Some m → (n : ℕ) → Contains (filter_map f xs) n → nat_cmp m n ≡ Less
-      after m gives n has =
-          let r = filter_map-from f xs n has in
-          less_from m n (rises x r.0 m n (good x (Contains-head x xs)) (good r.0 (Contains-later x xs r.0 r.1)) (above x xs r.0 sorted r.1) gives r.2)
+  held_kind : (l : Link) (kind : LinkKind) (a b : ℕ) → HeldIn links l → l.kind ≡ kind → l.a ≡ a → l.b ≡ b → HasLink links kind a b
+  held_kind l kind a b held k e f = subst (HeldIn links) (link_same l.kind kind l.a a l.b b k e f) held
 
-      go : IsStrictlySortedBy nat_cmp (filter_map f xs) → ((m : ℕ) × (f x ≡ Some m) × (filter_map f (x ∷ xs) ≡ m ∷ filter_map f xs)) ⊎ ((f x ≡ None) × (filter_map f (x ∷ xs) ≡ filter_map f xs)) → IsStrictlySortedBy nat_cmp (filter_map f (x ∷ xs))
-      go rest (inl (m, gives, is)) = subst (λ (ns : List ℕ). IsStrictlySortedBy nat_cmp ns) (sym is) (sorted_cons nat_cmp m (filter_map f xs) (each m gives) rest)
-        where
-          each : (m : ℕ) → f x ≡ Some m → AllByRecursion (λ n. nat_cmp m n ≡ Less) (filter_map f xs)
-          each m gives = all_make nat_cmp nat_cmp_total nat_cmp-IsAntisymmetric (λ n. nat_cmp m n ≡ Less) (filter_map f xs) (after m gives)
-      go rest (inr (_, is)) = subst (λ (ns : List ℕ). IsStrictlySortedBy nat_cmp ns) (sym is) rest
+  upward : (k : LinkKind) (a b n m : ℕ) → Leads (way_listed list.Broader k) a b n m → IsHierarchical k × (a ≡ n) × (b ≡ m)
+  upward Broader a b n m (e, f) = ((refl, refl), e, f)
+  upward BroaderGeneric a b n m (e, f) = ((refl, refl), e, f)
+  upward BroaderPartitive a b n m (e, f) = ((refl, refl), e, f)
+  upward BroaderInstantial a b n m (e, f) = ((refl, refl), e, f)
+  upward _ a b n m h = absurd h
 
-module _ (net : Net) (kind : LinkKind) (way : Direction) (n : ℕ) (keeps : KeepsOrder way kind) (two_ends : HaveTwoEnds (HeldIn net.links)) (normal : AreNormal net) where
-  led_rises : (k l : Link) (x y : ℕ) → HeldIn net.links k → HeldIn net.links l → link_cmp k l ≡ Less → led_by kind way n k ≡ Some x → led_by kind way n l ≡ Some y → x < y
-  led_rises k l x y held_k held_l less gives_k gives_l =
-      let from_k = led_from kind way n k x gives_k in
-      let from_l = led_from kind way n l y gives_l in
-      go way keeps from_k.1 from_l.1 (less_ends k l less (from_k.0 ∙ sym from_l.0)) from_k.0 from_l.0
-    where
-      related : (j : LinkKind) → KeepsOrder Either j → j ≡ Related
-      related Related u = refl
-      related Broader u = absurd u
-      related Exact u = absurd u
-      related Close u = absurd u
-      related Broad u = absurd u
-      related Narrow u = absurd u
-      related RelMatch u = absurd u
-      related Member u = absurd u
+  downward : (k : LinkKind) (a b n m : ℕ) → Leads (way_listed list.Narrower k) a b n m → IsHierarchical k × (b ≡ n) × (a ≡ m)
+  downward Broader a b n m (e, f) = ((refl, refl), e, f)
+  downward BroaderGeneric a b n m (e, f) = ((refl, refl), e, f)
+  downward BroaderPartitive a b n m (e, f) = ((refl, refl), e, f)
+  downward BroaderInstantial a b n m (e, f) = ((refl, refl), e, f)
+  downward _ a b n m h = absurd h
 
-      go : (w : Direction) → KeepsOrder w kind → Leads w k.a k.b n x → Leads w l.a l.b n y → (k.a < l.a) ⊎ ((k.a ≡ l.a) × (k.b < l.b)) → k.kind ≡ kind → l.kind ≡ kind → x < y
-      go Forward u (ka, kb) (la, lb) (inl lt) _ _ = absurd (omega arith)
-      go Forward u (ka, kb) (la, lb) (inr (same, lt)) _ _ = omega arith
-      go Backward u (kb, ka) (lb, la) (inl lt) _ _ = omega arith
-      go Backward u (kb, ka) (lb, la) (inr (same, lt)) _ _ = absurd (omega arith)
-      go Never u lead_k lead_l ends _ _ = absurd lead_k
-      go Either u lead_k lead_l ends is_k is_l =
-          let up_k : k.a < k.b = related_rises (is_marked net) k (is_k ∙ related kind u) (normal k held_k) (two_ends k held_k) in
-          let up_l : l.a < l.b = related_rises (is_marked net) l (is_l ∙ related kind u) (normal l held_l) (two_ends l held_l) in
-          either up_k up_l lead_k lead_l ends
-        where
-          either : k.a < k.b → l.a < l.b → Leads Either k.a k.b n x → Leads Either l.a l.b n y → (k.a < l.a) ⊎ ((k.a ≡ l.a) × (k.b < l.b)) → x < y
-          either up_k up_l (inl (ka, kb)) (inl (la, lb)) (inl lt) = absurd (omega arith)
-          either up_k up_l (inl (ka, kb)) (inl (la, lb)) (inr (same, lt)) = omega arith
-          either up_k up_l (inl (ka, kb)) (inr (lb, la)) (inl lt) = omega arith
-          either up_k up_l (inl (ka, kb)) (inr (lb, la)) (inr (same, lt)) = omega arith
-          either up_k up_l (inr (kb, ka)) (inl (la, lb)) (inl lt) = omega arith
-          either up_k up_l (inr (kb, ka)) (inl (la, lb)) (inr (same, lt)) = omega arith
-          either up_k up_l (inr (kb, ka)) (inr (lb, la)) (inl lt) = omega arith
-          either up_k up_l (inr (kb, ka)) (inr (lb, la)) (inr (same, lt)) = absurd (omega arith)
+  abbrev Beside : ℕ → ℕ → Type 0
+  Beside n m = HasLink links Related n m ⊎ HasLink links Related m n
 
-  leads_at : (w : Direction) (l : Link) (m : ℕ) → Leads w l.a l.b n m → EndsAt n l
-  leads_at Forward l m (a, b) = inl a
-  leads_at Backward l m (b, a) = inr b
-  leads_at Either l m (inl (a, b)) = inl a
-  leads_at Either l m (inr (b, a)) = inr b
-  leads_at Never l m h = absurd h
+  pub broader_from : (n m : ℕ) → IsLinked links list.Broader n m → HasBroader links n m
+  broader_from n m (l, held, leads) = let up = upward l.kind l.a l.b n m leads in (l.kind, up.0, held_as l n m held up.1 up.2)
 
-  pub linked_listing : IsListing nat_cmp (IsLinked net.links kind way n) (filter_map (led_by kind way n) (links_at net.links n))
-  linked_listing = record {
-    rises = filter_map_rises link_cmp (HeldIn net.links) (led_by kind way n) led_rises (above_head link_cmp links_total links_exact) (links_at net.links n) (links_at_sorted net.links n) (λ l has. (links_at_from net.links n l has).0);
-    sound = λ m has.
-        let r = filter_map-from (led_by kind way n) (links_at net.links n) m has in
-        let from = led_from kind way n r.0 m r.2 in
-        (r.0, (links_at_from net.links n r.0 r.1).0, from.0, from.1);
-    complete = λ m (l, held, same, leads). filter_map-to (led_by kind way n) (links_at net.links n) l m (links_at_to net.links n l held (leads_at way l m leads)) (led_to kind way n l m same leads);
-  }
+  pub broader_to : (n m : ℕ) → HasBroader links n m → IsLinked links list.Broader n m
+  broader_to n m (kind, hierarchical, held) =
+      (record { kind = kind; a = n; b = m }, held, subst (λ (d : Direction). Leads d n m n m) (sym (ap (λ f. way_by f list.Broader kind) hierarchical.0 ∙ hierarchical.1)) (refl, refl))
 
--- a linked pair is a held link
+  pub narrower_from : (n m : ℕ) → IsLinked links list.Narrower n m → HasBroader links m n
+  narrower_from n m (l, held, leads) = let down = downward l.kind l.a l.b n m leads in (l.kind, down.0, held_as l m n held down.2 down.1)
 
-pub forward_link : (links : Links) (kind : LinkKind) (n m : ℕ) → IsLinked links kind Forward n m → HasLink links kind n m
-forward_link links kind n m (l, held, same, (a, b)) = subst (HeldIn links) (link_same l.kind kind l.a n l.b m same a b) held
+  pub narrower_to : (n m : ℕ) → HasBroader links m n → IsLinked links list.Narrower n m
+  narrower_to n m (kind, hierarchical, held) =
+      (record { kind = kind; a = m; b = n }, held, subst (λ (d : Direction). Leads d m n n m) (sym (ap (λ f. way_by f list.Narrower kind) hierarchical.0 ∙ ap turned hierarchical.1)) (refl, refl))
 
-pub link_forward : (links : Links) (kind : LinkKind) (n m : ℕ) → HasLink links kind n m → IsLinked links kind Forward n m
-link_forward links kind n m held = (record { kind = kind; a = n; b = m }, held, refl, (refl, refl))
+  sideward : (l : Link) (k : LinkKind) (n m : ℕ) → HeldIn links l → l.kind ≡ k → Leads (way_listed list.Related k) l.a l.b n m → Beside n m
+  sideward l Related n m held is (inl (e, f)) = inl (held_kind l Related n m held is e f)
+  sideward l Related n m held is (inr (e, f)) = inr (held_kind l Related m n held is f e)
+  sideward l _ n m held is h = absurd h
 
-pub backward_link : (links : Links) (kind : LinkKind) (n m : ℕ) → IsLinked links kind Backward n m → HasLink links kind m n
-backward_link links kind n m (l, held, same, (b, a)) = subst (HeldIn links) (link_same l.kind kind l.a m l.b n same a b) held
+  pub related_from : (n m : ℕ) → IsLinked links list.Related n m → Beside n m
+  related_from n m (l, held, leads) = sideward l l.kind n m held refl leads
 
-pub link_backward : (links : Links) (kind : LinkKind) (n m : ℕ) → HasLink links kind m n → IsLinked links kind Backward n m
-link_backward links kind n m held = (record { kind = kind; a = m; b = n }, held, refl, (refl, refl))
+  pub related_to : (n m : ℕ) → Beside n m → IsLinked links list.Related n m
+  related_to n m (inl held) = (record { kind = Related; a = n; b = m }, held, inl (refl, refl))
+  related_to n m (inr held) = (record { kind = Related; a = m; b = n }, held, inr (refl, refl))
 
-pub either_link : (links : Links) (kind : LinkKind) (n m : ℕ) → IsLinked links kind Either n m → HasLink links kind n m ⊎ HasLink links kind m n
-either_link links kind n m (l, held, same, inl (a, b)) = inl (subst (HeldIn links) (link_same l.kind kind l.a n l.b m same a b) held)
-either_link links kind n m (l, held, same, inr (b, a)) = inr (subst (HeldIn links) (link_same l.kind kind l.a m l.b n same a b) held)
+  inward : (l : Link) (k : LinkKind) (n m : ℕ) → HeldIn links l → l.kind ≡ k → Leads (way_listed list.Collections k) l.a l.b n m → HasLink links Member m n
+  inward l Member n m held is (e, f) = held_kind l Member m n held is f e
+  inward l _ n m held is h = absurd h
 
-pub link_either : (links : Links) (kind : LinkKind) (n m : ℕ) → HasLink links kind n m ⊎ HasLink links kind m n → IsLinked links kind Either n m
-link_either links kind n m (inl held) = (record { kind = kind; a = n; b = m }, held, refl, inl (refl, refl))
-link_either links kind n m (inr held) = (record { kind = kind; a = m; b = n }, held, refl, inr (refl, refl))
+  pub collection_from : (n m : ℕ) → IsLinked links list.Collections n m → HasLink links Member m n
+  collection_from n m (l, held, leads) = inward l l.kind n m held refl leads
+
+  pub collection_to : (n m : ℕ) → HasLink links Member m n → IsLinked links list.Collections n m
+  collection_to n m held = (record { kind = Member; a = m; b = n }, held, (refl, refl))

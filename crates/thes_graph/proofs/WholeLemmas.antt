@@ -82,12 +82,7 @@ module _ (Held : Link → Type 0) where
       go : (k : LinkKind) → related_way k ≢ Never → related_way k ≡ Either
       go Related has = refl
       go RelMatch has = refl
-      go Broader has = absurd (has refl)
-      go Exact has = absurd (has refl)
-      go Close has = absurd (has refl)
-      go Broad has = absurd (has refl)
-      go Narrow has = absurd (has refl)
-      go Member has = absurd (has refl)
+      go _ has = absurd (has refl)
 
   pub s27_some : (l : Link) → Held l → l.a ≢ l.b → HasWay relation.Related l → UpTo Held l.a l.b ⊎ UpTo Held l.b l.a → IsSomeS27 Held
   s27_some l held two has = go

@@ -1,3 +1,4 @@
+pub mod Side
 pub mod Reading
 pub mod Steps
 pub mod Sight
@@ -5,7 +6,7 @@ pub mod Local
 pub mod Judge
 pub mod Met
 pub mod Net
-pub mod Rows
+pub mod Index
 pub mod Climb
 pub mod Linked
 pub mod Mapped

@@ -6,7 +6,7 @@ use Rattle.thes_base.specs.declared.data.Link.{Link}
 use Rattle.thes_base.specs.Links.{Links, HeldIn, norm}
 use Rattle.thes_graph.specs.Reading.{HaveTwoEnds}
 use Rattle.thes_graph.specs.Sight.{becomes}
-use Rattle.thes_graph.specs.Net.{Net, is_marked, links_at}
+use Rattle.thes_graph.specs.Net.{Net, is_marked, standings_at}
 
 -- each link is kept in the order that the norm has
 abbrev pub AreNormal : Net → Type 0
@@ -21,7 +21,7 @@ merged_link net source target l = option_and_then (λ m. unless_held net.links (
 
 -- these are what a merge adds for the links at its source
 abbrev pub AreMoved : Net → (source target : ℕ) → List Link → Type 0
-AreMoved net source target ms = ms ≡ filter_map (merged_link net source target) (links_at net.links source)
+AreMoved net source target ms = ms ≡ filter_map (λ s. merged_link net source target s.link) (standings_at net.links source)
 
 -- links that can be added as they are, and none of which is held
 pub record AreNew (net : Net) (ls : List Link) : Type 0 where

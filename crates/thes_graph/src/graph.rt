@@ -7,24 +7,26 @@ ghost use Rattle.thes_base.specs.declared.data.LinkKind.TheVariants as kinds;
 ghost use Rattle.thes_base.specs.Links.{HeldIn, norm, contracted, without_node, IsFirstBroken};
 ghost use Rattle.thes_base.specs.Listing.{IsListing};
 ghost use Rattle.thes_graph.specs.Reading.{HaveTwoEnds, EndsAt};
-ghost use Rattle.thes_graph.specs.Net.{is_marked, links_at};
-ghost use Rattle.thes_base.specs.Views.{HasLink, IsMapping, mapping_cmp};
-ghost use Rattle.thes_graph.specs.Linked.{IsLinked, KeepsOrder};
+ghost use Rattle.thes_graph.specs.Net.{is_marked, standings_at, links_at};
+ghost use Rattle.thes_base.specs.Views.{HasLink, HasBroader, IsMapping, mapping_cmp, IsTyped, typed_cmp};
+ghost use Rattle.thes_graph.specs.Linked.{IsLinked};
 ghost use Rattle.thes_graph.specs.Moved.{AreNormal, AreMoved, AreNew, merged_link, with_all, without_all};
 
 use crate::judge::in_order;
-use crate::linked::lead_by;
+use crate::linked::{Linked, list_in, way_to};
 use crate::links::Links;
-use crate::mapped::{as_seen, list_mapping};
-use crate::rows::{Rows, make_room, put, row, take};
+use crate::mapped::{as_seen, as_typed, list_mapping};
+use crate::relation::lead;
+use crate::side::{Standing, standing_of};
 use crate::sight::merge;
 use crate::whole::check_all;
 use std::alloc::{AllocError, Global};
-use std::collections::{BTreeMap, BTreeSet};
+use std::collections::BTreeSet;
 use std::marker::Model;
-use thes_base::data::{Direction, Link, LinkKind};
+use thes_base::data::{Link, LinkKind, TypedKind};
 use thes_base::fault::Refusal;
 use thes_base::number::ResNo;
+use thes_lists::Lists;
 
 /// A set of links, and the resources marked as outside concepts. A link handed in has two different ends, and is kept in the order
 /// of its ends that the norm has.
@@ -32,7 +34,7 @@ use thes_base::number::ResNo;
 pub struct Graph {
     alloc: Global,
     held: BTreeSet<Link>,
-    rows: Rows,
+    rows: Lists<Standing>,
     marked: BTreeSet<ResNo>,
 }
 
@@ -41,7 +43,7 @@ impl Model for Graph {
     ghost use Rattle.std.specs.FinSet as set;
     ghost use Rattle.std.specs.FinSet.{from_list};
     ghost use Rattle.thes_graph.specs.Net.{Net};
-    ghost use Rattle.thes_graph.specs.Rows.{IsIndexed};
+    ghost use Rattle.thes_graph.specs.Index.{IsIndexed};
 
     ghost Value = { Net };
 
@@ -60,7 +62,7 @@ impl Graph {
         Graph {
             alloc,
             held: BTreeSet::new(alloc),
-            rows: BTreeMap::new(alloc),
+            rows: Lists::new(alloc),
             marked: BTreeSet::new(alloc),
         }
     }
@@ -72,13 +74,21 @@ impl Graph {
         in_order(link, self.is_outside(link.a) || self.is_outside(link.b))
     }
 
-    // The links with an end at the node, in their order.
-    fn at(&self, n: ResNo) -> &[Link]
-        ensures row { result.now ≡ links_at self.now.links n }
+    // The links with an end at the node, by where they lead from it.
+    fn at(&self, n: ResNo) -> &[Standing]
+        ensures row { result.now ≡ standings_at self.now.links n }
         ensures two_ends { HaveTwoEnds (HeldIn self.now.links) }
         ensures normal { AreNormal self.now }
     {
-        row(&self.rows, n)
+        self.rows.at(n)
+    }
+
+    // The i-th of these links, as it stands there.
+    fn standing(&self, n: ResNo, i: usize) -> Option<Standing>
+        ensures place { result ≡ slice_get (standings_at self.now.links n) i }
+        ensures two_ends { HaveTwoEnds (HeldIn self.now.links) }
+    {
+        self.at(n).get(i).copied()
     }
 
     // The i-th of these links.
@@ -86,7 +96,10 @@ impl Graph {
         ensures link { result ≡ slice_get (links_at self.now.links n) i }
         ensures two_ends { HaveTwoEnds (HeldIn self.now.links) }
     {
-        self.at(n).get(i).copied()
+        match self.standing(n, i) {
+            Some(standing) => Some(standing.link),
+            None => None,
+        }
     }
 
     // Whether the link is held as it is handed in.
@@ -118,62 +131,70 @@ impl Graph {
         self.held.len() as u64
     }
 
-    // What the links of this kind, taken this way, lead to from the node.
-    fn linked(
-        &self,
-        alloc: Global,
-        n: ResNo,
-        kind: LinkKind,
-        way: Direction,
-    ) -> Result<Vec<ResNo>, AllocError>
-        requires { KeepsOrder way kind }
-        ensures { IfOk result (λ found. IsListing nat_cmp (IsLinked self.now.links kind way n) found.items) }
+    // What is listed of the concept, the numbers rising.
+    fn linked(&self, alloc: Global, n: ResNo, linked: Linked) -> Result<Vec<ResNo>, AllocError>
+        ensures { IfOk result (λ found. IsListing nat_cmp (IsLinked self.now.links linked n) found.items) }
     {
         let mut found = Vec::new(alloc);
-        for link in self.at(n) {
-            if let Some(m) = lead_by(kind, way, link, n) {
-                found.push(m)?;
+        for standing in self.at(n) {
+            let link = standing.link;
+            let way = way_to(linked, link.kind);
+            if let Some(m) = lead(way, &link, n) {
+                list_in(&mut found, m)?;
             }
         }
         Ok(found)
     }
 
-    /// The concepts that are broader than this one in its own scheme, their numbers rising.
+    /// The concepts that are broader than this one in its own scheme, by a link of whatever type, their numbers rising.
     pub fn broader_of(&self, alloc: Global, n: ResNo) -> Result<Vec<ResNo>, AllocError>
-        ensures { IfOk result (λ found. IsListing nat_cmp (λ b. HasLink self.now.links kinds.Broader n b) found.items) }
+        ensures { IfOk result (λ found. IsListing nat_cmp (λ b. HasBroader self.now.links n b) found.items) }
     {
-        self.linked(alloc, n, LinkKind::Broader, Direction::Forward)
+        self.linked(alloc, n, Linked::Broader)
     }
 
-    /// The concepts that are narrower than this one in its own scheme, their numbers rising.
+    /// The concepts that are narrower than this one in its own scheme, by a link of whatever type, their numbers rising.
     pub fn narrower_of(&self, alloc: Global, n: ResNo) -> Result<Vec<ResNo>, AllocError>
-        ensures { IfOk result (λ found. IsListing nat_cmp (λ a. HasLink self.now.links kinds.Broader a n) found.items) }
+        ensures { IfOk result (λ found. IsListing nat_cmp (λ a. HasBroader self.now.links a n) found.items) }
     {
-        self.linked(alloc, n, LinkKind::Broader, Direction::Backward)
+        self.linked(alloc, n, Linked::Narrower)
     }
 
     /// The concepts related to this one in its own scheme, their numbers rising.
     pub fn related_of(&self, alloc: Global, n: ResNo) -> Result<Vec<ResNo>, AllocError>
         ensures { IfOk result (λ found. IsListing nat_cmp (λ m. HasLink self.now.links kinds.Related n m ⊎ HasLink self.now.links kinds.Related m n) found.items) }
     {
-        self.linked(alloc, n, LinkKind::Related, Direction::Either)
+        self.linked(alloc, n, Linked::Related)
     }
 
     /// The collections that the resource is a member of, their numbers rising.
     pub fn collections_of(&self, alloc: Global, n: ResNo) -> Result<Vec<ResNo>, AllocError>
         ensures { IfOk result (λ found. IsListing nat_cmp (λ c. HasLink self.now.links kinds.Member c n) found.items) }
     {
-        self.linked(alloc, n, LinkKind::Member, Direction::Backward)
+        self.linked(alloc, n, Linked::Collections)
     }
 
-    /// The mappings of the concept as seen from it, in the order of their words, broad, close, exact, narrow and relMatch, and then by number.
+    /// The mappings of the concept as seen from it, ordered by their words and then by number.
     pub fn mapped(&self, alloc: Global, n: ResNo) -> Result<Vec<(LinkKind, ResNo)>, AllocError>
         ensures { IfOk result (λ found. IsListing mapping_cmp (IsMapping self.now.links n) found.items) }
     {
         let mut found = Vec::new(alloc);
-        for link in self.at(n) {
-            if let Some(mapping) = as_seen(link, n) {
+        for standing in self.at(n) {
+            if let Some(mapping) = as_seen(&standing.link, n) {
                 list_mapping(&mut found, mapping)?;
+            }
+        }
+        Ok(found)
+    }
+
+    /// The typed hierarchical links of the concept as seen from it, ordered by their words and then by number.
+    pub fn typed_of(&self, alloc: Global, n: ResNo) -> Result<Vec<(TypedKind, ResNo)>, AllocError>
+        ensures { IfOk result (λ found. IsListing typed_cmp (IsTyped self.now.links n) found.items) }
+    {
+        let mut found = Vec::new(alloc);
+        for standing in self.at(n) {
+            if let Some(typed) = as_typed(&standing.link, n) {
+                list_in(&mut found, typed)?;
             }
         }
         Ok(found)
@@ -189,11 +210,11 @@ impl Graph {
         if self.holds(&new) {
             return Ok(());
         }
-        make_room(&mut self.rows, self.alloc, new.a)?;
-        make_room(&mut self.rows, self.alloc, new.b)?;
+        self.rows.make_room(new.a)?;
+        self.rows.make_room(new.b)?;
         self.held.insert(new)?;
-        put(&mut self.rows, new.a, &new);
-        put(&mut self.rows, new.b, &new);
+        self.rows.insert(new.a, standing_of(&new, new.a));
+        self.rows.insert(new.b, standing_of(&new, new.b));
         Ok(())
     }
 
@@ -210,8 +231,8 @@ impl Graph {
         ensures { self.new ≡ record self.old { links = remove self.old.links link.now } }
     {
         if self.held.remove(link) {
-            take(&mut self.rows, link.a, link);
-            take(&mut self.rows, link.b, link);
+            self.rows.remove(link.a, &standing_of(link, link.a));
+            self.rows.remove(link.b, &standing_of(link, link.b));
         }
     }
 
@@ -231,8 +252,8 @@ impl Graph {
         ensures normal { AreNormal self.now }
     {
         let mut moved = Vec::new(self.alloc);
-        for link in self.at(source) {
-            if let Some(new) = self.merged(link, source, target) {
+        for standing in self.at(source) {
+            if let Some(new) = self.merged(&standing.link, source, target) {
                 moved.push(new)?;
             }
         }
@@ -267,7 +288,10 @@ impl Graph {
     fn last_at(&self, n: ResNo) -> Option<Link>
         ensures { MatchOption result ((l : Link) → HeldIn self.now.links l → EndsAt n l → ⊥) (λ l. HeldIn self.now.links l × EndsAt n l) }
     {
-        self.at(n).last().copied()
+        match self.at(n).last() {
+            Some(standing) => Some(standing.link),
+            None => None,
+        }
     }
 
     /// Takes all links of the node away.

@@ -9,7 +9,7 @@ pub mod links;
 pub mod mapped;
 pub mod nodes;
 pub mod relation;
-pub mod rows;
+pub mod side;
 pub mod sight;
 pub mod walk;
 pub mod whole;

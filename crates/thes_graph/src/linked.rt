@@ -1,25 +1,58 @@
-//! What links of one kind lead to.
-ghost use Rattle.std.specs.Prelude.{◌≡◌, MatchBool};
-ghost use Rattle.thes_graph.specs.Linked.{led_by};
+//! What the links of a concept within its scheme, and its memberships, lead to.
+ghost use Rattle.std.specs.Prelude.{◌≡◌, OnOk};
+ghost use Rattle.std.specs.BTreeSet.{insert_key};
+ghost use Rattle.std.specs.List.Sorted.{IsStrictlySortedBy};
+ghost use Rattle.thes_base.specs.Links as links;
+ghost use Rattle.thes_graph.specs.Linked.{way_listed};
 
-use crate::relation::lead;
-use thes_base::data::{Direction, Link, LinkKind};
-use thes_base::number::ResNo;
+use crate::relation::{Relation, way};
+use std::alloc::AllocError;
+use thes_base::data::{Direction, LinkForm, LinkKind};
 
-// Whether the kinds are one.
-fn is_kind(kind: LinkKind, other: LinkKind) -> bool
-    ensures { MatchBool result (kind ≡ other) (kind ≡ other → ⊥) }
-{
-    kind == other
+/// What is listed of a concept.
+#[derive(Clone, Copy)]
+pub enum Linked {
+    Broader,
+    Narrower,
+    Related,
+    Collections,
 }
 
-/// What the link, if it is of this kind, leads to from the node, taken this way.
-pub fn lead_by(kind: LinkKind, way: Direction, link: &Link, n: ResNo) -> Option<ResNo>
-    ensures { result ≡ led_by kind way n link.now }
+// What a link of this kind joins.
+fn form_of(kind: LinkKind) -> LinkForm
+    ensures { result ≡ links.form_of kind }
 {
-    if is_kind(link.kind, kind) {
-        lead(way, link, n)
-    } else {
-        None
+    match kind {
+        LinkKind::Broader | LinkKind::Related => LinkForm::Within,
+        LinkKind::BroaderGeneric | LinkKind::BroaderPartitive | LinkKind::BroaderInstantial => {
+            LinkForm::Within
+        }
+        LinkKind::Member => LinkForm::Membership,
+        _ => LinkForm::Mapping,
     }
+}
+
+/// Which way a link of this kind leads to what is listed.
+pub fn way_to(linked: Linked, kind: LinkKind) -> Direction
+    ensures { result ≡ way_listed linked kind }
+{
+    match (form_of(kind), linked) {
+        (LinkForm::Within, Linked::Broader) => way(Relation::Broader, kind),
+        (LinkForm::Within, Linked::Narrower) => way(Relation::Narrower, kind),
+        (LinkForm::Within, Linked::Related) => way(Relation::Related, kind),
+        (LinkForm::Membership, Linked::Collections) => Direction::Backward,
+        _ => Direction::Never,
+    }
+}
+
+/// Puts the value at its place in the list, unless it is there.
+pub fn list_in<T: Ord + Drop>(list: &mut Vec<T>, x: T) -> Result<(), AllocError>
+    requires { IsStrictlySortedBy T.cmp list.old.items }
+    ensures { OnOk result (list.new.items ≡ insert_key T.cmp list.old.items x) }
+{
+    match list.binary_search(&x) {
+        Ok(_) => {}
+        Err(place) => list.insert(place, x)?,
+    }
+    Ok(())
 }

@@ -1,27 +1,30 @@
-//! Mappings as seen from one of their ends.
+//! Mappings and typed hierarchical links as seen from one of their ends.
 ghost use Rattle.std.specs.Prelude.{◌≡◌, OnOk};
 ghost use Rattle.std.specs.BTreeSet.{insert_key};
 ghost use Rattle.std.specs.List.Sorted.{IsStrictlySortedBy};
-ghost use Rattle.thes_base.specs.Views.{mapping_cmp, word_place};
-ghost use Rattle.thes_graph.specs.Mapped.{as_seen_from};
+ghost use Rattle.thes_base.specs.Views.{mapping_cmp};
+ghost use Rattle.thes_graph.specs.Mapped.{word_place, as_seen_from, as_typed_from};
 
 use std::alloc::AllocError;
-use thes_base::data::{Link, LinkKind};
+use thes_base::data::{Link, LinkKind, TypedKind};
 use thes_base::number::ResNo;
 
-// Where the kind's word stands among those of mappings.
+// Where the kind's word stands among the words.
 fn place_of(kind: LinkKind) -> u8
     ensures { result ≡ word_place kind }
 {
     match kind {
         LinkKind::Broad => 1,
-        LinkKind::Close => 2,
-        LinkKind::Exact => 3,
-        LinkKind::Narrow => 4,
-        LinkKind::RelMatch => 5,
-        LinkKind::Broader => 6,
-        LinkKind::Related => 7,
+        LinkKind::Broader => 2,
+        LinkKind::BroaderGeneric => 3,
+        LinkKind::BroaderInstantial => 4,
+        LinkKind::BroaderPartitive => 5,
+        LinkKind::Close => 6,
+        LinkKind::Exact => 7,
         LinkKind::Member => 8,
+        LinkKind::Narrow => 9,
+        LinkKind::RelMatch => 10,
+        LinkKind::Related => 11,
     }
 }
 
@@ -44,6 +47,23 @@ pub fn as_seen(link: &Link, n: ResNo) -> Option<(LinkKind, ResNo)>
         LinkKind::Broad => Some((LinkKind::Narrow, other)),
         LinkKind::Narrow if forward => Some((LinkKind::Narrow, other)),
         LinkKind::Narrow => Some((LinkKind::Broad, other)),
+        _ => None,
+    }
+}
+
+/// The typed hierarchical link that a link at the node is, as seen from there, if it is one.
+pub fn as_typed(link: &Link, n: ResNo) -> Option<(TypedKind, ResNo)>
+    ensures { result ≡ as_typed_from n link.now }
+{
+    let forward = link.a == n;
+    let other = if forward { link.b } else { link.a };
+    match link.kind {
+        LinkKind::BroaderGeneric if forward => Some((TypedKind::BroaderGeneric, other)),
+        LinkKind::BroaderGeneric => Some((TypedKind::NarrowerGeneric, other)),
+        LinkKind::BroaderPartitive if forward => Some((TypedKind::BroaderPartitive, other)),
+        LinkKind::BroaderPartitive => Some((TypedKind::NarrowerPartitive, other)),
+        LinkKind::BroaderInstantial if forward => Some((TypedKind::BroaderInstantial, other)),
+        LinkKind::BroaderInstantial => Some((TypedKind::NarrowerInstantial, other)),
         _ => None,
     }
 }

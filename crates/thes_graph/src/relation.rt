@@ -1,6 +1,7 @@
 //! What links say of two nodes.
 ghost use Rattle.std.specs.Prelude.{◌≡◌};
-ghost use Rattle.thes_graph.specs.Steps.{way_of, step_in, step_along};
+ghost use Rattle.thes_base.specs.Links.{broader_way};
+ghost use Rattle.thes_graph.specs.Steps.{turned, way_of, step_in, step_along};
 
 use thes_base::data::{Direction, Link, LinkKind};
 use thes_base::number::ResNo;
@@ -15,15 +16,39 @@ pub enum Relation {
     Apart,
 }
 
+// Which way a link of this kind leads to a broader concept.
+fn way_up(kind: LinkKind) -> Direction
+    ensures { result ≡ broader_way kind }
+{
+    match kind {
+        LinkKind::Broader | LinkKind::Broad => Direction::Forward,
+        LinkKind::BroaderGeneric | LinkKind::BroaderPartitive | LinkKind::BroaderInstantial => {
+            Direction::Forward
+        }
+        LinkKind::Narrow => Direction::Backward,
+        _ => Direction::Never,
+    }
+}
+
+// The way back.
+fn turn(way: Direction) -> Direction
+    ensures { result ≡ turned way }
+{
+    match way {
+        Direction::Forward => Direction::Backward,
+        Direction::Backward => Direction::Forward,
+        Direction::Either => Direction::Either,
+        Direction::Never => Direction::Never,
+    }
+}
+
 /// Which way a link of this kind leads in the relation.
 pub fn way(relation: Relation, kind: LinkKind) -> Direction
     ensures { result ≡ way_of relation kind }
 {
     match (relation, kind) {
-        (Relation::Broader, LinkKind::Broader | LinkKind::Broad) => Direction::Forward,
-        (Relation::Broader, LinkKind::Narrow) => Direction::Backward,
-        (Relation::Narrower, LinkKind::Broader | LinkKind::Broad) => Direction::Backward,
-        (Relation::Narrower, LinkKind::Narrow) => Direction::Forward,
+        (Relation::Broader, kind) => way_up(kind),
+        (Relation::Narrower, kind) => turn(way_up(kind)),
         (Relation::Related, LinkKind::Related | LinkKind::RelMatch) => Direction::Either,
         (Relation::Exact, LinkKind::Exact) => Direction::Either,
         (Relation::Apart, LinkKind::Broad) => Direction::Forward,

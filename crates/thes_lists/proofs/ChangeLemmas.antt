@@ -1,11 +1,11 @@
 -- One list is written.
-use Rattle.std.proofs.Common.{◌≡◌, ◌≢◌, ◌<◌, ◌≤◌, inl, inr, ℕ, Bool, true, false, cond, List, [], Vec, Global, refl, sym, ap, subst, ◌∙◌, arith}
+use Rattle.std.proofs.Common.{◌≡◌, ◌≢◌, ◌<◌, ◌≤◌, inl, inr, ℕ, true, false, [], Vec, Global, refl, sym, ap, subst, ◌∙◌, arith}
 use Rattle.std.specs.Prelude.{Option, Some, None, vec_len}
 use Rattle.std.specs.Option.{is_some, IsSomeAnd, option_map_or}
 use Rattle.std.specs.Vec.{vec_capacity}
 use Rattle.std.specs.Cmp.{unsigned_tied}
 use Rattle.std.specs.Ordering.{nat_cmp}
-use Rattle.std.specs.BTreeMap.{is_at, get, UpdatesBy}
+use Rattle.std.specs.BTreeMap.{get, UpdatesBy}
 use Rattle.std.proofs.lemmas.Bool.{cases_eq}
 use borrow.Author.Tests.{ne_eqb}
 use Rattle.thes_lists.specs.declared.lists.Lists.{Lists}

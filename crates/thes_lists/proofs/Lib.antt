@@ -1,3 +1,5 @@
 pub mod ChangeLemmas
-pub mod OrderLemmas
 pub mod ListingLemmas
+pub mod MemberLemmas
+pub mod OrderLemmas
+pub mod TestLemmas

@@ -1,41 +1,16 @@
 -- Rising lists: a value put in or taken out, and where a search for it ends.
-use Rattle.std.proofs.Common.{◌≡◌, ◌≢◌, ◌+◌, ◌<◌, ◌≤◌, ◌⊎◌, inl, inr, ℕ, zero, suc, List, [], ◌∷◌, Bool, true, false, cond, length, get_or, Contains, Ordering, Less, Equal, Greater, refl, sym, ap, subst, ◌∙◌, arith}
-use Rattle.std.specs.List.{AllByRecursion, HoldsAt, insert, remove}
+use Rattle.std.proofs.Common.{◌≡◌, ◌+◌, ◌<◌, ◌≤◌, ◌⊎◌, inl, inr, ℕ, zero, suc, List, [], ◌∷◌, Bool, true, false, cond, length, get_or, Ordering, Less, Equal, Greater, refl, sym, ap, subst, ◌∙◌, arith}
+use Rattle.std.specs.List.{HoldsAt, insert, remove}
 use Rattle.std.specs.List.Sorted.{IsStrictlySortedBy, IsPartitionPoint, IsNonDecreasingBy}
 use Rattle.std.specs.Ordering.{is_eq, is_lt, match_ordering, ordering_reverse, ordering_index}
-use Rattle.std.specs.Cmp.{IsTotalOrder, tied_itself, Equal-is}
+use Rattle.std.specs.Cmp.{IsTotalOrder, tied_itself}
 use Rattle.std.specs.BTreeMap.{is_at}
 use Rattle.std.specs.BTreeSet.{insert_key}
 use Rattle.std.specs.Set.{remove_key}
 use Rattle.std.proofs.lemmas.Map.Keys.{sorted_head, sorted_tail, Less-from_sorted}
 use Rattle.std.proofs.lemmas.List.Sorted.{searchable_from_sorted}
-use Rattle.std.proofs.lemmas.List.Elements.{All-from_recursion, recursion_from_All, All-contains}
 use Rattle.std.proofs.lemmas.List.{get_or_default}
-
-module _ {A : Type 0} where
-  -- what a list has, by recursion
-  abbrev pub Has : List A → A → Type 0
-  Has [] x = ⊥
-  Has (k ∷ ks) x = (k ≡ x) ⊎ Has ks x
-
-  pub Has-from : (ks : List A) (x : A) → Contains ks x → Has ks x
-  Has-from [] x (i, l, e) = absurd (omega arith)
-  Has-from (k ∷ ks) x (zero, l, e) = inl e
-  Has-from (k ∷ ks) x (suc i, l, e) = inr (Has-from ks x (i, omega arith, e))
-
-  pub Contains-from : (ks : List A) (x : A) → Has ks x → Contains ks x
-  Contains-from [] x has = absurd has
-  Contains-from (k ∷ ks) x (inl same) = (0, omega arith, same)
-  Contains-from (k ∷ ks) x (inr later) = let c = Contains-from ks x later in (suc c.0, (let l = c.1 in omega arith), c.2)
-
-  pub all_from_has : (P : A → Type 0) (ks : List A) → ((x : A) → Has ks x → P x) → AllByRecursion P ks
-  all_from_has P [] each = tt
-  all_from_has P (k ∷ ks) each = (each k (inl refl), all_from_has P ks (λ x has. each x (inr has)))
-
-  pub has_from_all : (P : A → Type 0) (ks : List A) (x : A) → AllByRecursion P ks → Has ks x → P x
-  has_from_all P [] x all has = absurd has
-  has_from_all P (k ∷ ks) x all (inl same) = subst P same all.0
-  has_from_all P (k ∷ ks) x all (inr later) = has_from_all P ks x all.1 later
+use Rattle.thes_lists.proofs.MemberLemmas.{Has, Has-from, all_from_has, has_from_all}
 
 module _ {A : Type 0} (c : A → A → Ordering) where
   pub sorted_cons : (k : A) (ks : List A) → ((x : A) → Has ks x → c k x ≡ Less) → IsStrictlySortedBy c ks → IsStrictlySortedBy c (k ∷ ks)

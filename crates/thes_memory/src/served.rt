@@ -57,7 +57,7 @@ static ANSWERS: &str = r#"{"ok":1}
 {"done":true}
 {"done":true}
 {"moved":1}
-{"alt":[["en","Cats"],["en","Felidae"],["en","Felines"]],"broader":[],"collections":[],"hidden":[],"live":true,"mappings":[["broad",5]],"narrower":[],"number":3,"postings":2,"pref":[["en","Mammals"]],"related":[],"replaced":null,"scheme":1,"scope":[],"top":true}
+{"alt":[["en","Cats"],["en","Felidae"],["en","Felines"]],"broader":[],"collections":[],"hidden":[],"live":true,"mappings":[["broad",5]],"narrower":[],"number":3,"postings":2,"pref":[["en","Mammals"]],"related":[],"replaced":null,"scheme":1,"scope":[],"top":true,"typed":[]}
 {"postings":[[1,"k1","r1"]]}
 {"first":2,"key":"k4","moves":[[2,2,3]],"number":4,"place":3,"record":"r4","withdrawn":false}
 {"accepted":4,"standing":3,"withdrawn":1}
@@ -110,7 +110,7 @@ fn is_kept(alloc: Global, written: &str) -> Result<bool, AllocError> {
     Ok(again.as_slice() == answers.as_bytes())
 }
 
-// Whether a script that met want of memory ended as it should: with each request answered, or with the one that closed the store.
+// Whether a script that ran out of memory ended as it should: with each request answered, or with the one that closed the store.
 fn is_ended(written: &str, ended: &Result<Ended, PipeFault>) -> bool {
     match ended {
         Ok(ended) => {

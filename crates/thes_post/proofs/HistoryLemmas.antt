@@ -2,6 +2,8 @@
 use Rattle.std.proofs.Common.{◌≡◌, ◌<◌, ◌≤◌, ℕ, zero, suc, ◌+◌, ◌-◌, length, List, [], ◌∷◌, ◌++◌, refl, sym, ap, ◌∙◌, subst, arith, inl, inr, ⊎_elim, Bool, true, false, cond, ◌||◌, eqb, eqb-true, ne_eqb, take, get_or, length-append}
 use borrow.Author.Tests.{eqb-false, eq-eqb}
 use Rattle.std.proofs.Math.Bool.{or-false}
+use Rattle.std.proofs.lemmas.Bool.{cases_Bool}
+use Rattle.std.specs.List.{AllByRecursion}
 use Rattle.std.proofs.Math.Seq.{take-append_seam}
 use Rattle.std.proofs.lemmas.List.{take_more, length-take-le}
 use Rattle.std.proofs.lemmas.Option.{slice_get-get_or, get_or_from_slice_get}
@@ -14,8 +16,33 @@ use Rattle.thes_base.specs.Refusals.{EachListed}
 use Rattle.thes_post.specs.Indexed.{AreNumberedFrom}
 use Rattle.thes_post.specs.Moved.{unmoved, unmoved_those}
 use Rattle.thes_post.specs.Rising.{RisesFrom}
-use Rattle.thes_post.proofs.RisingLemmas.{decided, has, RisesTo, rises_to, each_at}
-use Rattle.thes_post.proofs.StandingLemmas.{EachHistory, each_map, moved_agree, numbers_above, not_listed}
+use Rattle.thes_post.proofs.RisingLemmas.{has, RisesTo, rises_to, each_at}
+
+-- what each history has
+abbrev pub EachHistory : (History → Type 0) → List History → Type 0
+EachHistory P hs = AllByRecursion P hs
+
+pub each_map : (P Q : History → Type 0) → ((h : History) → P h → Q h) → (hs : List History) → EachHistory P hs → EachHistory Q hs
+each_map P Q f [] all = tt
+each_map P Q f (h ∷ hs) all = (f h all.0, each_map P Q f hs all.1)
+
+-- numbers from here on are above
+pub numbers_above : (first : ℕ) (hs : List History) → AreNumberedFrom first hs → EachHistory (λ h. first ≤ h.number) hs
+numbers_above first [] n = tt
+numbers_above first (h ∷ hs) n = (let e = n.0 in omega arith, each_map (λ g. first + 1 ≤ g.number) (λ g. first ≤ g.number) (λ g l. omega arith) hs (numbers_above (first + 1) hs n.1))
+
+-- tests that agree on each history
+module _ (p q : History → Bool) where
+  pub moved_agree : (target number : ℕ) (hs : List History) → EachHistory (λ h. p h ≡ q h) hs → moved_those p target number hs ≡ moved_those q target number hs
+  moved_agree target number [] all = refl
+  moved_agree target number (h ∷ hs) all =
+      let more = moved_agree target (number + 1) hs all.1 in
+      let less = moved_agree target number hs all.1 in
+      λ i. cond (all.0 i) (moved number target h ∷ more i) (h ∷ less i)
+
+-- above all that are listed
+pub not_listed : (first : ℕ) (ns : List ℕ) (hs : List History) → AreNumberedFrom (first + 1) hs → EachHistory (λ h. is_listed (first ∷ ns) h ≡ is_listed ns h) hs
+not_listed first ns hs n = each_map (λ h. first + 1 ≤ h.number) (λ h. is_listed (first ∷ ns) h ≡ is_listed ns h) (λ h l. ap (λ b. b || is_listed ns h) (ne_eqb first h.number (omega arith))) hs (numbers_above (first + 1) hs n)
 
 -- the last move leads where the posting is
 pub led_last : (from : ℕ) (moves : List Move) (m : Move) → slice_get moves (length moves - 1) ≡ Some m → led from moves ≡ m.target
@@ -104,7 +131,7 @@ listed_end : (ns : List ℕ) (n : ℕ) (h : History) → is_listed ns h ≡ fals
 listed_end [] n h e apart = ap (λ b. b || false) apart
 listed_end (m ∷ ns) n h e apart = ⊎_elim
     (λ (hit : eqb m h.number ≡ true). absurd (let t : true ≡ false = sym (ap (λ b. b || is_listed ns h) hit) ∙ e in cc))
-    (λ (miss : eqb m h.number ≡ false). ap (λ b. b || is_listed (ns ++ n ∷ []) h) miss ∙ listed_end ns n h (sym (ap (λ b. b || is_listed ns h) miss) ∙ e) apart) (decided (eqb m h.number))
+    (λ (miss : eqb m h.number ≡ false). ap (λ b. b || is_listed (ns ++ n ∷ []) h) miss ∙ listed_end ns n h (sym (ap (λ b. b || is_listed ns h) miss) ∙ e) apart) (cases_Bool (eqb m h.number))
 
 pub moved_next : (target number first : ℕ) (ns : List ℕ) (hs : List History) (i n : ℕ) (h : History) → AreNumberedFrom first hs → n ≡ first + i → RisesTo first ns n → slice_get hs i ≡ Some h → MovesNext (is_listed ns) (is_listed (ns ++ n ∷ [])) target number (length ns) hs i h
 moved_next target number first ns [] i n h num at r e = absurd (cc)
@@ -121,7 +148,7 @@ moved_next target number first (m ∷ ns) (g ∷ hs) zero n h num at r e = absur
 moved_next target number first [] (g ∷ hs) (suc i) n h num at r e =
     let miss : is_listed (n ∷ []) g ≡ false = ap (λ b. b || false) (ne_eqb n g.number (let q = num.0 in omega arith)) in
     behind_kept (is_listed []) (is_listed (n ∷ [])) target g hs i h number 0 refl miss (moved_next target number (first + 1) [] hs i n h num.1 (let z : n ≡ first + 1 + i = omega arith in z) (omega arith) e)
-moved_next target number first (m ∷ ns) (g ∷ hs) (suc i) n h num at r e = elim (decided (eqb m g.number)) [
+moved_next target number first (m ∷ ns) (g ∷ hs) (suc i) n h num at r e = elim (cases_Bool (eqb m g.number)) [
   | inl hit ↦
       let here : m ≡ first = eqb-true m g.number hit ∙ num.0 in
       let rest = moved_next target (number + 1) (first + 1) ns hs i n h num.1 (let z : n ≡ first + 1 + i = omega arith in z) (subst (λ k. RisesTo (k + 1) ns n) here r.1) e in
@@ -155,7 +182,7 @@ unmoved_all ns target number (h ∷ hs) =
     ∙ (λ i. cond (hit i) (unmoved (moved number target h)) (moved number target h) ∷ more i) ∙ ap (λ g. g ∷ hs) (unmoved_moved number target h))
     (λ (miss : is_listed ns h ≡ false).
     ap (unmoved_those (is_listed ns)) (λ i. cond (miss i) (moved number target h ∷ moved_those (is_listed ns) target (number + 1) hs) (h ∷ moved_those (is_listed ns) target number hs))
-    ∙ (λ i. cond (miss i) (unmoved h) h ∷ less i)) (decided (is_listed ns h))
+    ∙ (λ i. cond (miss i) (unmoved h) h ∷ less i)) (cases_Bool (is_listed ns h))
 
 pub none_unmoved : (hs : List History) → unmoved_those (is_listed []) hs ≡ hs
 none_unmoved [] = refl

@@ -7,11 +7,9 @@ use Rattle.thes_base.specs.Postings.{place, stands_at}
 use Rattle.thes_base.specs.Rows.{accepted}
 use Rattle.thes_base.specs.Refusals.{EachOnce, EachListed, PostingPasses, unless_standing, unless_listed}
 use Rattle.thes_base.proofs.RowLemmas.{passed_unless}
-use Rattle.thes_post.proofs.RisingLemmas.{decided, not_true}
+use Rattle.std.proofs.lemmas.Bool.{cases_Bool, not-true}
+use Rattle.std.proofs.lemmas.Option.{same_Some}
 use Rattle.thes_post.proofs.RisingLemmas.{each_more, each_at}
-
-same_some : {A : Type 0} {x y : A} → Some x ≡ Some y → x ≡ y
-same_some e = cc
 
 -- A mark that is set where one of a list fails a test.
 module _ (hs : List History) (test : History → Bool) (ns : List ℕ) (i item : ℕ) (h : History) (mark fails : Bool) (inside : i < length ns) (is : item ≡ get_or ns i item) (at : numbered hs item ≡ Some h) (told : test h ≡ not fails) where
@@ -27,7 +25,7 @@ module _ (hs : List History) (test : History → Bool) (ns : List ℕ) (i item :
       second false b e = e
 
   pub passes_never : (mark ≡ true → EachListed (PostingPasses hs test) ns → ⊥) → (mark || fails) ≡ true → EachListed (PostingPasses hs test) ns → ⊥
-  passes_never so_far set all = ⊎_elim (λ (before : mark ≡ true). so_far before all) (λ (here : mark ≡ false). fails_here (ap (λ b. b || fails) (sym here) ∙ set)) (decided mark)
+  passes_never so_far set all = ⊎_elim (λ (before : mark ≡ true). so_far before all) (λ (here : mark ≡ false). fails_here (ap (λ b. b || fails) (sym here) ∙ set)) (cases_Bool mark)
     where
       fails_here : fails ≡ true → ⊥
       fails_here now =
@@ -42,12 +40,12 @@ pub passed_standing : (hs : List History) (n : ℕ) → unless_standing hs n acc
 passed_standing hs n row =
     let known = passed_unless row in
     let passes = (passed_unless known.1).0 in
-    (passes.0, passes.1, not_true passes.0.withdrawn passes.2)
+    (passes.0, passes.1, not-true passes.0.withdrawn passes.2)
 
 stands_listed : (hs : List History) (source : ℕ) (ns : List ℕ) → EachListed (PostingPasses hs (λ h. not h.withdrawn)) ns → EachListed (PostingPasses hs (λ h. eqb (place h) source)) ns → EachListed (PostingPasses hs (stands_at source)) ns
 stands_listed hs source [] stays here = tt
 stands_listed hs source (n ∷ ns) stays here =
-    let same : here.0.0 ≡ stays.0.0 = same_some (sym here.0.1 ∙ stays.0.1) in (
+    let same : here.0.0 ≡ stays.0.0 = same_Some here.0.0 stays.0.0 (sym here.0.1 ∙ stays.0.1) in (
       (stays.0.0, stays.0.1, (λ i. stays.0.2 i && (ap (λ (x : History). eqb (place x) source) (sym same) ∙ here.0.2) i)),
       stands_listed hs source ns stays.1 here.1,
     )

@@ -2,7 +2,6 @@ pub mod HistoryLemmas
 pub mod IndexLemmas
 pub mod JudgeLemmas
 pub mod KeyLemmas
-pub mod ListedLemmas
 pub mod OnceLemmas
 pub mod RisingLemmas
 pub mod StandingLemmas

@@ -5,9 +5,10 @@ use Rattle.std.specs.Prelude.{count_by}
 use Rattle.std.specs.List.Sorted.{IsPermutation, IsNonDecreasing}
 use Rattle.std.proofs.lemmas.List.Sums.{sum_by-cons}
 use Rattle.std.proofs.lemmas.List.Sorted.{sum_by-IsPermutation}
+use Rattle.std.proofs.lemmas.Bool.{cases_Bool}
 use Rattle.thes_base.specs.Refusals.{EachOnce}
 use Rattle.thes_post.specs.Rising.{RisesFrom}
-use Rattle.thes_post.proofs.RisingLemmas.{decided, as_number, has, has_below}
+use Rattle.thes_post.proofs.RisingLemmas.{as_number, has, has_below}
 
 abbrev pub times : ℕ → List ℕ → ℕ
 times n ns = count_by (λ m. eqb m n) ns
@@ -26,7 +27,7 @@ times_none n (m ∷ ns) e = ⊎_elim
     let rest = times_none n ns (sym (ap (λ b. b || has ns n) apart) ∙ e) in
     let here = ap {B = ℕ} (λ b. cond b 1 0) apart in
     let both = times_cons n m ns in
-    omega (arith, rest, here, both)) (decided (eqb m n))
+    omega (arith, rest, here, both)) (cases_Bool (eqb m n))
 
 times_some : (n : ℕ) (ns : List ℕ) → has ns n ≡ true → 1 ≤ times n ns
 times_some n [] e = absurd (cc)
@@ -35,7 +36,7 @@ times_some n (m ∷ ns) e = ⊎_elim
     (λ (apart : eqb m n ≡ false).
     let rest = times_some n ns (sym (ap (λ b. b || has ns n) apart) ∙ e) in
     let both = times_cons n m ns in
-    omega (arith, rest, both)) (decided (eqb m n))
+    omega (arith, rest, both)) (cases_Bool (eqb m n))
 
 once_times : (ns : List ℕ) → EachOnce ns → (n : ℕ) → times n ns ≤ 1
 once_times [] e n = omega arith
@@ -49,7 +50,7 @@ once_times (m ∷ ns) e n = ⊎_elim
     let rest = once_times ns e.1 n in
     let here = ap {B = ℕ} (λ b. cond b 1 0) apart in
     let both = times_cons n m ns in
-    omega (arith, rest, here, both)) (decided (eqb m n))
+    omega (arith, rest, here, both)) (cases_Bool (eqb m n))
 
 times_once : (ns : List ℕ) → ((n : ℕ) → times n ns ≤ 1) → EachOnce ns
 times_once [] f = tt
@@ -61,7 +62,7 @@ times_once (m ∷ ns) f = (
       let both = times_cons m m ns in
       let most = f m in
       absurd (omega (arith, some, here, both, most)))
-      (λ (none : has ns m ≡ false). none) (decided (has ns m)),
+      (λ (none : has ns m ≡ false). none) (cases_Bool (has ns m)),
   times_once ns (λ n. let both = times_cons n m ns in let most = f n in omega (arith, both, most)),
 )
 
@@ -89,7 +90,7 @@ rises_of_once least (n ∷ ns) low up e = (
         apart (x ∷ ms) zero m f = λ same. let t : eqb x n ≡ true = ap (λ y. eqb y n) same ∙ eq-eqb n n refl in let u : true ≡ false = sym (ap (λ b. b || has ms n) t) ∙ f in absurd (cc)
         apart (x ∷ ms) (suc j) m f = apart ms j (omega arith) (⊎_elim
             (λ (t : eqb x n ≡ true). let u : true ≡ false = sym (ap (λ b. b || has ms n) t) ∙ f in absurd (cc))
-            (λ (t : eqb x n ≡ false). sym (ap (λ b. b || has ms n) t) ∙ f) (decided (eqb x n)))
+            (λ (t : eqb x n ≡ false). sym (ap (λ b. b || has ms n) t) ∙ f) (cases_Bool (eqb x n)))
 
 pub rises_sorted : (ms ns : List ℕ) → IsPermutation ms ns → IsNonDecreasing ns → EachOnce ms → RisesFrom 0 ns
 rises_sorted ms ns p up e = rises_of_once 0 ns (λ k l. omega arith) up (once_permutation ms ns p e)

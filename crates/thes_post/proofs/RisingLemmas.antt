@@ -1,23 +1,25 @@
 -- Rising lists of numbers.
-use Rattle.std.proofs.Common.{◌≡◌, ◌≢◌, ◌⊎◌, ◌<◌, ◌≤◌, ℕ, zero, suc, ◌+◌, ◌-◌, length, List, [], ◌∷◌, ◌++◌, refl, sym, ap, ◌∙◌, subst, arith, inl, inr, ⊎_elim, Bool, true, false, cond, not, ◌||◌, eqb, eqb-true, ne_eqb, ltb, get_or, take, drop, append_assoc}
+use Rattle.std.proofs.Common.{◌≡◌, ◌≢◌, ◌⊎◌, ◌<◌, ◌≤◌, ℕ, zero, suc, ◌+◌, ◌-◌, length, List, [], ◌∷◌, ◌++◌, refl, sym, ap, ◌∙◌, subst, arith, inl, inr, ⊎_elim, Bool, true, false, cond, not, ◌||◌, eqb, eqb-true, ne_eqb, ltb, get_or, take, drop, append_assoc, Less}
 use Rattle.std.proofs.lemmas.List.{append-nil, length-drop}
-use Rattle.std.proofs.lemmas.List.Elements.{filter_more}
+use Rattle.std.proofs.lemmas.List.Elements.{filter_more, All-from_get_or}
+use Rattle.std.proofs.lemmas.List.Folds.{list_any_at, list_any_none}
 use Rattle.std.proofs.Math.ListN.{drop_of_length-le}
-use borrow.Author.Tests.{eqb-false, eq-eqb}
-use Rattle.std.proofs.Math.Bool.{or-true}
-use Rattle.std.proofs.lemmas.Bool.{ltb-true, lt-ltb}
+use borrow.Author.Tests.{ltb-false, eq-eqb}
+use Rattle.std.proofs.lemmas.Bool.{cases_Bool, cases_eq, cases_lt, or_right, ltb-true}
 use Rattle.std.specs.Prelude.{Result, Ok, Err, MatchResult}
 use Rattle.std.specs.Result.{is_err}
 use Rattle.std.specs.Ordering.{nat_cmp}
-use Rattle.std.specs.List.{list_any, remove}
-use Rattle.std.specs.List.Sorted.{IsPermutation, IsNonDecreasing, IsBinarySearchResult}
+use Rattle.std.specs.Cmp.{nat_cmp_is}
+use Rattle.std.specs.List.{list_any}
+use Rattle.std.specs.List.Sorted.{IsPermutation, IsNonDecreasing, IsStrictlySortedBy, IsBinarySearchResult}
 use Rattle.std.proofs.lemmas.List.Sorted.{list_any-IsPermutation, searched}
+use Rattle.std.proofs.lemmas.Map.Keys.{sorted_tail, below_from_sorted}
 use Rattle.thes_base.specs.Refusals.{EachListed}
+use Rattle.thes_base.specs.Listing.{IsListing}
+use Rattle.thes_lists.proofs.MemberLemmas.{Has, Has-from, Contains-from}
+use Rattle.thes_lists.proofs.OrderLemmas.{sorted_none, sorted_cons}
+use Rattle.thes_lists.proofs.ListingLemmas.{listing_as, listing_filter}
 use Rattle.thes_post.specs.Rising.{RisesFrom, merged, merged_into, without}
-
-pub decided : (b : Bool) → (b ≡ true) ⊎ (b ≡ false)
-decided true = inl refl
-decided false = inr refl
 
 abbrev pub as_number : Bool → ℕ
 as_number b = cond b 1 0
@@ -37,36 +39,34 @@ has_below least n (m ∷ ns) l r =
     let q = r.0 in
     ap (λ b. b || has ns n) (ne_eqb m n (omega arith)) ∙ has_below (m + 1) n ns (omega arith) r.1
 
+-- the test says what the list has
+
+pub in_has : (ns : List ℕ) (n : ℕ) → has ns n ≡ true → Has ns n
+in_has [] n e = absurd (cc)
+in_has (m ∷ ns) n e = elim (cases_Bool (eqb m n)) [
+  | inl hit ↦ inl (eqb-true m n hit)
+  | inr miss ↦ inr (in_has ns n (sym (ap (λ b. b || has ns n) miss) ∙ e))
+]
+
+pub has_in : (ns : List ℕ) (n : ℕ) → Has ns n → has ns n ≡ true
+has_in [] n in_ns = absurd in_ns
+has_in (m ∷ ns) n (inl same) = ap (λ b. b || has ns n) (eq-eqb m n same)
+has_in (m ∷ ns) n (inr later) = or_right (eqb m n) (has ns n) (has_in ns n later)
+
 -- a number that is listed has what each number listed has
 pub has_of_each : (P : ℕ → Type 0) (ls : List ℕ) → EachListed P ls → (n : ℕ) → has ls n ≡ true → P n
 has_of_each P [] each n e = absurd (cc)
 has_of_each P (l ∷ ls) each n e = ⊎_elim (λ (same : eqb l n ≡ true). subst P (eqb-true l n same) each.0)
-    (λ (apart : eqb l n ≡ false). has_of_each P ls each.1 n (sym (ap (λ b. b || has ls n) apart) ∙ e)) (decided (eqb l n))
+    (λ (apart : eqb l n ≡ false). has_of_each P ls each.1 n (sym (ap (λ b. b || has ls n) apart) ∙ e)) (cases_Bool (eqb l n))
 
 -- and the other way
 pub each_of_has : (P : ℕ → Type 0) (ls : List ℕ) → ((n : ℕ) → has ls n ≡ true → P n) → EachListed P ls
 each_of_has P [] f = tt
-each_of_has P (l ∷ ls) f = (f l (ap (λ b. b || has ls l) (eq-eqb l l refl)), each_of_has P ls (λ n e. f n (either (eqb l n) (has ls n) e)))
-  where
-    either : (a b : Bool) → b ≡ true → (a || b) ≡ true
-    either true b e = refl
-    either false b e = e
+each_of_has P (l ∷ ls) f = (f l (ap (λ b. b || has ls l) (eq-eqb l l refl)), each_of_has P ls (λ n e. f n (or_right (eqb l n) (has ls n) e)))
 
 -- what each number listed has, each has in any order
 pub each_permutation : (P : ℕ → Type 0) (ms ns : List ℕ) → IsPermutation ms ns → EachListed P ms → EachListed P ns
 each_permutation P ms ns p all = each_of_has P ns (λ n e. has_of_each P ms all n (list_any-IsPermutation (λ m. eqb m n) ms ns p ∙ e))
-
--- Two rising lists as one.
-
-pub merged_first : (x : ℕ) (xs ys : List ℕ) → RisesFrom (x + 1) ys → merged (x ∷ xs) ys ≡ x ∷ merged xs ys
-merged_first x xs [] r = refl
-merged_first x xs (y ∷ ys) r = ⊎_elim
-    (λ (less : ltb y x ≡ true). absurd (let l = ltb-true y x less in let q = r.0 in omega (arith, l, q)))
-    (λ (more : ltb y x ≡ false). ap (λ b. cond b (y ∷ merged_into x (merged xs) ys) (x ∷ merged xs (y ∷ ys))) more) (decided (ltb y x))
-
-pub merged_second : (xs ys : List ℕ) (y : ℕ) → RisesFrom (y + 1) xs → merged xs (y ∷ ys) ≡ y ∷ merged xs ys
-merged_second [] ys y r = refl
-merged_second (x ∷ xs) ys y r = let q = r.0 in ap (λ b. cond b (y ∷ merged_into x (merged xs) ys) (x ∷ merged xs (y ∷ ys))) (lt-ltb y x (omega arith))
 
 -- Places of a list.
 
@@ -124,31 +124,19 @@ joined_second list xs ys i j l =
 
 -- Searches.
 
-has_at : (ns : List ℕ) (i n : ℕ) → i < length ns → get_or ns i 0 ≡ n → has ns n ≡ true
-has_at [] i n l e = absurd (omega arith)
-has_at (m ∷ ns) zero n l e = ap (λ b. b || has ns n) (eq-eqb m n e)
-has_at (m ∷ ns) (suc i) n l e = (λ j. eqb m n || has_at ns i n (omega arith) e j) ∙ or-true (eqb m n)
-
-has_none : (ns : List ℕ) (n : ℕ) → ((k : ℕ) → k < length ns → get_or ns k 0 ≢ n) → has ns n ≡ false
-has_none [] n f = refl
-has_none (m ∷ ns) n f = ap (λ b. b || has ns n) (ne_eqb m n (f 0 (omega arith))) ∙ has_none ns n (λ k l. f (suc k) (omega arith))
-
-pub below_or_not : (i k : ℕ) → (i ≤ k) ⊎ (k < i)
-below_or_not zero k = inl (omega arith)
-below_or_not (suc i) zero = inr (omega arith)
-below_or_not (suc i) (suc k) = elim (below_or_not i k) [ inl l ↦ inl (omega arith) | inr l ↦ inr (omega arith) ]
-
 -- what a binary search found is there, and else nothing is
 pub has_searched : (ns : List ℕ) (n : ℕ) (r : Result ℕ ℕ) → IsBinarySearchResult (λ y. nat_cmp y n) ns r → IsNonDecreasing ns → not (has ns n) ≡ is_err r
 has_searched ns n r position up = cases r (searched ns n r position (λ i j l m. up i j 0 l m))
   where
     cases : (r : Result ℕ ℕ) → MatchResult r (λ i. (i < length ns) × (get_or ns i 0 ≡ n)) (λ i. (i ≤ length ns) × ((k : ℕ) → k < i → get_or ns k 0 < n) × ((k : ℕ) → i ≤ k → k < length ns → n < get_or ns k 0)) → not (has ns n) ≡ is_err r
-    cases (Ok i) found = ap not (has_at ns i n found.0 found.1)
-    cases (Err i) none = ap not (has_none ns n (λ k l e. apart k l e (below_or_not i k)))
+    cases (Ok i) found = ap not (list_any_at (λ m. eqb m n) ns i 0 found.0 (eq-eqb (get_or ns i 0) n found.1))
+    cases (Err i) none = ap not (list_any_none (λ m. eqb m n) ns (All-from_get_or (λ m. eqb m n ≡ false) ns 0 (λ k l. ne_eqb (get_or ns k 0) n (apart k l))))
       where
-        apart : (k : ℕ) → k < length ns → get_or ns k 0 ≡ n → (i ≤ k) ⊎ (k < i) → ⊥
-        apart k l e (inl after) = let q = none.2 k after l in absurd (omega (arith, q, e))
-        apart k l e (inr before) = let q = none.1 k before in absurd (omega (arith, q, e))
+        apart : (k : ℕ) → k < length ns → get_or ns k 0 ≢ n
+        apart k l e = elim (cases_lt k i) [
+          | inl before ↦ let q = none.1 k before in absurd (omega (arith, q, e))
+          | inr after ↦ let q = none.2 k after l in absurd (omega (arith, q, e))
+        ]
 
 -- one number more
 pub without_more : (ns others : List ℕ) (i item : ℕ) → i < length ns → item ≡ get_or ns i item → without (take (i + 1) ns) others ≡ without (take i ns) others ++ cond (not (has others item)) (item ∷ []) []
@@ -159,48 +147,94 @@ without_more ns others i item l is =
 pub tail_whole : (ns : List ℕ) (i : ℕ) → take (length ns - i) (drop i ns) ≡ drop i ns
 tail_whole ns i = take_whole (length ns - i) (drop i ns) (let q = length-drop i ns in omega (arith, q))
 
--- One number less.
+-- Rising lists as lists in strict order.
 
--- each number of a rising list is above what it rises from
-rises_above : (m : ℕ) (ns : List ℕ) (i d : ℕ) → RisesFrom (m + 1) ns → i < length ns → m < get_or ns i d
-rises_above m [] i d r l = absurd (omega arith)
-rises_above m (x ∷ ns) zero d r l = let q = r.0 in omega arith
-rises_above m (x ∷ ns) (suc i) d r l = let q = r.0 in let h = rises_above x ns i d r.1 (omega arith) in omega arith
+less_is : (m n : ℕ) → m < n → nat_cmp m n ≡ Less
+less_is m n l = sym (nat_cmp_is m n Less l)
 
-without_none : (least n : ℕ) (ns : List ℕ) → RisesFrom least ns → n < least → without ns (n ∷ []) ≡ ns
-without_none least n [] r l = refl
-without_none least n (m ∷ ns) r l =
-    let q = r.0 in
-    (λ k. cond (not (ne_eqb n m (omega arith) k || false)) (m ∷ without ns (n ∷ [])) (without ns (n ∷ []))) ∙ ap (λ l. m ∷ l) (without_none (m + 1) n ns r.1 (omega arith))
+pub rises_above : (least : ℕ) (ns : List ℕ) (n : ℕ) → RisesFrom least ns → Has ns n → least ≤ n
+rises_above least [] n r in_ns = absurd in_ns
+rises_above least (m ∷ ns) n r (inl same) = let q = r.0 in omega (arith, q, same)
+rises_above least (m ∷ ns) n r (inr later) = let q = r.0 in let above = rises_above (m + 1) ns n r.1 later in omega (arith, q, above)
 
--- the number at a place of a rising list stands at no other
-pub remove_listed : (least n : ℕ) (ns : List ℕ) (i : ℕ) → RisesFrom least ns → i < length ns → get_or ns i 0 ≡ n → remove ns i ≡ without ns (n ∷ [])
-remove_listed least n [] i r l e = absurd (omega arith)
-remove_listed least n (m ∷ ns) zero r l e =
-    sym ((λ k. cond (not (eq-eqb n m (sym e) k || false)) (m ∷ without ns (n ∷ [])) (without ns (n ∷ []))) ∙ without_none (m + 1) n ns r.1 (let q = e in omega arith))
-remove_listed least n (m ∷ ns) (suc i) r l e =
-    let low : m < n = subst (λ k. m < k) e (rises_above m ns i 0 r.1 (omega arith)) in
-    ap (λ l. m ∷ l) (remove_listed (m + 1) n ns i r.1 (omega arith) e)
-    ∙ (λ k. cond (not (sym (ne_eqb n m (omega arith)) k || false)) (m ∷ without ns (n ∷ [])) (without ns (n ∷ [])))
+pub sorted_of_rises : (least : ℕ) (ns : List ℕ) → RisesFrom least ns → IsStrictlySortedBy nat_cmp ns
+sorted_of_rises least [] r = sorted_none nat_cmp
+sorted_of_rises least (n ∷ ns) r = sorted_cons nat_cmp n ns (λ m in_ns. less_is n m (let above = rises_above (n + 1) ns m r.1 in_ns in omega (arith, above))) (sorted_of_rises (n + 1) ns r.1)
 
-pub without_absent : (n : ℕ) (ns : List ℕ) → has ns n ≡ false → without ns (n ∷ []) ≡ ns
-without_absent n [] e = refl
-without_absent n (m ∷ ns) e = ⊎_elim
-    (λ (hit : eqb m n ≡ true). absurd (let t : true ≡ false = sym (ap (λ b. b || has ns n) hit) ∙ e in cc))
-    (λ (miss : eqb m n ≡ false).
-    (λ k. cond (not (ne_eqb n m (λ q. eqb-false m n miss (sym q)) k || false)) (m ∷ without ns (n ∷ [])) (without ns (n ∷ [])))
-    ∙ ap (λ l. m ∷ l) (without_absent n ns (sym (ap (λ b. b || has ns n) miss) ∙ e))) (decided (eqb m n))
+pub rises_of_sorted : (least : ℕ) (ns : List ℕ) → IsStrictlySortedBy nat_cmp ns → ((k : ℕ) → k < length ns → least ≤ get_or ns k 0) → RisesFrom least ns
+rises_of_sorted least [] sorted low = tt
+rises_of_sorted least (n ∷ ns) sorted low = (
+  low 0 (omega arith),
+  rises_of_sorted (n + 1) ns (sorted_tail nat_cmp n ns sorted) (λ k l. let above = below_from_sorted (n ∷ ns) 0 (suc k) 0 sorted (omega arith) (omega arith) in omega (arith, above)),
+)
 
-pub in_order_of_rises : (least : ℕ) (ns : List ℕ) → RisesFrom least ns → IsNonDecreasing ns
-in_order_of_rises least [] r = λ i j d l m. absurd (omega arith)
-in_order_of_rises least (n ∷ ns) r = λ i j d l m. order n ns i j d r.1 l m (in_order_of_rises (n + 1) ns r.1)
+-- Two rising lists that share no number, as one.
+
+merged_cases : (xs ys : List ℕ) (n : ℕ) → Has (merged xs ys) n → Has xs n ⊎ Has ys n
+merged_cases [] ys n in_all = inr in_all
+merged_cases (x ∷ xs) ys n in_all = into ys (λ zs h. merged_cases xs zs n h) in_all
   where
-    order : (n : ℕ) (ns : List ℕ) (i j d : ℕ) → RisesFrom (n + 1) ns → i ≤ j → j < length (n ∷ ns) → IsNonDecreasing ns → get_or (n ∷ ns) i d ≤ get_or (n ∷ ns) j d
-    order n ns zero zero d r l m up = omega arith
-    order n ns zero (suc j) d r l m up = let h = rises_above n ns j d r (omega arith) in omega arith
-    order n ns (suc i) zero d r l m up = absurd (omega arith)
-    order n ns (suc i) (suc j) d r l m up = up i j d (omega arith) (omega arith)
+    into : (zs : List ℕ) → ((zs : List ℕ) → Has (merged xs zs) n → Has xs n ⊎ Has zs n) → Has (merged_into x (merged xs) zs) n → Has (x ∷ xs) n ⊎ Has zs n
+    into [] later (inl here) = inl (inl here)
+    into [] later (inr h) = elim (later [] h) [ inl in_xs ↦ inl (inr in_xs) | inr none ↦ absurd none ]
+    into (z ∷ zs) later h = go (ltb z x) h (into zs later)
+      where
+        go : (b : Bool) → Has (cond b (z ∷ merged_into x (merged xs) zs) (x ∷ merged xs (z ∷ zs))) n → (Has (merged_into x (merged xs) zs) n → Has (x ∷ xs) n ⊎ Has zs n) → Has (x ∷ xs) n ⊎ Has (z ∷ zs) n
+        go true (inl here) rest = inr (inl here)
+        go true (inr h) rest = elim (rest h) [ inl one ↦ inl one | inr two ↦ inr (inr two) ]
+        go false (inl here) rest = inl (inl here)
+        go false (inr h) rest = elim (later (z ∷ zs) h) [ inl in_xs ↦ inl (inr in_xs) | inr two ↦ inr two ]
 
-pub not_true : (b : Bool) → not b ≡ true → b ≡ false
-not_true true e = sym e
-not_true false e = refl
+merged_keeps : (xs ys : List ℕ) (n : ℕ) → Has xs n ⊎ Has ys n → Has (merged xs ys) n
+merged_keeps [] ys n (inl none) = absurd none
+merged_keeps [] ys n (inr in_ys) = in_ys
+merged_keeps (x ∷ xs) ys n either = into ys (λ zs h. merged_keeps xs zs n h) either
+  where
+    into : (zs : List ℕ) → ((zs : List ℕ) → Has xs n ⊎ Has zs n → Has (merged xs zs) n) → Has (x ∷ xs) n ⊎ Has zs n → Has (merged_into x (merged xs) zs) n
+    into [] later (inl (inl here)) = inl here
+    into [] later (inl (inr in_xs)) = inr (later [] (inl in_xs))
+    into [] later (inr none) = absurd none
+    into (z ∷ zs) later h = go (ltb z x) h (into zs later)
+      where
+        go : (b : Bool) → Has (x ∷ xs) n ⊎ Has (z ∷ zs) n → (Has (x ∷ xs) n ⊎ Has zs n → Has (merged_into x (merged xs) zs) n) → Has (cond b (z ∷ merged_into x (merged xs) zs) (x ∷ merged xs (z ∷ zs))) n
+        go true (inl one) rest = inr (rest (inl one))
+        go true (inr (inl here)) rest = inl here
+        go true (inr (inr two)) rest = inr (rest (inr two))
+        go false (inl (inl here)) rest = inl here
+        go false (inl (inr in_xs)) rest = inr (later (z ∷ zs) (inl in_xs))
+        go false (inr two) rest = inr (later (z ∷ zs) (inr two))
+
+merged_rises : (least : ℕ) (xs ys : List ℕ) → RisesFrom least xs → RisesFrom least ys → ((n : ℕ) → Has xs n → Has ys n → ⊥) → RisesFrom least (merged xs ys)
+merged_rises least [] ys rx ry apart = ry
+merged_rises least (x ∷ xs) ys rx ry apart = into least ys rx.0 ry (λ e. apart x (inl refl) e) (λ zs rz none. merged_rises (x + 1) xs zs rx.1 rz none) (λ n h. apart n (inr h))
+  where
+    into : (least : ℕ) (zs : List ℕ) → least ≤ x → RisesFrom least zs → (Has zs x → ⊥) → ((zs : List ℕ) → RisesFrom (x + 1) zs → ((n : ℕ) → Has xs n → Has zs n → ⊥) → RisesFrom (x + 1) (merged xs zs)) → ((n : ℕ) → Has xs n → Has zs n → ⊥) → RisesFrom least (merged_into x (merged xs) zs)
+    into least [] low rz off later none = (low, later [] tt none)
+    into least (z ∷ zs) low rz off later none = elim (cases_Bool (ltb z x)) [
+      | inl less ↦
+          let below : z < x = ltb-true z x less in
+          subst (RisesFrom least) (ap (λ b. cond b (z ∷ merged_into x (merged xs) zs) (x ∷ merged xs (z ∷ zs))) (sym less))
+          (rz.0, into (z + 1) zs (omega (arith, below)) rz.1 (λ h. off (inr h)) later (λ n h k. none n h (inr k)))
+      | inr more ↦
+          let not_below = ltb-false z x more in
+          subst (RisesFrom least) (ap (λ b. cond b (z ∷ merged_into x (merged xs) zs) (x ∷ merged xs (z ∷ zs))) (sym more))
+          (low, later (z ∷ zs) (above (cases_eq z x) not_below, rz.1) none)
+    ]
+      where
+        above : (z ≡ x) ⊎ (z ≢ x) → x ≤ z → x + 1 ≤ z
+        above (inl same) at_least = absurd (off (inl same))
+        above (inr differ) at_least = omega (arith, at_least, differ)
+
+pub listing_merged : (P Q : ℕ → Type 0) (xs ys : List ℕ) → IsListing nat_cmp P xs → IsListing nat_cmp Q ys → ((n : ℕ) → P n → Q n → ⊥) → IsListing nat_cmp (λ n. P n ⊎ Q n) (merged xs ys)
+listing_merged P Q xs ys is_xs is_ys apart = record {
+  rises = sorted_of_rises 0 (merged xs ys) (merged_rises 0 xs ys (rises_of_sorted 0 xs is_xs.rises (λ k l. omega arith)) (rises_of_sorted 0 ys is_ys.rises (λ k l. omega arith)) (λ n h k. apart n (is_xs.sound n (Contains-from xs n h)) (is_ys.sound n (Contains-from ys n k))));
+  sound = λ n h. elim (merged_cases xs ys n (Has-from (merged xs ys) n h)) [ inl in_xs ↦ inl (is_xs.sound n (Contains-from xs n in_xs)) | inr in_ys ↦ inr (is_ys.sound n (Contains-from ys n in_ys)) ];
+  complete = λ n p. Contains-from (merged xs ys) n (merged_keeps xs ys n (elim p [ inl of_xs ↦ inl (Has-from xs n (is_xs.complete n of_xs)) | inr of_ys ↦ inr (Has-from ys n (is_ys.complete n of_ys)) ]));
+}
+
+pub listing_without : (P : ℕ → Type 0) (ns others : List ℕ) → IsListing nat_cmp P ns → IsListing nat_cmp (λ n. P n × (Has others n → ⊥)) (without ns others)
+listing_without P ns others is =
+    listing_as nat_cmp (λ n. P n × (not (has others n) ≡ true)) (λ n. P n × (Has others n → ⊥)) (without ns others)
+    (λ n p. (p.0, λ in_others. (let e : not (has others n) ≡ false = ap not (has_in others n in_others) in cc)))
+    (λ n p. (p.0, elim (cases_Bool (has others n)) [ inl hit ↦ absurd (p.1 (in_has others n hit)) | inr miss ↦ ap not miss ]))
+    (listing_filter nat_cmp P (λ n. not (has others n)) ns is)

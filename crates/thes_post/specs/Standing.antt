@@ -1,30 +1,23 @@
 -- The postings that stand at a concept, by their numbers.
-use Rattle.std.specs.Prelude.{◌≡◌, ◌<◌, ◌==◌, ℕ, List, [], map, filter, if◌then◌else◌, IsSome, vec_len}
-use Rattle.std.specs.Option.{IsSomeAnd}
-use Rattle.std.specs.Vec.{vec_capacity}
-use Rattle.std.specs.Option.{option_map_or}
-use Rattle.std.specs.Ordering.{nat_cmp}
-use Rattle.std.specs.BTreeMap.{get}
+use Rattle.std.specs.Prelude.{◌≡◌, ℕ, List, length, map, filter}
 use Rattle.thes_base.specs.declared.data.History.{History}
-use Rattle.thes_base.specs.Postings.{stands_at}
-use Rattle.thes_post.specs.declared.standing.Standing.{Standing}
+use Rattle.thes_base.specs.Postings.{stands_at, standing_count}
+use Rattle.thes_base.specs.Changes.{histories_merged, histories_split}
+use Rattle.thes_post.specs.Rising.{RisesFrom}
+use Rattle.thes_base.specs.Refusals.{EachListed, PostingPasses}
 
 -- the numbers of the postings that stand at the concept, in the order of the histories
 abbrev pub standing_numbers : ℕ → List History → List ℕ
 standing_numbers concept histories = map (λ h. h.number) (filter (stands_at concept) histories)
 
--- the list that the index has of a concept
-abbrev pub listed_at : Standing → ℕ → List ℕ
-listed_at standing concept = option_map_or (λ v. v.items) (get nat_cmp standing.lists concept) []
+-- the number of a posting that stands at the concept
+abbrev pub StandsAt : List History → ℕ → ℕ → Type 0
+StandsAt histories concept n = PostingPasses histories (stands_at concept) n
 
--- the index has a list of the concept
-abbrev pub HasList : Standing → ℕ → Type 0
-HasList standing concept = IsSome (get nat_cmp standing.lists concept)
-
--- with room for one number more
-abbrev pub HasRoom : Standing → ℕ → Type 0
-HasRoom standing concept = IsSomeAnd (get nat_cmp standing.lists concept) (λ v. vec_len v < vec_capacity v)
-
--- the concept's list alone has changed, to this one
-abbrev pub Lists : Standing → Standing → ℕ → List ℕ → Type 0
-Lists old new concept numbers = (c : ℕ) → listed_at new c ≡ (if concept == c then numbers else listed_at old c)
+-- a list of all that stand at the concept, in order
+pub record ListsStanding (histories : List History) (concept : ℕ) (postings : List ℕ) : Type 0 where
+  pub rises : RisesFrom 0 postings
+  pub standing : EachListed (StandsAt histories concept) postings
+  pub counted : length postings ≡ standing_count concept histories
+  -- to move those listed is to move those that stand there
+  pub moves : (target : ℕ) → histories_split postings target histories ≡ histories_merged concept target histories

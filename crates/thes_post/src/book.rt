@@ -6,13 +6,13 @@ ghost use Rattle.thes_base.specs.Resources.{numbered};
 ghost use Rattle.thes_base.specs.Postings.{place, stands_at, standing_count, withdrawn_count, move_count};
 ghost use Rattle.thes_base.specs.Changes.{histories_posted, histories_withdrawn, histories_merged, histories_split};
 ghost use Rattle.thes_base.specs.Rows.{accepted};
-ghost use Rattle.thes_base.specs.Refusals.{IsOfKey, EachListed, PostingPasses, unless_listed, unless_standing};
+ghost use Rattle.thes_base.specs.Refusals.{IsOfKey, EachListed, unless_listed, unless_standing};
 ghost use Rattle.thes_post.specs.Known.{IsKnownAs};
 ghost use Rattle.thes_post.specs.Rising.{RisesFrom};
+ghost use Rattle.thes_post.specs.Standing.{StandsAt, ListsStanding};
 
 use crate::histories::{history_at, judge_moving, judge_standing, place_of, push_moves_in};
 use crate::rising::{difference, is_rising, joined, sorted};
-use crate::standing::Standing;
 use std::alloc::{AllocError, Global};
 use std::collections::BTreeMap;
 use std::marker::Model;
@@ -20,16 +20,15 @@ use thes_base::data::{History, Known, Moves, Totals};
 use thes_base::fault::Refusal;
 use thes_base::number::{PostNo, ResNo};
 use thes_base::text::{Key, RecordName};
-
-#[cfg(test)]
-mod tests;
+use thes_lists::Lists;
 
 /// The histories of all postings, in the order in which they were accepted.
 #[derive(Drop)]
 pub struct Book {
     histories: Vec<History>,
     numbers: BTreeMap<Key, PostNo>,
-    standing: Standing,
+    // The numbers of the postings that stand at each concept.
+    standing: Lists<PostNo>,
     withdrawn: u32,
     moves: u32,
 }
@@ -41,13 +40,12 @@ impl Model for Book {
     ghost use Rattle.std.specs.Ordering.{nat_cmp};
     ghost use Rattle.thes_base.specs.declared.data.History.{History};
     ghost use Rattle.thes_post.specs.Indexed.{IsIndexed};
-    ghost use Rattle.thes_post.specs.Standing.{listed_at};
 
     ghost Value = { List History };
 
     ghost view = { λ a. a.histories.items };
 
-    ghost invariant = { λ a. IsIndexed a.histories.items (get (slice_cmp nat_cmp) a.numbers) (listed_at a.standing) a.withdrawn a.moves };
+    ghost invariant = { λ a. IsIndexed a.histories.items (get (slice_cmp nat_cmp) a.numbers) a.standing a.withdrawn a.moves };
 }
 
 impl Book {
@@ -58,7 +56,7 @@ impl Book {
         Book {
             histories: Vec::new(alloc),
             numbers: BTreeMap::new(alloc),
-            standing: Standing::new(alloc),
+            standing: Lists::new(alloc),
             withdrawn: 0,
             moves: 0,
         }
@@ -123,9 +121,9 @@ impl Book {
             withdrawn: false,
         };
         self.histories.try_reserve(1)?;
-        self.standing.reserve(alloc, concept)?;
+        self.standing.make_room(concept)?;
         self.numbers.insert(key.try_clone(alloc)?, number)?;
-        self.standing.push(concept, number);
+        self.standing.insert(concept, number);
         self.histories.push(history).unwrap();
         Ok(number)
     }
@@ -138,7 +136,7 @@ impl Book {
         let history = &mut self.histories[number.get() as usize - 1];
         history.withdrawn = true;
         let concept = place_of(history);
-        self.standing.remove(concept, number);
+        self.standing.remove(concept, &number);
         self.withdrawn += 1;
     }
 
@@ -151,9 +149,8 @@ impl Book {
         ensures err { OnErr result (self.new ≡ self.old) }
     {
         let alloc = *self.histories.allocator();
-        let mut moving = Vec::new(alloc);
-        moving.extend_from_slice(self.standing.at(source))?;
-        self.move_rising(source, target, moving.as_slice())
+        let moving = self.standing_list(alloc, source)?;
+        self.move_rising(source, target, moving)
     }
 
     /// Moves the postings listed from the source to the target, and says how many. Their moves are numbered in the order of the postings' numbers.
@@ -172,7 +169,16 @@ impl Book {
     {
         let alloc = *self.histories.allocator();
         let moving = sorted(alloc, postings)?;
-        self.move_rising(source, target, moving.as_slice())
+        self.move_rising(source, target, moving)
+    }
+
+    // The numbers of the postings that stand at a concept, in a list of their own.
+    fn standing_list(&self, alloc: Global, concept: ResNo) -> Result<Vec<PostNo>, AllocError>
+        ensures { IfOk result (λ v. ListsStanding self.now concept v.items) }
+    {
+        let mut list = Vec::new(alloc);
+        list.extend_from_slice(self.standing.at(concept))?;
+        Ok(list)
     }
 
     // Moves postings that stand at the source, listed in order.
@@ -180,30 +186,27 @@ impl Book {
         &mut self,
         source: ResNo,
         target: ResNo,
-        moving: &[PostNo],
+        moving: Vec<PostNo>,
     ) -> Result<u32, AllocError>
-        requires rising { RisesFrom 0 moving.now }
-        requires standing { EachListed (PostingPasses self.old (stands_at source)) moving.now }
+        requires rising { RisesFrom 0 moving.items }
+        requires standing { EachListed (StandsAt self.old source) moving.items }
         requires apart { source ≢ target }
-        requires fits { move_count self.old + length moving.now < 2 ^ 32 }
-        ensures count { IfOk result (λ k. k ≡ length moving.now) }
-        ensures ok { OnOk result (self.new ≡ histories_split moving.now target self.old) }
+        requires fits { move_count self.old + length moving.items < 2 ^ 32 }
+        ensures count { IfOk result (λ k. k ≡ length moving.items) }
+        ensures ok { OnOk result (self.new ≡ histories_split moving.items target self.old) }
         ensures err { OnErr result (self.new ≡ self.old) }
     {
         let alloc = *self.histories.allocator();
-        let stay = difference(alloc, self.standing.at(source), moving)?;
-        let there = joined(alloc, self.standing.at(target), moving)?;
-        self.standing.open(alloc, source)?;
-        self.standing.open(alloc, target)?;
-        push_moves_in(
-            &mut self.histories,
-            moving,
-            target,
-            u64::from(self.moves) + 1,
-        )?;
-        self.standing.put(source, stay);
-        self.standing.put(target, there);
-        let count = moving.len() as u32;
+        let numbers = moving.as_slice();
+        let stay = difference(alloc, self.standing.at(source), numbers)?;
+        let there = joined(alloc, self.standing.at(target), numbers)?;
+        self.standing.open(source)?;
+        self.standing.open(target)?;
+        let first = u64::from(self.moves) + 1;
+        push_moves_in(&mut self.histories, numbers, target, first)?;
+        self.standing.replace(source, stay);
+        self.standing.replace(target, there);
+        let count = numbers.len() as u32;
         self.moves += count;
         Ok(count)
     }

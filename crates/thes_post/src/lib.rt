@@ -4,4 +4,3 @@
 pub mod book;
 mod histories;
 mod rising;
-mod standing;

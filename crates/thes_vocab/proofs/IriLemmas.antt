@@ -12,6 +12,7 @@ use Rattle.std.specs.FinMap as dict
 use Rattle.std.proofs.lemmas.Cmp.{nat_list_cmp_total}
 use Rattle.std.proofs.lemmas.Map.Lookups.{exact_unsigned, exact_bytes}
 use Rattle.thes_base.specs.Resources.{Iris}
+use Rattle.std.proofs.lemmas.Option.{none-some, same_Some}
 use Rattle.thes_vocab.specs.Numbered.{iris_in, AreTied}
 use Rattle.thes_vocab.proofs.NameLemmas.{IsSet, same_or_not}
 
@@ -30,19 +31,13 @@ pub got : (m : BTreeMap ℕ (List ℕ)) (n : ℕ) → dict.get (iris_in m.entrie
 got m n = dict.get-from_entries nat_cmp_total m.entries n ∙ find_is m.entries n
 
 pub number_found : (iris : Iris) (numbers : Numbers) (iri : List ℕ) (o : Option ℕ) → AreTied iris numbers → o ≡ get iri_cmp numbers iri → MatchOption o ((n : ℕ) → dict.get iris n ≢ Some iri) (λ n. dict.get iris n ≡ Some iri)
-number_found iris numbers iri None tied e = λ n has. let at = tied.number n iri has in never (e ∙ at)
-  where
-    never : {A : Type 0} {x : A} → None ≡ Some x → ⊥
-    never e = cc
+number_found iris numbers iri None tied e = λ n has. let at = tied.number n iri has in none-some _ (e ∙ at)
 number_found iris numbers iri (Some n) tied e = tied.iri n iri (sym e)
 
 pub inserted : (old new : BTreeMap ℕ (List ℕ)) (n : ℕ) (iri : List ℕ) → Updates nat_cmp old new n (Some iri) → iris_in new.entries ≡ dict.insert (iris_in old.entries) n iri
 inserted old new n iri u = dict.same_map nat_cmp_total dict.nat_cmp-IsAntisymmetric _ _ (λ q.
     got new q ∙ u.0 q ∙ ap (λ b. cond b (Some iri) (get nat_cmp old q)) ((eq_by_cmp_equiv nat_cmp_total).symm n q)
     ∙ sym (dict.get-insert nat_cmp_total (iris_in old.entries) n iri q ∙ ap (cond (eq_by_cmp nat_cmp q n) (Some iri)) (got old q)))
-
-same_some : {A : Type 0} {x y : A} → Some x ≡ Some y → x ≡ y
-same_some e = cc
 
 module _ (iris : Iris) (numbers more : Numbers) (n : ℕ) (iri : List ℕ) (tied : AreTied iris numbers) (set : IsSet iri_cmp numbers more iri (Some n)) (free : (m : ℕ) → dict.get iris m ≢ Some iri) where
   other_iri : (m : ℕ) (i : List ℕ) → dict.get iris m ≡ Some i → i ≡ iri → ⊥
@@ -59,7 +54,7 @@ module _ (iris : Iris) (numbers more : Numbers) (n : ℕ) (iri : List ℕ) (tied
       cases m i e = go (eq_by_cmp nat_cmp m n) refl (sym (dict.get-insert nat_cmp_total iris n iri m) ∙ e)
         where
           go : (b : Bool) → eq_by_cmp nat_cmp m n ≡ b → cond b (Some iri) (dict.get iris m) ≡ Some i → ((m ≡ n) × (i ≡ iri)) ⊎ (dict.get iris m ≡ Some i)
-          go true tie f = inl (exact_unsigned m n ((Equal-is (nat_cmp m n)).0 tie), sym (same_some f))
+          go true tie f = inl (exact_unsigned m n ((Equal-is (nat_cmp m n)).0 tie), sym (same_Some _ _ f))
           go false tie f = inr f
 
       number_at : (m : ℕ) (i : List ℕ) → ((m ≡ n) × (i ≡ iri)) ⊎ (dict.get iris m ≡ Some i) → get iri_cmp more i ≡ Some m
@@ -73,10 +68,7 @@ module _ (iris : Iris) (numbers more : Numbers) (n : ℕ) (iri : List ℕ) (tied
       kept m i has = go (eq_by_cmp nat_cmp m n) refl
         where
           absent : m ≡ n → ⊥
-          absent same = let f = ap (dict.get iris) (sym same) ∙ has in never (sym none ∙ f)
-            where
-              never : None ≡ Some i → ⊥
-              never e = cc
+          absent same = let f = ap (dict.get iris) (sym same) ∙ has in none-some _ (sym none ∙ f)
 
           go : (b : Bool) → eq_by_cmp nat_cmp m n ≡ b → dict.get (dict.insert iris n iri) m ≡ Some i
           go true tie = absurd (absent (exact_unsigned m n ((Equal-is (nat_cmp m n)).0 tie)))
@@ -84,7 +76,7 @@ module _ (iris : Iris) (numbers more : Numbers) (n : ℕ) (iri : List ℕ) (tied
 
       iri_at : (m : ℕ) (i : List ℕ) → get iri_cmp more i ≡ Some m → (i ≡ iri) ⊎ (i ≡ iri → ⊥) → dict.get (dict.insert iris n iri) m ≡ Some i
       iri_at m i e (inl same) =
-          let here = same_some (sym set.at ∙ ap (get iri_cmp more) (sym same) ∙ e) in
+          let here = same_Some _ _ (sym set.at ∙ ap (get iri_cmp more) (sym same) ∙ e) in
           ap (dict.get (dict.insert iris n iri)) (sym here) ∙ put_at ∙ ap Some (sym same)
       iri_at m i e (inr apart) = kept m i (tied.iri m i (sym (set.others i apart) ∙ e))
 
@@ -96,20 +88,11 @@ module _ (iris : Iris) (numbers more : Numbers) (n : ℕ) (iri : List ℕ) (tied
   }
     where
       iri_at : (m : ℕ) (i : List ℕ) → get iri_cmp back i ≡ Some m → (i ≡ iri) ⊎ (i ≡ iri → ⊥) → dict.get iris m ≡ Some i
-      iri_at m i e (inl same) = absurd (never (sym unset.at ∙ ap (get iri_cmp back) (sym same) ∙ e))
-        where
-          never : None ≡ Some m → ⊥
-          never e = cc
+      iri_at m i e (inl same) = absurd (none-some _ (sym unset.at ∙ ap (get iri_cmp back) (sym same) ∙ e))
       iri_at m i e (inr apart) = tied.iri m i (sym (set.others i apart) ∙ sym (unset.others i apart) ∙ e)
 
 pub none_tied : (iris : Iris) (numbers : Numbers) → ((n : ℕ) → dict.get iris n ≡ None) → ((i : List ℕ) → get iri_cmp numbers i ≡ None) → AreTied iris numbers
-none_tied iris numbers none no_number = record { number = λ n i e. absurd (never (sym (none n) ∙ e)); iri = λ n i e. absurd (gone (sym (no_number i) ∙ e)) }
-  where
-    never : {x : List ℕ} → None ≡ Some x → ⊥
-    never e = cc
-
-    gone : {n : ℕ} → None ≡ Some n → ⊥
-    gone e = cc
+none_tied iris numbers none no_number = record { number = λ n i e. absurd (none-some _ (sym (none n) ∙ e)); iri = λ n i e. absurd (none-some _ (sym (no_number i) ∙ e)) }
 
 pub empty_get : (m : BTreeMap ℕ (List ℕ)) → m.entries ≡ [] → (n : ℕ) → dict.get (iris_in m.entries) n ≡ None
 empty_get m e n = got m n ∙ ap (lookup (is_at (nat_cmp n))) e

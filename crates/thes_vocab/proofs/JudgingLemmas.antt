@@ -31,6 +31,7 @@ use Rattle.thes_base.proofs.ConditionLemmas.{owner_exists}
 use Rattle.thes_base.proofs.NumberedLemmas.{numbered_bound}
 use Rattle.thes_base.proofs.LabelsKept.{removed_cases, removed_kept}
 use Rattle.thes_base.proofs.ResourceLemmas.{same_or_not, left_true, right_true, both_true}
+use Rattle.std.proofs.lemmas.Option.{same_Some}
 use Rattle.thes_vocab.specs.Vocabulary.{IsHolder}
 use Rattle.thes_vocab.specs.Rivals.{HasRival, HasTwoPreferred, Clashes}
 
@@ -69,15 +70,12 @@ find_none p (l ∷ ls) e q hit held = elim (or_cases _ _ held) [
   | inr later ↦ find_none p ls (none_step p l ls e).1 q hit later
 ]
 
-some_same : {A : Type 0} {x y : A} → Some x ≡ Some y → x ≡ y
-some_same e = cc
-
 find_some : (p : Label → Bool) (ls : List Label) (f : Label) → find p ls ≡ Some f → (p f ≡ true) × (list_any (eq_by_cmp label_cmp f) ls ≡ true)
 find_some p [] f e = absurd (cc)
 find_some p (l ∷ ls) f e = go (find_some p ls f) (p l) refl
   where
     go : (find p ls ≡ Some f → (p f ≡ true) × (list_any (eq_by_cmp label_cmp f) ls ≡ true)) → (b : Bool) → p l ≡ b → (p f ≡ true) × (list_any (eq_by_cmp label_cmp f) (l ∷ ls) ≡ true)
-    go later true hit = let same = some_same (sym (find_step p l ls true hit) ∙ e) in (ap p (sym same) ∙ hit, or_left _ _ (ties f l (sym same)))
+    go later true hit = let same = same_Some _ _ (sym (find_step p l ls true hit) ∙ e) in (ap p (sym same) ∙ hit, or_left _ _ (ties f l (sym same)))
     go later false miss = let found = later (sym (find_step p l ls false miss) ∙ e) in (found.0, or_right (eq_by_cmp label_cmp f l) _ found.1)
 
 is_pref : (k : LabelKind) → (label_kind_no k == 1) ≡ true → k ≡ Pref
@@ -107,7 +105,7 @@ module _ (labels : Labels) (owner : ℕ) (tag : List ℕ) where
           let found = find_some (is_preferred_in owner tag) (set.items labels) l is in
           let held = set.contains-items labels l ∙ found.1 in
           let same = tested_preferred owner tag l found.0 in
-          subst (λ (x : Label). set.contains labels x ≡ true) (same ∙ ap (label owner Pref tag) (some_same f)) held
+          subst (λ (x : Label). set.contains labels x ≡ true) (same ∙ ap (label owner Pref tag) (same_Some _ _ f)) held
 
   -- what a look-up answers is the preferred label
   pub preferred_is : S14 labels → (o : Option (List ℕ)) → MatchOption o ((text : List ℕ) → HasLabel labels owner Pref tag text → ⊥) (HasLabel labels owner Pref tag) → o ≡ preferred_in labels owner tag
@@ -209,18 +207,6 @@ leaves_of_two labels l two = elim (same_label (label l.owner Pref two.first_tag 
   | inl same ↦ inr (two.second_tag, two.second_text, two.second, λ e. two.apart (same ∙ sym e))
   | inr apart ↦ inr (two.first_tag, two.first_text, two.first, apart)
 ]
-
-pub two_of_leaves : (labels : Labels) (l : Label) → set.contains labels l ≡ true → l.kind ≡ Pref → LeavesPreferred labels l → HasTwoPreferred labels l.owner
-two_of_leaves labels l held is (inl other) = absurd (other is)
-two_of_leaves labels l held is (inr (tag, text, has, apart)) = record {
-  first_tag = tag;
-  first_text = text;
-  second_tag = l.tag;
-  second_text = l.text;
-  first = has;
-  second = subst (λ k. HasLabel labels l.owner k l.tag l.text) is held;
-  apart = λ e. apart (e ∙ (λ i. label l.owner (sym is i) l.tag l.text));
-}
 
 -- Another name in place of the old one.
 
@@ -411,4 +397,4 @@ module _ (rs : List Resource) (labels : Labels) (legal : LegalLabels rs labels) 
   row_taken taken = inr (known, inr (is_scheme, inl (taken_breaks rs labels scheme (concept_resource (Some scheme)) tag text refl refl taken, refl)))
 
   pub row_free : (IsTaken rs labels scheme tag text → ⊥) → RowOfConcept None
-  row_free none = inr (known, inr (is_scheme, inr (made_unique rs labels (concept_resource (Some scheme)) tag text (owners_bound rs labels legal) legal.unique (λ s live e taken. none (subst (λ k. IsTaken rs labels k tag text) (sym (some_same e)) taken)), refl)))
+  row_free none = inr (known, inr (is_scheme, inr (made_unique rs labels (concept_resource (Some scheme)) tag text (owners_bound rs labels legal) legal.unique (λ s live e taken. none (subst (λ k. IsTaken rs labels k tag text) (sym (same_Some _ _ e)) taken)), refl)))

@@ -32,6 +32,7 @@ use Rattle.thes_base.proofs.NumberedLemmas.{push_old, push_new, push_cases, numb
 use Rattle.thes_base.proofs.ResourceLemmas.{same_or_not, one_resource, concept_of_live, live_of_live}
 use Rattle.thes_base.proofs.MergedLabels.{labels_merged}
 use Rattle.thes_base.specs.Listing.{IsListing}
+use Rattle.std.proofs.lemmas.Option.{same_Some}
 use Rattle.thes_vocab.specs.declared.names.Names.{Names}
 use Rattle.thes_lists.specs.declared.lists.Lists.{Lists}
 use Rattle.thes_lists.specs.Lists as lists
@@ -43,7 +44,7 @@ use Rattle.thes_vocab.specs.Listed.{IsAdded, IsRemoved}
 use Rattle.thes_vocab.specs.Requests.{IsNamed, IsFree}
 use Rattle.thes_vocab.specs.Kept.{IsKept}
 use Rattle.thes_vocab.proofs.NameLemmas.{same_or_not as same_key}
-use Rattle.thes_vocab.proofs.ListedLemmas.{same_some, scheme_at, concept_cases, listed_made, listed_dead}
+use Rattle.thes_vocab.proofs.ListedLemmas.{scheme_at, concept_cases, listed_made, listed_dead}
 use Rattle.thes_vocab.proofs.TakenLemmas.{preferred_stays}
 use Rattle.thes_vocab.proofs.TableLemmas.{put_back}
 use Rattle.thes_vocab.proofs.JudgingLemmas.{owners_bound, relabelled_is, renamed_breaks_s13, renamed_cases, renamed_fresh, renamed_old}
@@ -84,7 +85,7 @@ moved rs labels s scheme n t tag x text same h = subst (λ (p : ℕ × (List ℕ
 
 -- the scheme of a concept
 one_scheme : (rs : List Resource) (n s t : ℕ) → IsConceptOf rs s n → scheme_of rs n ≡ Some t → t ≡ s
-one_scheme rs n s t at e = same_some (sym e ∙ at.1)
+one_scheme rs n s t at e = same_Some _ _ (sym e ∙ at.1)
 
 -- One label more.
 module _ (rs : List Resource) (labels : Labels) (l : Label) (old : Names) (finds : Finds rs labels old) (unique : UniquePreferred rs (set.insert labels l)) where
@@ -225,7 +226,7 @@ module _ (rs : List Resource) (labels : Labels) (r : Resource) (tag text : List 
       | inl was ↦
           let held = old_only n t x (exists_apart s n was) h.1 in
           finds_before s n t x (was, held)
-      | inr (at, is) ↦ found_put old new scheme tag text next put s n t x (λ _. at) (λ apart. absurd (let m = named at in apart (same_some (sym is.1 ∙ concept.1), m.0, m.1)))
+      | inr (at, is) ↦ found_put old new scheme tag text next put s n t x (λ _. at) (λ apart. absurd (let m = named at in apart (same_Some _ _ (sym is.1 ∙ concept.1), m.0, m.1)))
     ]
       where
         named : n ≡ next → (t ≡ tag) × (x ≡ text)
@@ -303,7 +304,7 @@ kept_dead base rs iris labels names old new n replaced r kept at live fit remove
 
     fits : (o : Option ℕ) → IsReplacement rs n o → (m : ℕ) → o ≡ Some m → (m ≢ n) × IsConcept rs m × IsLive rs m × (scheme_of rs m ≡ r.scheme)
     fits None h m e = absurd (cc)
-    fits (Some k) h m e = subst (λ j. (j ≢ n) × IsConcept rs j × IsLive rs j × (scheme_of rs j ≡ r.scheme)) (same_some e) (h.0, concept_of_live rs k h.1, live_of_live rs k h.1, h.2 ∙ scheme_at rs n r at)
+    fits (Some k) h m e = subst (λ j. (j ≢ n) × IsConcept rs j × IsLive rs j × (scheme_of rs j ≡ r.scheme)) (same_Some _ _ e) (h.0, concept_of_live rs k h.1, live_of_live rs k h.1, h.2 ∙ scheme_at rs n r at)
 
 -- By the scheme of an owner, if it is a live concept.
 
@@ -435,7 +436,7 @@ kept_same base rs iris labels old new was is kept same listed = record {
 -- a concept whose name nothing refuses is free to have it
 pub free_concept : (rs : List Resource) (labels : Labels) (scheme : ℕ) (tag text : List ℕ) → unless_scheme rs scheme (unless_unique (rs ++ concept_resource (Some scheme) ∷ []) (set.insert labels (label (length rs + 1) Pref tag text)) accepted) None → IsFree rs labels (concept_resource (Some scheme)) tag text
 free_concept rs labels scheme tag text row s is taken =
-    taken_breaks rs labels scheme (concept_resource (Some scheme)) tag text refl refl (subst (λ k. IsTaken rs labels k tag text) (sym (same_some is.1)) taken) (passed_unless (passed_unless (passed_unless row).1).1).0
+    taken_breaks rs labels scheme (concept_resource (Some scheme)) tag text refl refl (subst (λ k. IsTaken rs labels k tag text) (sym (same_Some _ _ is.1)) taken) (passed_unless (passed_unless (passed_unless row).1).1).0
 
 -- Nothing at all.
 pub kept_empty : (base : List ℕ) (names : Names) (concepts : Lists ℕ) → ((s : ℕ) → listed_at concepts s ≡ []) → IsKept base [] dict.empty set.empty names concepts

@@ -1,4 +1,3 @@
-mod OrderLemmas
 mod OwnLemmas
 mod TableLemmas
 mod AnswerLemmas

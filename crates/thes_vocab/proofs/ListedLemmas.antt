@@ -14,11 +14,9 @@ use Rattle.thes_base.proofs.NumberedLemmas.{push_old, push_new, push_cases, numb
 use Rattle.thes_lists.specs.declared.lists.Lists.{Lists}
 use Rattle.thes_lists.specs.Lists.{AreListings}
 use Rattle.thes_lists.proofs.ListingLemmas.{listings_same, listings_insert, listings_remove}
+use Rattle.std.proofs.lemmas.Option.{same_Some}
 use Rattle.thes_vocab.specs.Vocabulary.{IsConceptIn, IsConceptOf}
 use Rattle.thes_vocab.specs.Listed.{IsAdded, IsRemoved}
-
-pub same_some : {A : Type 0} {x y : A} → Some x ≡ Some y → x ≡ y
-same_some e = cc
 
 pub scheme_at : (rs : List Resource) (n : ℕ) (r : Resource) → numbered rs n ≡ Some r → scheme_of rs n ≡ r.scheme
 scheme_at rs n r e = ap (option_and_then (λ (x : Resource). x.scheme)) e
@@ -48,7 +46,7 @@ module _ (rs : List Resource) (r : Resource) (old new : Lists ℕ) where
       (λ s n c. elim (concept_cases rs r s n c) [ inl was ↦ was | inr is ↦ absurd (none s is.1) ]) listed
   listed_made (Some scheme) is changes listed =
       listings_insert nat_cmp nat_cmp_total exact_unsigned (IsConceptOf rs) (IsConceptOf grown) old new scheme (length rs + 1) listed changes (concept_comes scheme is) concept_stays
-      (λ s n c. elim (concept_cases rs r s n c) [ inl was ↦ inl was | inr made ↦ inr (same_some (sym made.1.1 ∙ is.1), made.0) ])
+      (λ s n c. elim (concept_cases rs r s n c) [ inl was ↦ inl was | inr made ↦ inr (same_Some _ _ (sym made.1.1 ∙ is.1), made.0) ])
 
 -- One dead: it leaves its scheme's list.
 module _ (rs : List Resource) (n : ℕ) (replaced : Option ℕ) (r : Resource) (at : numbered rs n ≡ Some r) (old new : Lists ℕ) where
@@ -74,5 +72,5 @@ module _ (rs : List Resource) (n : ℕ) (replaced : Option ℕ) (r : Resource) (
       (λ s m c. (concept_before s m c).0) listed
   listed_dead (Some scheme) is changes listed =
       listings_remove nat_cmp nat_cmp_total exact_unsigned (IsConceptOf rs) (IsConceptOf bereft) old new scheme n listed changes (λ c. (concept_before scheme n c).1 refl)
-      (λ s m c. elim (concept_after s m c) [ inl stays ↦ inl stays | inr here ↦ inr (same_some (sym here.0 ∙ is), here.1) ])
+      (λ s m c. elim (concept_after s m c) [ inl stays ↦ inl stays | inr here ↦ inr (same_Some _ _ (sym here.0 ∙ is), here.1) ])
       (λ s m c. (concept_before s m c).0)

@@ -1,17 +1,23 @@
 -- The labels of one owner: where one stands, and what is had after one comes or goes.
-use Rattle.std.proofs.Common.{◌≡◌, ◌≢◌, ◌⊎◌, inl, inr, ◌<◌, ◌≤◌, ℕ, zero, suc, length, List, [], ◌∷◌, ◌++◌, refl, sym, ap, ◌∙◌, subst, arith, Bool, true, false, not, ◌&&◌, ◌||◌, get_or, take, drop}
+use Rattle.std.proofs.Common.{◌≡◌, ◌≢◌, ◌⊎◌, inl, inr, ◌<◌, ◌≤◌, ◌+◌, ℕ, zero, suc, length, List, [], ◌∷◌, ◌++◌, refl, sym, ap, ◌∙◌, subst, arith, Bool, true, false, not, ◌&&◌, ◌||◌, get_or, take, drop}
 use Rattle.std.specs.Prelude.{Result, Ok, Err, is_ok}
 use Rattle.std.specs.Result.{MatchResult, result_ok}
 use Rattle.std.specs.Option.{MatchOption}
 use Rattle.std.specs.declared.cmp.Ordering.{Ordering}
 use Rattle.std.specs.declared.cmp.Ordering.TheVariants.{Less, Equal, Greater}
-use Rattle.std.specs.Ordering.{nat_cmp, eq_by_cmp, is_eq, ordering_reverse, ordering_then, ordering_index}
+use Rattle.std.specs.BTreeMap.{is_at}
+use Rattle.std.specs.BTreeSet.{insert_key}
+use Rattle.std.specs.Set.{remove_key}
+use Rattle.std.proofs.Math.Bool.{or-true}
+use Rattle.std.proofs.lemmas.Bool.{cases_lt}
+use Rattle.std.proofs.lemmas.Map.Keys.{Less-from_sorted}
+use Rattle.std.proofs.lemmas.List.Sorted.{searchable_from_sorted}
+use Rattle.std.specs.Ordering.{nat_cmp, eq_by_cmp, is_eq, is_lt, ordering_reverse, ordering_then, ordering_index}
 use Rattle.std.specs.Cmp.{IsTotalOrder, nat_cmp_total, tied_itself, Equal-is}
 use Rattle.std.specs.List.{AllByRecursion, insert, remove}
 use Rattle.std.specs.List.Sorted.{IsStrictlySortedBy, IsBinarySearchResult, IsSearchInRange, IsPartitionPoint}
 use Rattle.std.proofs.lemmas.Cmp.{then_total, on_total, nat_list_cmp_total}
-use Rattle.std.proofs.lemmas.List.{take-append-drop}
-use Rattle.std.proofs.lemmas.List.Folds.{list_any-append, list_any_at}
+use Rattle.std.proofs.lemmas.List.Folds.{list_any_at}
 use Rattle.std.proofs.lemmas.Bool.{or_cases}
 use Rattle.thes_base.specs.declared.data.LabelKind.{LabelKind}
 use Rattle.thes_base.specs.declared.data.LabelKind.TheVariants.{Pref, Alt, Hidden, Scope}
@@ -20,8 +26,9 @@ use Rattle.thes_base.specs.Labels.{label_kind_no}
 use Rattle.thes_base.specs.Machine.{owned}
 use Rattle.thes_base.proofs.LabelSets.{labels_exact}
 use Rattle.thes_vocab.specs.LabelData.{language_cmp, data_cmp, own_label, has_own, HasPreferred, HasNoPreferred, HasTwo}
-use Rattle.thes_vocab.specs.Places.{StandsAt, FitsAt, IsPlace, IsPreferredAt}
-use Rattle.thes_vocab.proofs.OrderLemmas.{each_front, each_back, split_at, length_front, front_of, back_of, after_of, none_below, none_above, sorted_put, sorted_cut, sorted_below, sorted_above, rises, nondecreasing}
+use Rattle.thes_vocab.specs.Places.{IsPlace, IsPreferredAt}
+use Rattle.thes_lists.proofs.OrderLemmas.{rising, insert_missing, insert_found, insert_sorted, remove_found, remove_missing, remove_sorted}
+use Rattle.thes_lists.proofs.TestLemmas.{has_found, has_missed, has_insert, has_remove}
 
 pub language_total : IsTotalOrder language_cmp
 language_total = then_total (on_total (λ (l : LabelData). label_kind_no l.kind) nat_cmp_total) (on_total (λ (l : LabelData). l.tag) nat_list_cmp_total)
@@ -44,130 +51,55 @@ tied x y e = data_exact x y ((Equal-is (data_cmp x y)).0 e)
 pub ties : (x y : LabelData) → x ≡ y → eq_by_cmp data_cmp x y ≡ true
 ties x y e = ap (λ z. eq_by_cmp data_cmp x z) (sym e) ∙ ap is_eq (tied_itself data_total x)
 
-turned : (x y : LabelData) → data_cmp x y ≡ Greater → data_cmp y x ≡ Less
-turned x y e = data_total.antisymm y x ∙ ap ordering_reverse e
-
 -- what a binary search answers
 pub searched : (own : List LabelData) (l : LabelData) (r : Result ℕ ℕ) → IsStrictlySortedBy data_cmp own → IsSearchInRange r (length own) → IsBinarySearchResult (λ x. data_cmp x l) own r → IsPlace own l r
-searched own l (Ok i) sorted bound found = record {
-  front = take i own;
-  back = drop (suc i) own;
-  is = split_at own i l bound ∙ ap (λ x. take i own ++ x ∷ drop (suc i) own) (data_exact _ _ (found l));
-  at = length_front own i (omega (arith, bound));
-}
-searched own l (Err i) sorted bound found =
-    let parts = found (nondecreasing data_cmp _ (λ x y. rises data_total x y l) own sorted) in
-    record {
-      front = take i own;
-      back = drop i own;
-      is = sym (take-append-drop i own);
-      at = length_front own i bound;
-      below = each_front (λ x. data_cmp x l ≡ Less) own i (λ k d b. parts.0 k d (omega arith) b) bound;
-      above = each_back (λ x. data_cmp l x ≡ Less) own i (λ k d a b. turned _ l (parts.1 k d a b));
-    }
-
-or_true : (a : Bool) → (a || true) ≡ true
-or_true true = refl
-or_true false = refl
-
--- what is found
-pub has_at : (own : List LabelData) (l : LabelData) (i : ℕ) → StandsAt own l i → has_own own l ≡ true
-has_at own l i s = ap (λ xs. has_own xs l) s.is ∙ list_any-append (eq_by_cmp data_cmp l) s.front (l ∷ s.back) ∙ ap (λ b. has_own s.front l || (b || has_own s.back l)) (ties l l refl) ∙ or_true (has_own s.front l)
-
--- what is not
-pub lacks_at : (own : List LabelData) (l : LabelData) (i : ℕ) → FitsAt own l i → has_own own l ≡ false
-lacks_at own l i f = ap (λ xs. has_own xs l) f.is ∙ list_any-append (eq_by_cmp data_cmp l) f.front f.back ∙ ap (λ b. b || has_own f.back l) (none_below data_total l f.front f.below) ∙ none_above data_total l f.back f.above
-
-or_swap : (a b c : Bool) → (a || (b || c)) ≡ (b || (a || c))
-or_swap true true c = refl
-or_swap true false c = refl
-or_swap false b c = refl
-
-put_is : (own : List LabelData) (l : LabelData) (i : ℕ) (f : FitsAt own l i) → insert own i l ≡ f.front ++ l ∷ f.back
-put_is own l i f =
-    ap (λ (p : List LabelData × ℕ). insert p.0 p.1 l) (λ j. (f.is j, sym f.at j))
-    ∙ ap (λ xs. xs ++ l ∷ drop (length f.front) (f.front ++ f.back)) (front_of f.front f.back)
-    ∙ ap (λ ys. f.front ++ l ∷ ys) (back_of f.front f.back)
-
-pub sorted_insert : (own : List LabelData) (l : LabelData) (i : ℕ) → FitsAt own l i → IsStrictlySortedBy data_cmp own → IsStrictlySortedBy data_cmp (insert own i l)
-sorted_insert own l i f s = subst (IsStrictlySortedBy data_cmp) (sym (put_is own l i f)) (sorted_put data_total f.front l f.back (subst (IsStrictlySortedBy data_cmp) f.is s) f.below f.above)
-
-pub has_insert : (own : List LabelData) (l : LabelData) (i : ℕ) → FitsAt own l i → (q : LabelData) → has_own (insert own i l) q ≡ (eq_by_cmp data_cmp q l || has_own own q)
-has_insert own l i f q =
-    ap (λ xs. has_own xs q) (put_is own l i f) ∙ list_any-append (eq_by_cmp data_cmp q) f.front (l ∷ f.back) ∙ or_swap (has_own f.front q) (eq_by_cmp data_cmp q l) (has_own f.back q)
-    ∙ ap (λ b. eq_by_cmp data_cmp q l || b) (sym (ap (λ xs. has_own xs q) f.is ∙ list_any-append (eq_by_cmp data_cmp q) f.front f.back))
-
--- a label that is there is put in without change
-pub has_again : (own : List LabelData) (l : LabelData) (i : ℕ) → StandsAt own l i → (q : LabelData) → has_own own q ≡ (eq_by_cmp data_cmp q l || has_own own q)
-has_again own l i s q = go (eq_by_cmp data_cmp q l) refl
-  where
-    go : (b : Bool) → eq_by_cmp data_cmp q l ≡ b → has_own own q ≡ (b || has_own own q)
-    go true e = ap (has_own own) (tied q l e) ∙ has_at own l i s
-    go false e = refl
-
-cut_is : (own : List LabelData) (l : LabelData) (i : ℕ) (s : StandsAt own l i) → remove own i ≡ s.front ++ s.back
-cut_is own l i s =
-    ap (λ (p : List LabelData × ℕ). remove p.0 p.1) (λ j. (s.is j, sym s.at j))
-    ∙ ap (λ xs. xs ++ drop (suc (length s.front)) (s.front ++ l ∷ s.back)) (front_of s.front (l ∷ s.back))
-    ∙ ap (λ ys. s.front ++ ys) (after_of s.front l s.back)
-
-pub sorted_remove : (own : List LabelData) (l : LabelData) (i : ℕ) → StandsAt own l i → IsStrictlySortedBy data_cmp own → IsStrictlySortedBy data_cmp (remove own i)
-sorted_remove own l i s sorted = subst (IsStrictlySortedBy data_cmp) (sym (cut_is own l i s)) (sorted_cut data_total s.front l s.back (subst (IsStrictlySortedBy data_cmp) s.is sorted))
-
-pub has_remove : (own : List LabelData) (l : LabelData) (i : ℕ) → StandsAt own l i → IsStrictlySortedBy data_cmp own → (q : LabelData) → has_own (remove own i) q ≡ (not (eq_by_cmp data_cmp q l) && has_own own q)
-has_remove own l i s sorted q = ap (λ xs. has_own xs q) (cut_is own l i s) ∙ list_any-append (eq_by_cmp data_cmp q) s.front s.back ∙ go (eq_by_cmp data_cmp q l) refl
-  where
-    whole : has_own own q ≡ (has_own s.front q || (eq_by_cmp data_cmp q l || has_own s.back q))
-    whole = ap (λ xs. has_own xs q) s.is ∙ list_any-append (eq_by_cmp data_cmp q) s.front (l ∷ s.back)
-
-    split_sorted : IsStrictlySortedBy data_cmp (s.front ++ l ∷ s.back)
-    split_sorted = subst (IsStrictlySortedBy data_cmp) s.is sorted
-
-    no_front : has_own s.front l ≡ false
-    no_front = none_below data_total l s.front (sorted_below data_total s.front l s.back split_sorted)
-
-    no_back : has_own s.back l ≡ false
-    no_back = none_above data_total l s.back (sorted_above data_total s.front l s.back split_sorted)
-
-    go : (b : Bool) → eq_by_cmp data_cmp q l ≡ b → (has_own s.front q || has_own s.back q) ≡ (not b && has_own own q)
-    go true e = ap (λ x. has_own s.front x || has_own s.back x) (tied q l e) ∙ ap (λ b. b || has_own s.back l) no_front ∙ no_back
-    go false e = sym (whole ∙ ap (λ b. has_own s.front q || (b || has_own s.back q)) e)
-
--- a label that is not there is taken out without change
-pub has_gone : (own : List LabelData) (l : LabelData) (i : ℕ) → FitsAt own l i → (q : LabelData) → has_own own q ≡ (not (eq_by_cmp data_cmp q l) && has_own own q)
-has_gone own l i f q = go (eq_by_cmp data_cmp q l) refl
-  where
-    go : (b : Bool) → eq_by_cmp data_cmp q l ≡ b → has_own own q ≡ (not b && has_own own q)
-    go true e = ap (has_own own) (tied q l e) ∙ lacks_at own l i f
-    go false e = refl
+searched own l (Ok i) sorted bound found = (bound, found)
+searched own l (Err i) sorted bound found = (bound, found (rising data_cmp data_total own l sorted))
 
 pub found_is : (own : List LabelData) (l : LabelData) (r : Result ℕ ℕ) → IsPlace own l r → is_ok r ≡ has_own own l
-found_is own l (Ok i) s = sym (has_at own l i s)
-found_is own l (Err i) f = sym (lacks_at own l i f)
+found_is own l (Ok i) at = sym (has_found data_cmp data_total own i l at.0 at.1)
+found_is own l (Err i) at = sym (has_missed data_cmp data_total own i l at.1 at.0)
+
+-- A label comes.
+
+pub insert_is : (own : List LabelData) (l : LabelData) (i : ℕ) → IsPlace own l (Err i) → insert own i l ≡ insert_key data_cmp own l
+insert_is own l i at = insert_missing data_cmp data_total own i l at.0 at.1
+
+pub sorted_insert : (own : List LabelData) (l : LabelData) (i : ℕ) → IsPlace own l (Err i) → IsStrictlySortedBy data_cmp own → IsStrictlySortedBy data_cmp (insert own i l)
+sorted_insert own l i at sorted = subst (IsStrictlySortedBy data_cmp) (sym (insert_is own l i at)) (insert_sorted data_cmp data_total own l sorted)
+
+pub has_inserted : (own : List LabelData) (l : LabelData) (i : ℕ) → IsPlace own l (Err i) → (q : LabelData) → has_own (insert own i l) q ≡ (eq_by_cmp data_cmp q l || has_own own q)
+has_inserted own l i at q = ap (λ xs. has_own xs q) (insert_is own l i at) ∙ has_insert data_cmp data_total own l q
+
+-- one that is there makes no change
+pub has_again : (own : List LabelData) (l : LabelData) (i : ℕ) → IsStrictlySortedBy data_cmp own → IsPlace own l (Ok i) → (q : LabelData) → has_own own q ≡ (eq_by_cmp data_cmp q l || has_own own q)
+has_again own l i sorted at q = ap (λ xs. has_own xs q) (sym (insert_found data_cmp data_total own i l at.0 sorted at.1)) ∙ has_insert data_cmp data_total own l q
+
+-- A label goes.
+
+pub remove_is : (own : List LabelData) (l : LabelData) (r : Result ℕ ℕ) → IsStrictlySortedBy data_cmp own → IsPlace own l r → elim r [ Ok i ↦ remove own i | Err i ↦ own ] ≡ remove_key (is_at (data_cmp l)) own
+remove_is own l (Ok i) sorted at = remove_found data_cmp data_total own i l at.0 sorted at.1
+remove_is own l (Err i) sorted at = sym (remove_missing data_cmp data_total own i l at.1)
+
+pub sorted_remove : (own : List LabelData) (l : LabelData) (i : ℕ) → IsPlace own l (Ok i) → IsStrictlySortedBy data_cmp own → IsStrictlySortedBy data_cmp (remove own i)
+sorted_remove own l i at sorted = subst (IsStrictlySortedBy data_cmp) (sym (remove_is own l (Ok i) sorted at)) (remove_sorted data_cmp data_total own (is_at (data_cmp l)) sorted)
+
+pub has_removed : (own : List LabelData) (l : LabelData) (r : Result ℕ ℕ) → IsStrictlySortedBy data_cmp own → IsPlace own l r → (q : LabelData) → has_own (elim r [ Ok i ↦ remove own i | Err i ↦ own ]) q ≡ (not (eq_by_cmp data_cmp q l) && has_own own q)
+has_removed own l r sorted at q = ap (λ xs. has_own xs q) (remove_is own l r sorted at) ∙ has_remove data_cmp data_total own l q sorted
 
 -- Preferred labels.
 
-language_before : (r s : Ordering) → ordering_then r s ≡ Less → (r ≡ Less) ⊎ (r ≡ Equal)
-language_before Less s e = inl refl
-language_before Equal s e = inr refl
-language_before Greater s e = absurd (cc)
-
-language_rises : (x y t : LabelData) → data_cmp x y ≡ Less → ordering_index (language_cmp x t) ≤ ordering_index (language_cmp y t)
-language_rises x y t e = elim (language_before (language_cmp x y) _ e) [
-  | inl less ↦ rises language_total x y t less
-  | inr tie ↦ subst (λ r. ordering_index (language_cmp x t) ≤ ordering_index r) (language_total.congr x y t tie) (omega arith)
-]
+-- the language does not fall along a row
+language_rises : (r s : Ordering) → ordering_then r s ≡ Less → is_lt (ordering_reverse r) ≡ false
+language_rises Less s e = refl
+language_rises Equal s e = refl
+language_rises Greater s e = absurd (cc)
 
 -- labels that compare alike by kind and language have one kind and language
 same_language : (x y : LabelData) → language_cmp x y ≡ Equal → (x.kind ≡ y.kind) × (x.tag ≡ y.tag)
 same_language x y e =
     let same = data_exact (own_label x.kind x.tag []) (own_label y.kind y.tag []) (ap (λ r. ordering_then r Equal) e) in
     (ap (λ (l : LabelData). l.kind) same, ap (λ (l : LabelData). l.tag) same)
-
-le_or_lt : (i k : ℕ) → (i ≤ k) ⊎ (k < i)
-le_or_lt zero k = inl (omega arith)
-le_or_lt (suc i) zero = inr (omega arith)
-le_or_lt (suc i) (suc k) = elim (le_or_lt i k) [ inl a ↦ inl (omega arith) | inr b ↦ inr (omega arith) ]
 
 abbrev preferred_ord : List ℕ → LabelData → Ordering
 preferred_ord tag l = language_cmp l (own_label Pref tag [])
@@ -182,7 +114,8 @@ preferred_searched own tag (Ok i) sorted bound found = record {
 preferred_searched own tag (Err i) sorted bound found = λ text has. go text has parts
   where
     parts : IsPartitionPoint (λ l. preferred_ord tag l ≡ Less) (λ l. preferred_ord tag l ≡ Greater) own i
-    parts = found (nondecreasing data_cmp _ (λ x y. language_rises x y (own_label Pref tag [])) own sorted)
+    parts = found (searchable_from_sorted language_total (λ (l : LabelData). l) own (own_label Pref tag [])
+        (λ k d low below. ap is_lt (language_total.antisymm (get_or own (k + 1) d) (get_or own k d)) ∙ language_rises _ _ (Less-from_sorted data_cmp own k (k + 1) d sorted (omega arith) below)))
 
     none : (text : List ℕ) (xs : List LabelData) → ((k : ℕ) (d : LabelData) → k < length xs → preferred_ord tag (get_or xs k d) ≢ Equal) → has_own xs (own_label Pref tag text) ≡ true → ⊥
     none text [] each e = cc
@@ -192,13 +125,7 @@ preferred_searched own tag (Err i) sorted bound found = λ text has. go text has
     ]
 
     go : (text : List ℕ) → HasPreferred own tag text → IsPartitionPoint (λ l. preferred_ord tag l ≡ Less) (λ l. preferred_ord tag l ≡ Greater) own i → ⊥
-    go text has p = none text own (λ k d b e. elim (le_or_lt i k) [ inl from ↦ (let g = p.1 k d from b in apart _ g e) | inr below ↦ (let l = p.0 k d (omega arith) below in before _ l e) ]) has
-      where
-        apart : (r : Ordering) → r ≡ Greater → r ≡ Equal → ⊥
-        apart r e f = cc
-
-        before : (r : Ordering) → r ≡ Less → r ≡ Equal → ⊥
-        before r e f = cc
+    go text has p = none text own (λ k d b e. elim (cases_lt k i) [ inl below ↦ (let l = p.0 k d (omega arith) below in cc) | inr from ↦ (let g = p.1 k d from b in cc) ]) has
 
 -- what stands there is had
 pub preferred_at : (own : List LabelData) (tag text : List ℕ) (place : ℕ) (l : LabelData) → IsPreferredAt own tag place → get_or own place l ≡ l → l.text ≡ text → HasPreferred own tag text
@@ -216,7 +143,7 @@ has_first : (x : LabelData) (xs : List LabelData) → has_own (x ∷ xs) x ≡ t
 has_first x xs = ap (λ b. b || has_own xs x) (ties x x refl)
 
 has_later : (x y : LabelData) (xs : List LabelData) → has_own xs y ≡ true → has_own (x ∷ xs) y ≡ true
-has_later x y xs e = ap (λ b. eq_by_cmp data_cmp y x || b) e ∙ or_true (eq_by_cmp data_cmp y x)
+has_later x y xs e = ap (λ b. eq_by_cmp data_cmp y x || b) e ∙ or-true (eq_by_cmp data_cmp y x)
 
 as_preferred : (l : LabelData) → l.kind ≡ Pref → l ≡ own_label Pref l.tag l.text
 as_preferred l e i = record { kind = e i; tag = l.tag; text = l.text }

@@ -22,7 +22,7 @@ use Rattle.thes_base.specs.Machine.{owned}
 use Rattle.thes_base.proofs.LabelSets.{labels_total, labels_exact}
 use Rattle.thes_vocab.specs.LabelData.{data_cmp, own_label, has_own, HasNoPreferred, HasTwo}
 use Rattle.thes_vocab.specs.Rivals.{HasTwoPreferred}
-use Rattle.thes_vocab.specs.Rows.{all_owned, labels_in, row_of, AreRows, Owns, OwnsNone, IsPut, IsTaken, AreSame}
+use Rattle.thes_vocab.specs.LabelRows.{all_owned, labels_in, row_of, AreRows, Owns, OwnsNone, IsLabelPut, IsLabelDropped, AreSame}
 
 then_eq : (r s : Ordering) → is_eq (ordering_then r s) ≡ (is_eq r && is_eq s)
 then_eq Less s = refl
@@ -102,14 +102,14 @@ has_label rows ordered q = set.contains-from_list labels_total (all_owned rows.e
 pub same_labels : (old new : BTreeMap ℕ (List LabelData)) → IsOrdered nat_cmp old → IsOrdered nat_cmp new → AreSame old new → labels_in new.entries ≡ labels_in old.entries
 same_labels old new o n same = set.same_set labels_total labels_exact _ _ (λ q. has_label new n q ∙ ap (λ row. has_own row (data_of q)) (same q.owner) ∙ sym (has_label old o q))
 
-pub put_labels : (old new : BTreeMap ℕ (List LabelData)) (owner : ℕ) (l : LabelData) → IsOrdered nat_cmp old → IsOrdered nat_cmp new → IsPut old new owner l → labels_in new.entries ≡ set.insert (labels_in old.entries) (owned owner l)
+pub put_labels : (old new : BTreeMap ℕ (List LabelData)) (owner : ℕ) (l : LabelData) → IsOrdered nat_cmp old → IsOrdered nat_cmp new → IsLabelPut old new owner l → labels_in new.entries ≡ set.insert (labels_in old.entries) (owned owner l)
 put_labels old new owner l o n is = set.same_set labels_total labels_exact _ _ (λ q.
     has_label new n q ∙ is q.owner (data_of q)
     ∙ sym (set.contains-insert labels_total (labels_in old.entries) (owned owner l) q
     ∙ ap (λ b. b || set.contains (labels_in old.entries) q) (owned_tie q owner l)
     ∙ ap (λ b. (eq_by_cmp nat_cmp q.owner owner && eq_by_cmp data_cmp (data_of q) l) || b) (has_label old o q)))
 
-pub take_labels : (old new : BTreeMap ℕ (List LabelData)) (owner : ℕ) (l : LabelData) → IsOrdered nat_cmp old → IsOrdered nat_cmp new → IsTaken old new owner l → labels_in new.entries ≡ set.remove (labels_in old.entries) (owned owner l)
+pub take_labels : (old new : BTreeMap ℕ (List LabelData)) (owner : ℕ) (l : LabelData) → IsOrdered nat_cmp old → IsOrdered nat_cmp new → IsLabelDropped old new owner l → labels_in new.entries ≡ set.remove (labels_in old.entries) (owned owner l)
 take_labels old new owner l o n is = set.same_set labels_total labels_exact _ _ (λ q.
     has_label new n q ∙ is q.owner (data_of q)
     ∙ sym (set.contains-remove labels_total (labels_in old.entries) (owned owner l) q
@@ -142,14 +142,14 @@ row_after old new owner now w n = ap (λ o. unwrap_or o []) (w n) ∙ go (eq_by_
     go true = refl
     go false = refl
 
-pub row_put : (old new : BTreeMap ℕ (List LabelData)) (owner : ℕ) (now : List LabelData) (l : LabelData) → IsWritten old new owner now → ((q : LabelData) → has_own now q ≡ (eq_by_cmp data_cmp q l || has_own (row_of old owner) q)) → IsPut old new owner l
+pub row_put : (old new : BTreeMap ℕ (List LabelData)) (owner : ℕ) (now : List LabelData) (l : LabelData) → IsWritten old new owner now → ((q : LabelData) → has_own now q ≡ (eq_by_cmp data_cmp q l || has_own (row_of old owner) q)) → IsLabelPut old new owner l
 row_put old new owner now l w each n q = ap (λ row. has_own row q) (row_after old new owner now w n) ∙ go (eq_by_cmp nat_cmp n owner) refl
   where
     go : (b : Bool) → eq_by_cmp nat_cmp n owner ≡ b → has_own (cond b now (row_of old n)) q ≡ ((b && eq_by_cmp data_cmp q l) || has_own (row_of old n) q)
     go true tie = each q ∙ ap (λ k. eq_by_cmp data_cmp q l || has_own (row_of old k) q) (sym (exact_unsigned n owner ((Equal-is (nat_cmp n owner)).0 tie)))
     go false tie = refl
 
-pub row_taken : (old new : BTreeMap ℕ (List LabelData)) (owner : ℕ) (now : List LabelData) (l : LabelData) → IsWritten old new owner now → ((q : LabelData) → has_own now q ≡ (not (eq_by_cmp data_cmp q l) && has_own (row_of old owner) q)) → IsTaken old new owner l
+pub row_taken : (old new : BTreeMap ℕ (List LabelData)) (owner : ℕ) (now : List LabelData) (l : LabelData) → IsWritten old new owner now → ((q : LabelData) → has_own now q ≡ (not (eq_by_cmp data_cmp q l) && has_own (row_of old owner) q)) → IsLabelDropped old new owner l
 row_taken old new owner now l w each n q = ap (λ row. has_own row q) (row_after old new owner now w n) ∙ go (eq_by_cmp nat_cmp n owner) refl
   where
     go : (b : Bool) → eq_by_cmp nat_cmp n owner ≡ b → has_own (cond b now (row_of old n)) q ≡ (not (b && eq_by_cmp data_cmp q l) && has_own (row_of old n) q)
@@ -162,21 +162,6 @@ row_kept old new owner now w same n = row_after old new owner now w n ∙ go (eq
   where
     go : (b : Bool) → eq_by_cmp nat_cmp n owner ≡ b → cond b now (row_of old n) ≡ row_of old n
     go true tie = same ∙ ap (row_of old) (sym (exact_unsigned n owner ((Equal-is (nat_cmp n owner)).0 tie)))
-    go false tie = refl
-
--- a row that an owner does not have
-pub none_taken : (rows : BTreeMap ℕ (List LabelData)) (owner : ℕ) (l : LabelData) → row_of rows owner ≡ [] → IsTaken rows rows owner l
-none_taken rows owner l none n q = go (eq_by_cmp nat_cmp n owner) refl
-  where
-    empty : eq_by_cmp nat_cmp n owner ≡ true → has_own (row_of rows n) q ≡ false
-    empty tie = ap (λ k. has_own (row_of rows k) q) (exact_unsigned n owner ((Equal-is (nat_cmp n owner)).0 tie)) ∙ ap (λ row. has_own row q) none
-
-    either : (b : Bool) → false ≡ (b && false)
-    either true = refl
-    either false = refl
-
-    go : (b : Bool) → eq_by_cmp nat_cmp n owner ≡ b → has_own (row_of rows n) q ≡ (not (b && eq_by_cmp data_cmp q l) && has_own (row_of rows n) q)
-    go true tie = empty tie ∙ either (not (eq_by_cmp data_cmp q l)) ∙ ap (λ b. not (eq_by_cmp data_cmp q l) && b) (sym (empty tie))
     go false tie = refl
 
 -- Preferred labels.
@@ -207,16 +192,10 @@ two_owned labels owner row owns = (
 )
 
 pub none_two : (labels : Labels) (owner : ℕ) → OwnsNone labels owner → HasTwoPreferred labels owner → ⊥
-none_two labels owner none two = never _ (none (own_label Pref two.first_tag two.first_text)) two.first
-  where
-    never : (b : Bool) → b ≡ false → b ≡ true → ⊥
-    never b e f = cc
+none_two labels owner none two = let e = none (own_label Pref two.first_tag two.first_text) in let f = two.first in cc
 
 pub none_preferred : (labels : Labels) (owner : ℕ) (tag text : List ℕ) → OwnsNone labels owner → HasLabel labels owner Pref tag text → ⊥
-none_preferred labels owner tag text none has = never _ (none (own_label Pref tag text)) has
-  where
-    never : (b : Bool) → b ≡ false → b ≡ true → ⊥
-    never b e f = cc
+none_preferred labels owner tag text none has = let e = none (own_label Pref tag text) in cc
 
 -- Rows and their count.
 
@@ -227,7 +206,7 @@ module _ (old new : BTreeMap ℕ (List LabelData)) (count owner : ℕ) (l : Labe
   was_there : set.contains (labels_in old.entries) (owned owner l) ≡ has_own (row_of old owner) l
   was_there = has_label old rows.ordered (owned owner l)
 
-  pub rows_put : IsPut old new owner l → (added : Bool) → added ≡ not (has_own (row_of old owner) l) → AreRows new (cond added (count + 1) count)
+  pub rows_put : IsLabelPut old new owner l → (added : Bool) → added ≡ not (has_own (row_of old owner) l) → AreRows new (cond added (count + 1) count)
   rows_put is added e = record { ordered = ordered; counted = go (has_own (row_of old owner) l) refl ∙ sym after }
     where
       after : set.len (labels_in new.entries) ≡ cond (has_own (row_of old owner) l) (set.len (labels_in old.entries)) (set.len (labels_in old.entries) + 1)
@@ -238,7 +217,7 @@ module _ (old new : BTreeMap ℕ (List LabelData)) (count owner : ℕ) (l : Labe
       go true h = ap (λ a. cond a (count + 1) count) (e ∙ ap not h) ∙ rows.counted
       go false h = ap (λ a. cond a (count + 1) count) (e ∙ ap not h) ∙ ap (λ n. n + 1) rows.counted
 
-  pub rows_taken : IsTaken old new owner l → (taken : Bool) → taken ≡ has_own (row_of old owner) l → AreRows new (cond taken (count - 1) count)
+  pub rows_taken : IsLabelDropped old new owner l → (taken : Bool) → taken ≡ has_own (row_of old owner) l → AreRows new (cond taken (count - 1) count)
   rows_taken is taken e = record {
     ordered = ordered;
     counted = ap (λ n. cond taken (n - 1) n) rows.counted

@@ -19,9 +19,10 @@ use Rattle.thes_base.specs.Changes.{label, has_name, taken_kind, taken_labels}
 use Rattle.thes_base.specs.Machine.{owned}
 use Rattle.thes_base.proofs.LabelSets.{labels_total, labels_exact}
 use Rattle.thes_base.proofs.ResourceLemmas.{left_true, right_true, both_true}
+use Rattle.std.proofs.lemmas.Bool.{cases_Bool, not-true}
 use Rattle.thes_vocab.specs.LabelData.{data_cmp, own_label, has_own, AreLabelsOf}
 use Rattle.thes_vocab.specs.Taken.{takes, takes_own, taken, gives}
-use Rattle.thes_vocab.specs.Rows.{Owns, labels_in, row_of, IsMerged}
+use Rattle.thes_vocab.specs.LabelRows.{Owns, labels_in, row_of, IsMerged}
 use Rattle.thes_vocab.proofs.OwnLemmas.{data_total, tied, ties}
 use Rattle.thes_vocab.proofs.TableLemmas.{data_of, owned_tie, has_label, IsWritten, row_after, or_false, and_or, and_false}
 use Rattle.thes_vocab.proofs.JudgingLemmas.{name_of}
@@ -29,12 +30,6 @@ use Rattle.thes_vocab.proofs.JudgingLemmas.{name_of}
 or_group : (a b c : Bool) → (a || (b || c)) ≡ ((a || b) || c)
 or_group true b c = refl
 or_group false b c = refl
-
-and_swap : (a b c : Bool) → (a && (b && c)) ≡ (b && (a && c))
-and_swap true true c = refl
-and_swap true false c = refl
-and_swap false true c = refl
-and_swap false false c = refl
 
 -- One label further.
 
@@ -73,14 +68,10 @@ module _ {A : Type 0} (p : A → Bool) where
   pub kept_no : (x : A) (xs : List A) → p x ≡ false → filter p (x ∷ xs) ≡ filter p xs
   kept_no x xs e = ap (λ b. if b then x ∷ filter p xs else filter p xs) e
 
-decide : (b : Bool) → (b ≡ true) ⊎ (b ≡ false)
-decide true = inl refl
-decide false = inr refl
-
 -- a label that passes, and what it is mapped to
 any_mapped : (p : Label → Bool) (f : Label → Label) (q : Label) (ls : List Label) → list_any (eq_by_cmp label_cmp q) (map f (filter p ls)) ≡ true → (l : Label) × (p l ≡ true) × (list_any (eq_by_cmp label_cmp l) ls ≡ true) × (q ≡ f l)
 any_mapped p f q [] e = absurd (cc)
-any_mapped p f q (x ∷ ls) e = elim (decide (p x)) [
+any_mapped p f q (x ∷ ls) e = elim (cases_Bool (p x)) [
   | inl picks ↦ elim (or_cases _ _ (sym (ap (λ ys. list_any (eq_by_cmp label_cmp q) (map f ys)) (kept_yes p x ls picks)) ∙ e)) [
     | inl same ↦ (x, picks, or_left _ _ (itself x), labels_exact q (f x) ((Equal-is (label_cmp q (f x))).0 same))
     | inr later ↦ let found = any_mapped p f q ls later in (found.0, found.1, or_right (eq_by_cmp label_cmp found.0 x) _ found.2, found.3)
@@ -97,7 +88,7 @@ mapped_any p f q l (x ∷ ls) picks is e = elim (or_cases _ _ e) [
   | inl same ↦
       let here = labels_exact l x ((Equal-is (label_cmp l x)).0 same) in
       ap (λ ys. list_any (eq_by_cmp label_cmp q) (map f ys)) (kept_yes p x ls (ap p (sym here) ∙ picks)) ∙ or_left _ _ (ap (λ y. eq_by_cmp label_cmp q (f y)) (sym here) ∙ ap (λ y. eq_by_cmp label_cmp q y) (sym is) ∙ ap is_eq (tied_itself labels_total q))
-  | inr later ↦ elim (decide (p x)) [
+  | inr later ↦ elim (cases_Bool (p x)) [
     | inl hit ↦ ap (λ ys. list_any (eq_by_cmp label_cmp q) (map f ys)) (kept_yes p x ls hit) ∙ or_right (eq_by_cmp label_cmp q (f x)) _ (mapped_any p f q l ls picks is later)
     | inr miss ↦ ap (λ ys. list_any (eq_by_cmp label_cmp q) (map f ys)) (kept_no p x ls miss) ∙ mapped_any p f q l ls picks is later
   ]
@@ -215,7 +206,7 @@ module _ (labels : Labels) (source target : ℕ) (s13 : S13 labels) where
   -- one of those that were picked
   built_from : (own : List LabelData) (q : Label) → list_any (eq_by_cmp label_cmp q) (map as_taken (picked own)) ≡ true → (d : LabelData) × (takes labels target d ≡ true) × (has_own own d ≡ true) × (q ≡ as_taken d)
   built_from [] q e = absurd (cc)
-  built_from (x ∷ own) q e = elim (decide (takes labels target x)) [
+  built_from (x ∷ own) q e = elim (cases_Bool (takes labels target x)) [
     | inl picks ↦ elim (or_cases _ _ (sym (ap (λ ys. list_any (eq_by_cmp label_cmp q) (map as_taken ys)) (kept_yes (takes labels target) x own picks)) ∙ e)) [
       | inl same ↦ (x, picks, or_left _ _ (ties x x refl), labels_exact q (as_taken x) ((Equal-is (label_cmp q (as_taken x))).0 same))
       | inr later ↦ let found = built_from own q later in (found.0, found.1, or_right (eq_by_cmp data_cmp found.0 x) _ found.2, found.3)
@@ -229,15 +220,11 @@ module _ (labels : Labels) (source target : ℕ) (s13 : S13 labels) where
   name_taken Hidden e = refl
   name_taken Scope e = e
 
-  not_true : (b : Bool) → not b ≡ true → b ≡ false
-  not_true true e = absurd (cc)
-  not_true false e = refl
-
   -- what the target takes it has not
   fresh : (d : LabelData) → takes labels target d ≡ true → set.contains labels (as_taken d) ≡ true → ⊥
   fresh d picks held =
       let name = left_true (is_name d.kind) _ picks in
-      let free = not_true _ (right_true (is_name d.kind) (not (has_name labels target d.tag d.text)) picks) in
+      let free = not-true _ (right_true (is_name d.kind) (not (has_name labels target d.tag d.text)) picks) in
       true≢false (sym (name_of labels target (taken_kind d.kind) d.tag d.text (name_taken d.kind name) held) ∙ free)
 
   -- two that become one are one
@@ -262,7 +249,7 @@ module _ (labels : Labels) (source target : ℕ) (s13 : S13 labels) where
   len_built : (own : List LabelData) → IsStrictlySortedBy data_cmp own → AreSome own → set.len (set.union labels (built own)) ≡ set.len labels + length (picked own)
   unfolding IsStrictlySortedBy
   len_built [] sorted some = ap set.len empty_union ∙ (let n = set.len labels in let e : n ≡ n + 0 = omega arith in e)
-  len_built (x ∷ own) sorted some = go (len_built own sorted.1 later) (decide (takes labels target x))
+  len_built (x ∷ own) sorted some = go (len_built own sorted.1 later) (cases_Bool (takes labels target x))
     where
       later : AreSome own
       later d h = some d (or_right (eq_by_cmp data_cmp d x) _ h)
@@ -289,7 +276,7 @@ module _ (labels : Labels) (source target : ℕ) (s13 : S13 labels) where
 
   built_any : (own : List LabelData) (q : Label) → list_any (eq_by_cmp label_cmp q) (map as_taken (picked own)) ≡ (eq_by_cmp nat_cmp q.owner target && list_any (λ d. takes labels target d && eq_by_cmp data_cmp (data_of q) (taken d)) own)
   built_any [] q = sym (and_false (eq_by_cmp nat_cmp q.owner target))
-  built_any (x ∷ own) q = go (built_any own q) (decide (takes labels target x))
+  built_any (x ∷ own) q = go (built_any own q) (cases_Bool (takes labels target x))
     where
       go : list_any (eq_by_cmp label_cmp q) (map as_taken (picked own)) ≡ (eq_by_cmp nat_cmp q.owner target && list_any (λ d. takes labels target d && eq_by_cmp data_cmp (data_of q) (taken d)) own) → (takes labels target x ≡ true) ⊎ (takes labels target x ≡ false)
           → list_any (eq_by_cmp label_cmp q) (map as_taken (picked (x ∷ own))) ≡ (eq_by_cmp nat_cmp q.owner target && ((takes labels target x && eq_by_cmp data_cmp (data_of q) (taken x)) || list_any (λ d. takes labels target d && eq_by_cmp data_cmp (data_of q) (taken d)) own))

@@ -4,7 +4,7 @@ pub mod Rivals
 pub mod LabelData
 pub mod Places
 pub mod Taken
-pub mod Rows
+pub mod LabelRows
 pub mod Named
 pub mod Listed
 pub mod Numbered

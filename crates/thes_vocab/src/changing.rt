@@ -50,7 +50,8 @@ impl Vocab {
     /// Adds a label that nothing refuses. An `Err` changes nothing.
     pub fn add_label(&mut self, owner: ResNo, label: &Label) -> Result<(), AllocError>
         requires owner { IsLiveOwner self.old.resources owner }
-        requires allowed { let l = owned owner label.now in unless_label self.old.labels self.old.resources (set.insert self.old.labels l) l accepted None }
+        requires allowed { let l = owned owner label.now in
+            unless_label self.old.labels self.old.resources (set.insert self.old.labels l) l accepted None }
         ensures ok { OnOk result (self.new ≡ with_labels self.old (set.insert self.old.labels (owned owner label.now))) }
         ensures err { OnErr result (self.new ≡ self.old) }
     {
@@ -83,8 +84,10 @@ impl Vocab {
         keep: bool,
     ) -> Result<(), AllocError>
         requires owner { IsLiveOwner self.old.resources owner }
-        requires allowed { unless_relabelled self.old.labels self.old.resources (labels_relabelled owner tag.now text.now keep self.old.labels) owner tag.now accepted None }
-        ensures ok { OnOk result (self.new ≡ with_labels self.old (labels_relabelled owner tag.now text.now keep self.old.labels)) }
+        requires allowed { let after = labels_relabelled owner tag.now text.now keep self.old.labels in
+            unless_relabelled self.old.labels self.old.resources after owner tag.now accepted None }
+        ensures ok { let after = labels_relabelled owner tag.now text.now keep self.old.labels in
+            OnOk result (self.new ≡ with_labels self.old after) }
         ensures err { OnErr result (self.new ≡ self.old) }
     {
         let old = self.labels.preferred_clone(owner, tag)?;
@@ -117,7 +120,8 @@ impl Vocab {
     pub fn take_labels(&mut self, source: ResNo, target: ResNo) -> Result<u64, AllocError>
         requires { IsLiveConcept self.old.resources target }
         ensures gained { IfOk result (λ k. set.len self.old.labels + k ≡ set.len self.new.labels) }
-        ensures ok { OnOk result (self.new ≡ with_labels self.old (set.union self.old.labels (taken_labels source target self.old.labels))) }
+        ensures ok { let taken = taken_labels source target self.old.labels in
+            OnOk result (self.new ≡ with_labels self.old (set.union self.old.labels taken)) }
         ensures err { OnErr result (self.new ≡ self.old) }
     {
         let gained = self.taken_count(source, target);

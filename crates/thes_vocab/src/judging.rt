@@ -74,7 +74,8 @@ impl Vocab {
     /// What refuses one more label of a live owner, but for limits.
     pub fn judge_label(&self, owner: ResNo, label: &Label) -> Option<Refusal>
         requires { IsLiveOwner self.now.resources owner }
-        ensures { let l = owned owner label.now in unless_label self.now.labels self.now.resources (set.insert self.now.labels l) l accepted result }
+        ensures { let l = owned owner label.now in
+            unless_label self.now.labels self.now.resources (set.insert self.now.labels l) l accepted result }
     {
         if self
             .labels
@@ -97,7 +98,8 @@ impl Vocab {
     // Whether the owner would have a text under two kinds with a label that it has not.
     fn breaks_s13(&self, owner: ResNo, label: &Label) -> bool
         requires { set.contains self.now.labels (owned owner label.now) ≡ false }
-        ensures { let after = set.insert self.now.labels (owned owner label.now) in MatchBool result (S13 after → ⊥) (S13 after) }
+        ensures { let after = set.insert self.now.labels (owned owner label.now) in
+            MatchBool result (S13 after → ⊥) (S13 after) }
     {
         label.kind() != LabelKind::Scope && self.labels.has_name(owner, &label.tag, label.text())
     }
@@ -105,7 +107,8 @@ impl Vocab {
     // Whether the owner would have two preferred labels in a language with a label that it has not.
     fn breaks_s14(&self, owner: ResNo, label: &Label) -> bool
         requires { set.contains self.now.labels (owned owner label.now) ≡ false }
-        ensures { let after = set.insert self.now.labels (owned owner label.now) in MatchBool result (S14 after → ⊥) (S14 after) }
+        ensures { let after = set.insert self.now.labels (owned owner label.now) in
+            MatchBool result (S14 after → ⊥) (S14 after) }
     {
         label.kind() == LabelKind::Pref && self.labels.preferred(owner, &label.tag).is_some()
     }
@@ -113,7 +116,9 @@ impl Vocab {
     // Whether two live concepts of a scheme would have one preferred label with a label that the owner has not.
     fn breaks_unique(&self, owner: ResNo, label: &Label) -> bool
         requires { UniquePreferred self.now.resources self.now.labels }
-        ensures { let after = set.insert self.now.labels (owned owner label.now) in MatchBool result (UniquePreferred self.now.resources after → ⊥) (UniquePreferred self.now.resources after) }
+        ensures { let after = set.insert self.now.labels (owned owner label.now) in
+            let is_unique = UniquePreferred self.now.resources after in
+            MatchBool result (is_unique → ⊥) is_unique }
     {
         match &label.value {
             LabelValue::Pref(text) => self.has_rival(owner, &label.tag, text),
@@ -141,7 +146,8 @@ impl Vocab {
     /// What refuses another preferred label of a live owner in the language, but for limits.
     pub fn judge_relabel(&self, owner: ResNo, tag: &Tag, text: &Text, keep: bool) -> Option<Refusal>
         requires { IsLiveOwner self.now.resources owner }
-        ensures { unless_relabelled self.now.labels self.now.resources (labels_relabelled owner tag.now text.now keep self.now.labels) owner tag.now accepted result }
+        ensures { let after = labels_relabelled owner tag.now text.now keep self.now.labels in
+            unless_relabelled self.now.labels self.now.resources after owner tag.now accepted result }
     {
         let Some(old) = self.labels.preferred(owner, tag) else {
             return Some(Refusal::NoSuchLabel);

@@ -8,7 +8,7 @@ ghost use Rattle.thes_base.specs.Labels.{HasLabel};
 ghost use Rattle.thes_base.specs.Machine.{owned};
 ghost use Rattle.thes_vocab.specs.Rivals.{HasTwoPreferred, Clashes};
 ghost use Rattle.thes_vocab.specs.LabelData.{own_label, has_own, AreLabelsOf};
-ghost use Rattle.thes_vocab.specs.Rows.{Owns, OwnsNone, row_of, IsPut, IsTaken, IsMerged, AreSame};
+ghost use Rattle.thes_vocab.specs.LabelRows.{Owns, OwnsNone, row_of, IsLabelPut, IsLabelDropped, IsMerged, AreSame};
 ghost use Rattle.std.specs.Ordering.{nat_cmp};
 ghost use Rattle.std.specs.BTreeMap.{IsOrdered};
 
@@ -37,7 +37,7 @@ impl Model for LabelTable {
 
     ghost coded = { Prim.hlevel (codes, set.code) };
 
-    ghost use Rattle.thes_vocab.specs.Rows.{labels_in, AreRows};
+    ghost use Rattle.thes_vocab.specs.LabelRows.{labels_in, AreRows};
 
     ghost view = { λ a. labels_in a.rows.entries };
 
@@ -101,7 +101,9 @@ impl LabelTable {
 
     // The owner's preferred label in the language, or one of them.
     pub(crate) fn preferred(&self, owner: ResNo, tag: &Tag) -> Option<&Text>
-        ensures { MatchOption result ((text : List ℕ) → HasLabel self.now owner Pref tag.now text → ⊥) (λ text. HasLabel self.now owner Pref tag.now text.now) }
+        ensures { MatchOption result
+            ((text : List ℕ) → HasLabel self.now owner Pref tag.now text → ⊥)
+            (λ text. HasLabel self.now owner Pref tag.now text.now) }
     {
         match self.row(owner) {
             Some(row) => row.preferred(tag),
@@ -237,7 +239,7 @@ fn put(
     label: Label,
 ) -> Result<bool, AllocError>
     ensures added { IfOk result (λ added. added ≡ not (has_own (row_of rows.old owner) label)) }
-    ensures ok { OnOk result (IsPut rows.old rows.new owner label) }
+    ensures ok { OnOk result (IsLabelPut rows.old rows.new owner label) }
     ensures err { OnErr result (AreSame rows.old rows.new) }
     ensures ordered { IsOrdered nat_cmp rows.new }
 {
@@ -259,7 +261,7 @@ fn take(
     text: &str,
 ) -> bool
     ensures taken { result ≡ has_own (row_of rows.old owner) (own_label kind tag.now text.now) }
-    ensures after { IsTaken rows.old rows.new owner (own_label kind tag.now text.now) }
+    ensures after { IsLabelDropped rows.old rows.new owner (own_label kind tag.now text.now) }
     ensures ordered { IsOrdered nat_cmp rows.new }
 {
     match rows.get_mut(&owner) {

@@ -56,7 +56,7 @@ impl Row {
     pub(crate) fn contains(&self, kind: LabelKind, tag: &Tag, text: &str) -> bool
         ensures { result ≡ has_own self.now (own_label kind tag.now text.now) }
     {
-        place(self.labels.as_slice(), kind, tag, text).is_ok()
+        search(self.labels.as_slice(), kind, tag, text).is_ok()
     }
 
     // The preferred label in the language, or one of them.
@@ -103,7 +103,7 @@ impl Row {
         ensures ok { OnOk result ((l : LabelData) → has_own self.new l ≡ (eq_by_cmp data_cmp l label || has_own self.old l)) }
         ensures err { OnErr result (self.new ≡ self.old) }
     {
-        match place_of(self.labels.as_slice(), &label) {
+        match search_label(self.labels.as_slice(), &label) {
             Ok(_) => Ok(false),
             Err(place) => {
                 self.labels.insert(place, label)?;
@@ -115,9 +115,10 @@ impl Row {
     // Takes a label out, and answers whether it was there.
     pub(crate) fn remove(&mut self, kind: LabelKind, tag: &Tag, text: &str) -> bool
         ensures removed { result ≡ has_own self.old (own_label kind tag.now text.now) }
-        ensures after { (l : LabelData) → has_own self.new l ≡ (not (eq_by_cmp data_cmp l (own_label kind tag.now text.now)) && has_own self.old l) }
+        ensures after { let dropped = own_label kind tag.now text.now in
+            (l : LabelData) → has_own self.new l ≡ (not (eq_by_cmp data_cmp l dropped) && has_own self.old l) }
     {
-        match place(self.labels.as_slice(), kind, tag, text) {
+        match search(self.labels.as_slice(), kind, tag, text) {
             Ok(place) => {
                 self.labels.remove(place);
                 true
@@ -164,18 +165,18 @@ fn taken(alloc: Global, label: &Label) -> Result<Label, AllocError>
 }
 
 // Where the label stands in the order, or where it would.
-fn place(labels: &[Label], kind: LabelKind, tag: &Tag, text: &str) -> Result<usize, usize>
+fn search(labels: &[Label], kind: LabelKind, tag: &Tag, text: &str) -> Result<usize, usize>
     requires { IsStrictlySortedBy data_cmp labels.now }
     ensures { IsPlace labels.now (own_label kind tag.now text.now) result }
 {
     labels.binary_search_by(|label| order(label, kind, tag, text))
 }
 
-fn place_of(labels: &[Label], label: &Label) -> Result<usize, usize>
+fn search_label(labels: &[Label], label: &Label) -> Result<usize, usize>
     requires { IsStrictlySortedBy data_cmp labels.now }
     ensures { IsPlace labels.now label.now result }
 {
-    place(labels, label.kind(), &label.tag, label.text())
+    search(labels, label.kind(), &label.tag, label.text())
 }
 
 // A place of a preferred label in the language.

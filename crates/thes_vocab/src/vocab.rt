@@ -122,7 +122,9 @@ impl Vocab {
 
     /// The live concept of the scheme that has this preferred label.
     pub fn holder(&self, scheme: ResNo, tag: &Tag, text: &Text) -> Option<ResNo>
-        ensures { MatchOption result (¬ IsTaken self.now.resources self.now.labels scheme tag.now text.now) (IsHolder self.now.resources self.now.labels scheme tag.now text.now) }
+        ensures { MatchOption result
+            (¬ IsTaken self.now.resources self.now.labels scheme tag.now text.now)
+            (IsHolder self.now.resources self.now.labels scheme tag.now text.now) }
     {
         let n = self.names.holder(scheme, tag, text)?;
         if self.is_held(n, scheme, tag, text) {
@@ -141,7 +143,9 @@ impl Vocab {
 
     /// The number of the outside concept with this IRI.
     pub fn outside(&self, iri: &Iri) -> Option<ResNo>
-        ensures { MatchOption result ((n : ℕ) → ¬ (dict.get self.now.iris n ≡ Some iri.now)) (λ n. dict.get self.now.iris n ≡ Some iri.now) }
+        ensures { MatchOption result
+            ((n : ℕ) → ¬ (dict.get self.now.iris n ≡ Some iri.now))
+            (λ n. dict.get self.now.iris n ≡ Some iri.now) }
     {
         self.iris.number(iri)
     }

@@ -14,9 +14,9 @@ const OTHER_SCHEME: &str = "OtherScheme";
 
 // Whether links of the kind lead from concepts to concepts of other schemes or outside.
 fn is_mapping(kind: LinkKind) -> bool {
-    !matches!(
+    matches!(
         kind,
-        LinkKind::Broader | LinkKind::Related | LinkKind::Member
+        LinkKind::Exact | LinkKind::Close | LinkKind::Broad | LinkKind::Narrow | LinkKind::RelMatch
     )
 }
 

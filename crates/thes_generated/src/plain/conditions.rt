@@ -31,7 +31,11 @@ impl Plain {
         let mut pairs = Vec::new(self.alloc);
         for link in self.links.iter() {
             match link.kind {
-                LinkKind::Broader | LinkKind::Broad => pairs.push((link.a, link.b))?,
+                LinkKind::Broader
+                | LinkKind::BroaderGeneric
+                | LinkKind::BroaderPartitive
+                | LinkKind::BroaderInstantial
+                | LinkKind::Broad => pairs.push((link.a, link.b))?,
                 LinkKind::Narrow => pairs.push((link.b, link.a))?,
                 _ => {}
             }

@@ -1,6 +1,6 @@
 //! The lines of answers and views.
 use super::{Label, Link, Plain, Reply, at};
-use crate::orders::{FIRST_TEXT, LAST_TEXT, Order, TAGS, Word, link_word};
+use crate::orders::{FIRST_TEXT, LAST_TEXT, Order, TAGS, Word};
 use std::alloc::AllocError;
 use thes_base::data::{LabelKind, LinkKind, ResourceKind};
 
@@ -16,6 +16,33 @@ pub fn push_reply(line: &mut String, reply: Reply) -> Result<(), AllocError> {
         Reply::Known(number) => write!(line, "{{\"no\":\"OutsideKnown\",\"number\":{number}}}\n"),
     }
 }
+
+// The kinds of links within a scheme by which a concept has a broader one.
+static HIERARCHICAL: [LinkKind; 4] = [
+    LinkKind::Broader,
+    LinkKind::BroaderGeneric,
+    LinkKind::BroaderPartitive,
+    LinkKind::BroaderInstantial,
+];
+
+// The typed ones among them in the order of their words, with the words at the narrower and at the broader end.
+static TYPED: [(LinkKind, &str, &str); 3] = [
+    (
+        LinkKind::BroaderGeneric,
+        "broaderGeneric",
+        "narrowerGeneric",
+    ),
+    (
+        LinkKind::BroaderInstantial,
+        "broaderInstantial",
+        "narrowerInstantial",
+    ),
+    (
+        LinkKind::BroaderPartitive,
+        "broaderPartitive",
+        "narrowerPartitive",
+    ),
+];
 
 // Writes the numbers from 1 to the last that are chosen, as a list.
 fn push_numbers<F: Fn(u32) -> bool>(
@@ -65,6 +92,11 @@ impl Plain {
         self.links.contains(&Link { kind, a, b })
     }
 
+    // Whether b is broader than a within their scheme.
+    fn has_broader(&self, a: u32, b: u32) -> bool {
+        HIERARCHICAL.iter().any(|kind| self.has_link(*kind, a, b))
+    }
+
     // Whether a concept shows the other resource under this kind of mapping.
     fn is_mapped(&self, kind: LinkKind, concept: u32, other: u32) -> bool {
         match kind {
@@ -88,9 +120,31 @@ impl Plain {
         ] {
             for other in 1..=self.resources() {
                 if self.is_mapped(kind, concept, other) {
-                    let word = link_word(kind);
+                    let word = kind.word();
                     write!(line, "{comma}[\"{word}\",{other}]")?;
                     comma = ",";
+                }
+            }
+        }
+        line.push_str("]")
+    }
+
+    // Writes the typed links of a concept, those to broader ones first.
+    fn push_typed(&self, line: &mut String, concept: u32) -> Result<(), AllocError> {
+        line.push_str("\"typed\":[")?;
+        let mut comma = "";
+        for is_up in [true, false] {
+            for (kind, up, down) in &TYPED {
+                for other in 1..=self.resources() {
+                    let (word, is_linked) = if is_up {
+                        (*up, self.has_link(*kind, concept, other))
+                    } else {
+                        (*down, self.has_link(*kind, other, concept))
+                    };
+                    if is_linked {
+                        write!(line, "{comma}[\"{word}\",{other}]")?;
+                        comma = ",";
+                    }
                 }
             }
         }
@@ -104,8 +158,7 @@ impl Plain {
         let replaced = at(self.items.as_slice(), number).map_or(0, |item| item.replaced);
         let scheme = self.scheme_of(number);
         let standing = self.standing(number);
-        let is_top = live
-            && (1..=last).all(|other| !self.has_link(LinkKind::Broader, number, other));
+        let is_top = live && (1..=last).all(|other| !self.has_broader(number, other));
         line.push_str("{")?;
         self.push_labels(line, number, LabelKind::Alt, "alt")?;
         line.push_str(",")?;
@@ -113,7 +166,7 @@ impl Plain {
             line,
             "broader",
             last,
-            |other| self.has_link(LinkKind::Broader, number, other),
+            |other| self.has_broader(number, other),
         )?;
         line.push_str(",")?;
         push_numbers(
@@ -131,7 +184,7 @@ impl Plain {
             line,
             "narrower",
             last,
-            |other| self.has_link(LinkKind::Broader, other, number),
+            |other| self.has_broader(other, number),
         )?;
         write!(line, ",\"number\":{number},\"postings\":{standing},")?;
         self.push_labels(line, number, LabelKind::Pref, "pref")?;
@@ -149,7 +202,9 @@ impl Plain {
         }
         write!(line, ",\"scheme\":{scheme},")?;
         self.push_labels(line, number, LabelKind::Scope, "scope")?;
-        write!(line, ",\"top\":{is_top}}}\n")
+        write!(line, ",\"top\":{is_top},")?;
+        self.push_typed(line, number)?;
+        line.push_str("}\n")
     }
 
     // Writes the postings that stand at a concept.

@@ -1,6 +1,6 @@
 use Rattle.std.proofs.Common.{◌∙◌, rules}
 use Rattle.std.proofs.lemmas.List.Sorted.{answers_always}
-use Rattle.thes_base.specs.Views.{word_place}
+use Rattle.thes_graph.specs.Mapped.{word_place}
 use Rattle.thes_graph.proofs.MappingLemmas.{listed_there, listed_new}
 use Rattle.thes_graph.proofs.mapped.list_mapping.Goals as goal
 

@@ -1,9 +1,12 @@
-use Rattle.std.proofs.Common.{◌≡◌, ◌⊎◌, ◌++◌, ◌∷◌, [], take, drop, ◌∙◌, ap, sym, refl, subst, rules, arith, inl, inr, true, false, append_assoc, take-append-drop}
+use Rattle.std.proofs.Common.{ℕ, List, ◌≡◌, ◌⊎◌, ◌++◌, ◌∷◌, [], take, drop, ◌∙◌, ap, sym, refl, subst, rules, arith, inl, inr, true, false, append_assoc, take-append-drop}
 use Rattle.std.proofs.lemmas.List.{take_more, append-nil}
 use Rattle.thes_base.specs.Refusals.{Setting}
 use Rattle.thes_base.specs.Machine.{Step, Run}
 use Rattle.thes_core.specs.Kept.{Kept}
-use Rattle.thes_core.specs.Decides.{IsLeftAt}
+use Rattle.thes_core.specs.Decides.{IsLeftAt, RunsPart}
+use Rattle.thes_base.specs.State.{State}
+use Rattle.thes_base.specs.declared.request.Command.{Command}
+use Rattle.thes_base.specs.declared.request.Answer.{Answer}
 use Rattle.thes_core.proofs.NextLemmas.{run_push}
 use Rattle.thes_core.proofs.ApplyLemmas.{in_order_at}
 use Rattle.thes_core.proofs.machine.Core.run.Goals as goal
@@ -29,41 +32,25 @@ loop-command-preserved c =
           (run_push c.args.self.now.setting (take c.loop-command.command-index c.args.commands.now) i.3 c.args.self.now.state c.loop-command.self.state c.step.new.self.state c.command-item.result c.in-Ok.answer i.5 step),
     )
 
-pub returns-then-is_err-clause-runs : goal.returns-then-is_err-clause-runs
-returns-then-is_err-clause-runs c =
-    let i = c.loop-command.invariant in
-    let reserved : c.try_reserve.new.self.items ≡ c.loop-command.answers.items = search rules in (
-      refl,
-      record {
-        done = take c.loop-command.command-index c.args.commands.now;
-        left = drop c.loop-command.command-index c.args.commands.now;
-        answers = i.3;
-        state = c.loop-command.self.state;
-        all = sym (take-append-drop c.loop-command.command-index c.args.commands.now);
-        kept = reserved ∙ i.4;
-        run = i.5;
-        holds = inr (i.0, refl, i.1);
-      },
-    )
-
--- what a step that met want of memory left: the state before, or a spent core
+-- what a step that ran out of memory left: the state before, or a spent core
 left_at : (old before new : Kept) → before.spent ≡ false → before.setting ≡ old.setting → (new ≡ before) ⊎ (new.spent ≡ true) → IsLeftAt old before.state new
 left_at old before new unspent setting (inl same) = inr (ap (λ (k : Kept). k.spent) same ∙ unspent, ap (λ (k : Kept). k.state) same, ap (λ (k : Kept). k.setting) same ∙ setting)
 left_at old before new unspent setting (inr spent) = inl spent
 
+-- the requests so far, with their answers, and the core that is left
+part : (old new : Kept) (commands : List Command) (i : ℕ) (before after answers : List Answer) (s : State) → after ≡ before ++ answers → Run old.setting old.state (take i commands) answers s → IsLeftAt old s new → RunsPart old commands before after new
+part old new commands i before after answers s kept run holds =
+    record { done = take i commands; left = drop i commands; answers = answers; state = s; all = sym (take-append-drop i commands); kept = kept; run = run; holds = holds }
+
+pub returns-then-is_err-clause-runs : goal.returns-then-is_err-clause-runs
+returns-then-is_err-clause-runs c =
+    let i = c.loop-command.invariant in
+    let reserved : c.try_reserve.new.self.items ≡ c.loop-command.answers.items = search rules in
+    (refl, part c.args.self.now c.loop-command.self c.args.commands.now c.loop-command.command-index _ _ i.3 c.loop-command.self.state (reserved ∙ i.4) i.5 (inr (i.0, refl, i.1)))
+
 pub returns-in-Err-clause-runs : goal.returns-in-Err-clause-runs
 returns-in-Err-clause-runs c =
     let i = c.loop-command.invariant in
-    let reserved : c.try_reserve.new.self.items ≡ c.loop-command.answers.items = search rules in (
-      c.in-Err.ensures.performs.0,
-      record {
-        done = take c.loop-command.command-index c.args.commands.now;
-        left = drop c.loop-command.command-index c.args.commands.now;
-        answers = i.3;
-        state = c.loop-command.self.state;
-        all = sym (take-append-drop c.loop-command.command-index c.args.commands.now);
-        kept = reserved ∙ i.4;
-        run = i.5;
-        holds = left_at c.args.self.now c.loop-command.self c.step.new.self i.0 i.1 c.in-Err.ensures.performs.1;
-      },
-    )
+    let reserved : c.try_reserve.new.self.items ≡ c.loop-command.answers.items = search rules in
+    let left = left_at c.args.self.now c.loop-command.self c.step.new.self i.0 i.1 c.in-Err.ensures.performs.1 in
+    (c.in-Err.ensures.performs.0, part c.args.self.now c.step.new.self c.args.commands.now c.loop-command.command-index _ _ i.3 c.loop-command.self.state (reserved ∙ i.4) i.5 left)

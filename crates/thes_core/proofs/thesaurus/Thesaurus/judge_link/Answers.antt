@@ -1,8 +1,22 @@
-use Rattle.thes_core.proofs.JudgeLemmas.{link_row_stops, link_row_passes}
+use Rattle.std.proofs.Common.{rules, subst}
+use Rattle.thes_base.specs.Machine.{link}
+use Rattle.thes_base.specs.Resources.{is_outside}
+use Rattle.thes_base.proofs.RowLemmas.{passed_if}
+use Rattle.thes_core.specs.Requests.{unless_linkable}
+use Rattle.thes_core.specs.View.{state_of}
+use Rattle.thes_core.proofs.GrowthLemmas.{link_grows}
+use Rattle.thes_core.proofs.JudgeLemmas.{room_row}
 use Rattle.thes_core.proofs.thesaurus.Thesaurus.judge_link.Goals as goal
 
 pub returns-in-Some-2 : goal.returns-in-Some-2
-returns-in-Some-2 c = link_row_stops c.args.self.now c.requires c.args.link.now c.in_default.ensures c.in-Some-2.refusal c.in_ok-refusal.field-0 c.in-Some-2.is c.in_ok-refusal.ensures
+returns-in-Some-2 c =
+    let t = c.args.self.now in
+    let says = subst (unless_linkable (is_outside t.vocab.resources) t.graph.links (link c.args.kind c.args.a c.args.b)) c.in-Some-2.is c.in_ok-refusal.ensures in
+    search rules depth 16
 
 pub returns : goal.returns
-returns c = link_row_passes c.args.self.now c.requires c.args.link.now c.in_default.ensures c.judge_room.result c.in_ok-refusal.field-0 c.in_default-2.is c.in_ok-refusal.ensures c.judge_room.ensures
+returns c =
+    let t = c.args.self.now in
+    let says = subst (unless_linkable (is_outside t.vocab.resources) t.graph.links (link c.args.kind c.args.a c.args.b)) c.in_default-2.is c.in_ok-refusal.ensures in
+    let room = room_row t (link_grows (state_of t) (link c.args.kind c.args.a c.args.b) (passed_if says).0) c.judge_room.ensures in
+    search rules depth 18

@@ -1,5 +1,9 @@
-use Rattle.thes_core.proofs.JudgeLemmas.{unlink_passes}
+use Rattle.std.proofs.Common.{rules}
+use Rattle.thes_base.specs.Machine.{link}
+use Rattle.thes_core.proofs.JudgeLemmas.{held_as}
 use Rattle.thes_core.proofs.thesaurus.Thesaurus.judge_unlink.Goals as goal
 
 pub returns : goal.returns
-returns c = unlink_passes c.args.self.now c.requires c.args.link.now c.in_default.ensures c.has.result c.has.ensures c.if-not-has.false
+returns c =
+    let held = held_as c.args.self.now c.requires (link c.args.kind c.args.a c.args.b) c.has.result c.has.ensures in
+    search rules depth 16

@@ -13,40 +13,40 @@ returns-then-holds-clause-ok c =
     sym (ap (λ (links : Links). record { links = links; outside = c.args.self.now.outside })
     (ap (insert c.args.self.now.links) (sym c.normal-new.ensures) ∙ insert_again c.args.self.now.links c.normal-new.result (sym c.if-holds.ensures.holds)))
 
-pub put-requires-clause-sorted : goal.put-requires-clause-sorted
-put-requires-clause-sorted c =
-    row_sorted c.self.inside.held.keys c.self.inside.marked.keys c.make_room-2.new.rows
-    (IsIndexed-same c.self.inside.held.keys c.self.inside.marked.keys c.self.inside.rows c.make_room-2.new.rows
+pub insert-requires-2-clause-rises : goal.insert-requires-2-clause-rises
+insert-requires-2-clause-rises c =
+    row_sorted c.self.inside.held.keys c.self.inside.marked.keys c.make_room-2.new.self
+    (IsIndexed-same c.self.inside.held.keys c.self.inside.marked.keys c.self.inside.rows c.make_room-2.new.self
     (λ m. c.in_ok-make_room-2.ensures.same m ∙ c.in_ok-make_room.ensures.same m) c.self.invariant)
     c.normal-new.result.a
 
-pub put-requires-2-clause-room : goal.put-requires-2-clause-room
-put-requires-2-clause-room c =
-    c.put.ensures.rooms c.normal-new.result.b (λ e. two (sym e)) c.in_ok-make_room-2.ensures.room
+pub insert-requires-3-clause-room : goal.insert-requires-3-clause-room
+insert-requires-3-clause-room c =
+    c.insert-2.ensures.rooms c.normal-new.result.b (λ e. two (sym e)) c.in_ok-make_room-2.ensures.room
   where
     two : c.normal-new.result.a ≢ c.normal-new.result.b
     two = subst (λ (l : Link). l.a ≢ l.b) (sym c.normal-new.ensures) (norm_two (is_marked c.args.self.now) c.args.link.now c.requires)
 
-pub put-requires-2-clause-sorted : goal.put-requires-2-clause-sorted
-put-requires-2-clause-sorted c =
-    other_sorted c.normal-new.result.a c.normal-new.result.b c.make_room-2.new.rows c.put.new.rows
-    (subst (λ (l : Link). l.a ≢ l.b) (sym c.normal-new.ensures) (norm_two (is_marked c.args.self.now) c.args.link.now c.requires))
-    c.put.ensures.others
-    (row_sorted c.self.inside.held.keys c.self.inside.marked.keys c.make_room-2.new.rows
-    (IsIndexed-same c.self.inside.held.keys c.self.inside.marked.keys c.self.inside.rows c.make_room-2.new.rows
+pub insert-requires-3-clause-rises : goal.insert-requires-3-clause-rises
+insert-requires-3-clause-rises c =
+    other_sorted c.self.inside.held.keys c.self.inside.marked.keys c.make_room-2.new.self
+    (IsIndexed-same c.self.inside.held.keys c.self.inside.marked.keys c.self.inside.rows c.make_room-2.new.self
     (λ m. c.in_ok-make_room-2.ensures.same m ∙ c.in_ok-make_room.ensures.same m) c.self.invariant)
-    c.normal-new.result.b)
+    c.insert-2.new.self c.normal-new.result.a c.normal-new.result.b _
+    (subst (λ (l : Link). l.a ≢ l.b) (sym c.normal-new.ensures) (norm_two (is_marked c.args.self.now) c.args.link.now c.requires))
+    c.insert-2.ensures.list
 
 pub invariant_of-self-2 : goal.invariant_of-self-2
 invariant_of-self-2 c =
-    IsIndexed-added c.self.inside.held.keys c.self.inside.marked.keys c.make_room-2.new.rows c.put.new.rows c.put-2.new.rows c.normal-new.result
-    (IsIndexed-same c.self.inside.held.keys c.self.inside.marked.keys c.self.inside.rows c.make_room-2.new.rows
+    IsIndexed-added c.self.inside.held.keys c.self.inside.marked.keys c.make_room-2.new.self
+    (IsIndexed-same c.self.inside.held.keys c.self.inside.marked.keys c.self.inside.rows c.make_room-2.new.self
     (λ m. c.in_ok-make_room-2.ensures.same m ∙ c.in_ok-make_room.ensures.same m) c.self.invariant)
+    c.insert-2.new.self c.insert-3.new.self c.normal-new.result c.standing_of.result c.standing_of-2.result c.standing_of.ensures c.standing_of-2.ensures
     (subst (λ (l : Link). l.a ≢ l.b) (sym c.normal-new.ensures) (norm_two (is_marked c.args.self.now) c.args.link.now c.requires))
-    c.put.ensures.others c.put-2.ensures.others c.insert.new.self.keys
+    c.insert.new.self.keys
     (subst (λ (f : ℕ → Bool). norm f c.normal-new.result ≡ c.normal-new.result) (sym (ap is_marked c.self.view_is))
     (ap (norm (is_marked c.args.self.now)) c.normal-new.ensures ∙ norm_again (is_marked c.args.self.now) c.args.link.now ∙ sym c.normal-new.ensures))
-    c.put.ensures.here c.put-2.ensures.here c.in_ok-insert.ensures.keys
+    c.in_ok-insert.ensures.keys c.insert-2.ensures.list c.insert-3.ensures.list
 
 pub returns-clause-ok : goal.returns-clause-ok
 returns-clause-ok c =

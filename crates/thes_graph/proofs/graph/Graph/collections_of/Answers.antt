@@ -1,10 +1,10 @@
 use Rattle.std.specs.Ordering.{nat_cmp}
-use Rattle.thes_base.specs.declared.data.LinkKind.TheVariants.{Member}
-use Rattle.thes_graph.proofs.ReaderLemmas.{listing_as, ok_as, backward_link, link_backward}
+use Rattle.thes_lists.proofs.ListingLemmas.{listing_as}
+use Rattle.thes_graph.proofs.ReaderLemmas.{ok_as, collection_from, collection_to}
 use Rattle.thes_graph.proofs.graph.Graph.collections_of.Goals as goal
 
 pub returns : goal.returns
 returns c =
     ok_as _ _ c.linked.result
-    (λ found is. listing_as nat_cmp _ _ found.items (backward_link c.args.self.now.links Member c.args.n) (link_backward c.args.self.now.links Member c.args.n) is)
+    (λ found is. listing_as nat_cmp _ _ found.items (collection_from c.args.self.now.links c.args.n) (collection_to c.args.self.now.links c.args.n) is)
     c.linked.ensures

@@ -6,22 +6,23 @@ use Rattle.thes_graph.proofs.SetLemmas.{remove_absent, not_held_of}
 use Rattle.thes_graph.proofs.IndexLemmas.{looked_up, row_sorted, other_sorted, IsIndexed-taken, from_list_without, without_computed}
 use Rattle.thes_graph.proofs.graph.Graph.detach.Goals as goal
 
-pub take-requires : goal.take-requires
-take-requires c = row_sorted c.self.inside.held.keys c.self.inside.marked.keys c.self.inside.rows c.self.invariant c.args.link.now.a
+pub remove-requires-then-remove : goal.remove-requires-then-remove
+remove-requires-then-remove c = row_sorted c.self.inside.held.keys c.self.inside.marked.keys c.self.inside.rows c.self.invariant c.args.link.now.a
 
-pub take-requires-then-remove : goal.take-requires-then-remove
-take-requires-then-remove c =
-    other_sorted c.args.link.now.a c.args.link.now.b c.self.inside.rows c.take.new.rows
+pub remove-requires-then-remove-2 : goal.remove-requires-then-remove-2
+remove-requires-then-remove-2 c =
+    other_sorted c.self.inside.held.keys c.self.inside.marked.keys c.self.inside.rows c.self.invariant
+    c.remove-then-remove.new.self c.args.link.now.a c.args.link.now.b _
     (c.self.invariant.two_ends c.args.link.now (sym (looked_up c.self.inside.held.keys c.args.link.now true c.if-remove.ensures.test)))
-    c.take.ensures.others
-    (row_sorted c.self.inside.held.keys c.self.inside.marked.keys c.self.inside.rows c.self.invariant c.args.link.now.b)
+    c.remove-then-remove.ensures
 
 pub invariant_of-self : goal.invariant_of-self
 invariant_of-self c =
-    IsIndexed-taken c.self.inside.held.keys c.self.inside.marked.keys c.self.inside.rows c.take.new.rows c.take-then-remove.new.rows c.args.link.now c.self.invariant
+    IsIndexed-taken c.self.inside.held.keys c.self.inside.marked.keys c.self.inside.rows c.self.invariant
+    c.remove-then-remove.new.self c.remove-then-remove-2.new.self c.args.link.now c.standing_of.result c.standing_of-then-remove.result c.standing_of.ensures c.standing_of-then-remove.ensures
     (c.self.invariant.two_ends c.args.link.now (sym (looked_up c.self.inside.held.keys c.args.link.now true c.if-remove.ensures.test)))
-    c.take.ensures.others c.take-then-remove.ensures.others c.remove.new.self.keys
-    c.take.ensures.here c.take-then-remove.ensures.here c.if-remove.ensures.keys
+    c.remove.new.self.keys c.if-remove.ensures.keys
+    c.remove-then-remove.ensures c.remove-then-remove-2.ensures
 
 pub returns-then-remove : goal.returns-then-remove
 returns-then-remove c =

@@ -1,32 +1,37 @@
-use Rattle.std.proofs.Common.{◌≡◌, List, ℕ, ◌∷◌, [], ◌++◌, Some, None, length, take, ap, sym, subst, ◌∙◌, append-nil, arith}
-use Rattle.std.specs.Ordering.{nat_cmp}
-use Rattle.std.specs.List.{filter_map}
+use Rattle.std.proofs.Common.{◌≡◌, List, length, take, ap, subst, ◌∙◌, arith}
 use Rattle.std.proofs.Math.Seq.{take-length}
-use Rattle.thes_base.specs.Listing.{IsListing}
-use Rattle.thes_graph.specs.Net.{links_at}
-use Rattle.thes_graph.specs.Linked.{IsLinked, led_by}
-use Rattle.thes_graph.proofs.MovedLemmas.{filter_map_more}
-use Rattle.thes_graph.proofs.ReaderLemmas.{linked_listing}
+use Rattle.std.specs.Ordering.{nat_cmp}
+use Rattle.thes_graph.specs.Steps.{step_in}
+use Rattle.thes_graph.specs.Linked.{led_to}
+use Rattle.std.specs.Cmp.{nat_cmp_total}
+use Rattle.std.specs.FinSet.{nat_cmp-IsAntisymmetric}
+use Rattle.thes_lists.proofs.ListingLemmas.{listing_none}
+use Rattle.thes_graph.specs.declared.side.Standing.{Standing}
+use Rattle.thes_graph.proofs.WeightLemmas.{Contains-none}
+use Rattle.thes_graph.proofs.ReaderLemmas.{ListsSeen, seen_more, seen_no_more, seen_listing, linked_from, linked_to}
 use Rattle.thes_graph.proofs.graph.Graph.linked.Goals as goal
-use Rattle.thes_graph.proofs.graph.Graph.linked.Goals.{in-Some+in_ok-push, in_default}
+use Rattle.thes_graph.proofs.graph.Graph.linked.Goals.{in-Some+in_ok-list_in, in_default}
 
-pub loop-link-preserved : goal.loop-link-preserved
-loop-link-preserved c =
-    elim c.match-lead_by.branch [
-      | in-Some+in_ok-push w ↦
-          rw w.found-is
-          (w.in_ok-push.ensures.items ∙ ap (λ ms. ms ++ w.in-Some.m ∷ []) c.loop-link.invariant
-          ∙ sym (filter_map_more (led_by c.args.kind c.args.way c.args.n) c.at-link-items.result.now c.loop-link.link-index c.link-item.result (Some w.in-Some.m) c.loop-link-test.true c.link-item.is w.in-Some.ensures))
+pub loop-standing-init : goal.loop-standing-init
+loop-standing-init c = rw c.new-found.ensures.items (listing_none nat_cmp _ (λ p has. Contains-none p has))
+
+pub loop-standing-preserved : goal.loop-standing-preserved
+loop-standing-preserved c =
+    elim c.match-lead.branch [
+      | in-Some+in_ok-list_in w ↦
+          rw (w.found-is, w.in_ok-list_in.ensures)
+          (seen_more nat_cmp (led_to c.args.linked c.args.n) c.at-standing-items.result.now c.loop-standing.standing-index c.standing-item.result c.loop-standing-test.true c.standing-item.is c.loop-standing.found.items c.loop-standing.invariant nat_cmp_total nat_cmp-IsAntisymmetric w.in-Some.m (w.in-Some.ensures ∙ ap (λ way. step_in way c.standing-item.result.link.a c.standing-item.result.link.b c.args.n) c.way_to-way.ensures))
       | in_default w ↦
           rw w.found-is
-          (c.loop-link.invariant ∙ sym (append-nil _)
-          ∙ sym (filter_map_more (led_by c.args.kind c.args.way c.args.n) c.at-link-items.result.now c.loop-link.link-index c.link-item.result None c.loop-link-test.true c.link-item.is w.in_default.ensures))
+          (seen_no_more nat_cmp (led_to c.args.linked c.args.n) c.at-standing-items.result.now c.loop-standing.standing-index c.standing-item.result c.loop-standing-test.true c.standing-item.is c.loop-standing.found.items c.loop-standing.invariant (w.in_default.ensures ∙ ap (λ way. step_in way c.standing-item.result.link.a c.standing-item.result.link.b c.args.n) c.way_to-way.ensures))
     ]
 
 pub returns : goal.returns
 returns c =
-    let end : c.loop-link.link-index ≡ length c.at-link-items.result.now = omega arith in
-    let found : c.loop-link.found.items ≡ filter_map (led_by c.args.kind c.args.way c.args.n) (links_at c.args.self.now.links c.args.n) =
-    c.loop-link.invariant ∙ ap (filter_map (led_by c.args.kind c.args.way c.args.n)) (ap (λ i. take i c.at-link-items.result.now) end ∙ take-length c.at-link-items.result.now ∙ c.at-link-items.ensures.row) in
-    subst (λ (ms : List ℕ). IsListing nat_cmp (IsLinked c.args.self.now.links c.args.kind c.args.way c.args.n) ms) (sym found)
-    (linked_listing c.args.self.now c.args.kind c.args.way c.args.n c.requires c.at-link-items.ensures.two_ends c.at-link-items.ensures.normal)
+    let end : c.loop-standing.standing-index ≡ length c.at-standing-items.result.now = omega arith in
+    let whole = ap (λ i. take i c.at-standing-items.result.now) end ∙ take-length c.at-standing-items.result.now ∙ c.at-standing-items.ensures.row in
+    seen_listing nat_cmp (led_to c.args.linked c.args.n) c.args.self.now.links c.args.n _
+    (linked_from c.args.self.now.links c.args.linked c.args.n)
+    (linked_to c.args.self.now.links c.args.linked c.args.n)
+    c.loop-standing.found.items
+    (subst (λ (row : List Standing). ListsSeen nat_cmp (led_to c.args.linked c.args.n) row c.loop-standing.found.items) whole c.loop-standing.invariant)

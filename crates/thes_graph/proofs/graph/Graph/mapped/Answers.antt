@@ -1,31 +1,36 @@
-use Rattle.std.proofs.Common.{◌≡◌, List, Contains, length, take, ap, subst, ◌∙◌, arith}
-use Rattle.std.specs.List.{filter_map}
+use Rattle.std.proofs.Common.{◌≡◌, List, length, take, ap, subst, ◌∙◌, arith}
 use Rattle.std.proofs.Math.Seq.{take-length}
-use Rattle.thes_base.specs.declared.data.Link.{Link}
-use Rattle.thes_base.specs.Listing.{IsListing}
 use Rattle.thes_base.specs.Views.{mapping_cmp}
 use Rattle.thes_graph.specs.Mapped.{as_seen_from}
-use Rattle.thes_graph.proofs.MappingLemmas.{listing_none, listing_more, listing_no_more, mapping_listing}
+use Rattle.thes_base.proofs.WordOrders.{mapping_total, mapping_exact}
+use Rattle.thes_graph.proofs.MappingLemmas.{seen_from, seen_to}
+use Rattle.thes_lists.proofs.ListingLemmas.{listing_none}
+use Rattle.thes_graph.specs.declared.side.Standing.{Standing}
+use Rattle.thes_graph.proofs.WeightLemmas.{Contains-none}
+use Rattle.thes_graph.proofs.ReaderLemmas.{ListsSeen, seen_more, seen_no_more, seen_listing}
 use Rattle.thes_graph.proofs.graph.Graph.mapped.Goals as goal
 use Rattle.thes_graph.proofs.graph.Graph.mapped.Goals.{in-Some+in_ok-list_mapping, in_default}
 
-pub loop-link-init : goal.loop-link-init
-loop-link-init c = rw c.new-found.ensures.items (listing_none (as_seen_from c.args.n))
+pub loop-standing-init : goal.loop-standing-init
+loop-standing-init c = rw c.new-found.ensures.items (listing_none mapping_cmp _ (λ p has. Contains-none p has))
 
-pub loop-link-preserved : goal.loop-link-preserved
-loop-link-preserved c =
+pub loop-standing-preserved : goal.loop-standing-preserved
+loop-standing-preserved c =
     elim c.match-as_seen.branch [
       | in-Some+in_ok-list_mapping w ↦
           rw (w.found-is, w.in_ok-list_mapping.ensures)
-          (listing_more (as_seen_from c.args.n) c.at-link-items.result.now c.loop-link.link-index c.link-item.result c.loop-link-test.true c.link-item.is c.loop-link.found.items c.loop-link.invariant w.in-Some.mapping w.in-Some.ensures)
+          (seen_more mapping_cmp (as_seen_from c.args.n) c.at-standing-items.result.now c.loop-standing.standing-index c.standing-item.result c.loop-standing-test.true c.standing-item.is c.loop-standing.found.items c.loop-standing.invariant mapping_total mapping_exact w.in-Some.mapping w.in-Some.ensures)
       | in_default w ↦
           rw w.found-is
-          (listing_no_more (as_seen_from c.args.n) c.at-link-items.result.now c.loop-link.link-index c.link-item.result c.loop-link-test.true c.link-item.is c.loop-link.found.items c.loop-link.invariant w.in_default.ensures)
+          (seen_no_more mapping_cmp (as_seen_from c.args.n) c.at-standing-items.result.now c.loop-standing.standing-index c.standing-item.result c.loop-standing-test.true c.standing-item.is c.loop-standing.found.items c.loop-standing.invariant w.in_default.ensures)
     ]
 
 pub returns : goal.returns
 returns c =
-    let end : c.loop-link.link-index ≡ length c.at-link-items.result.now = omega arith in
-    let whole = ap (λ i. take i c.at-link-items.result.now) end ∙ take-length c.at-link-items.result.now ∙ c.at-link-items.ensures.row in
-    mapping_listing c.args.self.now.links c.args.n c.at-link-items.ensures.two_ends c.loop-link.found.items
-    (subst (λ (row : List Link). IsListing mapping_cmp (λ p. Contains (filter_map (as_seen_from c.args.n) row) p) c.loop-link.found.items) whole c.loop-link.invariant)
+    let end : c.loop-standing.standing-index ≡ length c.at-standing-items.result.now = omega arith in
+    let whole = ap (λ i. take i c.at-standing-items.result.now) end ∙ take-length c.at-standing-items.result.now ∙ c.at-standing-items.ensures.row in
+    seen_listing mapping_cmp (as_seen_from c.args.n) c.args.self.now.links c.args.n _
+    (λ p (l, held, at, gives). seen_from c.args.self.now.links c.args.n l p held at gives)
+    (seen_to c.args.self.now.links c.args.n c.at-standing-items.ensures.two_ends)
+    c.loop-standing.found.items
+    (subst (λ (row : List Standing). ListsSeen mapping_cmp (as_seen_from c.args.n) row c.loop-standing.found.items) whole c.loop-standing.invariant)

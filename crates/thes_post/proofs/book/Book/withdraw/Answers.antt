@@ -4,12 +4,11 @@ use Rattle.thes_base.specs.declared.data.History.{History}
 use Rattle.thes_base.specs.Rows.{accepted}
 use Rattle.thes_base.specs.Refusals.{unless_standing}
 use Rattle.thes_base.specs.Changes.{histories_withdrawn}
-use Rattle.thes_post.specs.Standing.{listed_at}
-use Rattle.thes_post.proofs.IndexLemmas.{listed_rises, withdrawing_fits, withdrawing_is, withdrawing_indexed}
+use Rattle.thes_post.proofs.IndexLemmas.{withdrawing_fits, withdrawing_is, withdrawing_indexed}
 use Rattle.thes_post.proofs.book.Book.withdraw.Goals as goal
 
 pub remove-requires : goal.remove-requires
-remove-requires c = listed_rises c.self.inside.histories.items _ _ _ _ c.self.invariant c.place_of-concept.result
+remove-requires c = (c.self.invariant.standing c.place_of-concept.result).rises
 
 pub overflow_add-self : goal.overflow_add-self
 overflow_add-self c =
@@ -20,7 +19,7 @@ overflow_add-self c =
 pub invariant_of-self : goal.invariant_of-self
 invariant_of-self c =
     let row = subst (λ (hs : List History). unless_standing hs c.args.number accepted None) (sym c.self.view_is) c.requires in
-    withdrawing_indexed c.self.inside.histories.items _ _ _ _ c.self.invariant c.args.number c.get.result c.index_mut-history.result.now row c.get.ensures.value c.index_mut-history.ensures.value (listed_at c.remove.new.self) c.place_of-concept.result c.place_of-concept.ensures c.remove.ensures
+    withdrawing_indexed c.self.inside.histories.items _ _ _ _ c.self.invariant c.args.number c.get.result c.index_mut-history.result.now row c.get.ensures.value c.index_mut-history.ensures.value c.remove.new.self c.place_of-concept.result c.place_of-concept.ensures c.remove.ensures
 
 pub returns : goal.returns
 returns c =

@@ -1,7 +1,7 @@
 use Rattle.std.proofs.Common.{rules, ◌≡◌, ◌∙◌, ◌+◌, ap, subst, cond, Bool}
 use Rattle.std.specs.FinSet as set
 use Rattle.thes_base.specs.Machine.{owned}
-use Rattle.thes_vocab.specs.Rows.{AreRows}
+use Rattle.thes_vocab.specs.LabelRows.{AreRows}
 use Rattle.thes_vocab.proofs.AnswerLemmas.{on_any_err}
 use Rattle.thes_vocab.proofs.TableLemmas.{rows_same, rows_put, same_labels, put_labels}
 use Rattle.thes_vocab.proofs.labels.LabelTable.insert.Goals as goal

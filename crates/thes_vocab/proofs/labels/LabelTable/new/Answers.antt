@@ -1,7 +1,7 @@
 use Rattle.std.proofs.Common.{◌∙◌, ap, sym}
 use Rattle.std.specs.FinSet as set
 use Rattle.thes_base.specs.Labels.{label_cmp}
-use Rattle.thes_vocab.specs.Rows.{labels_in}
+use Rattle.thes_vocab.specs.LabelRows.{labels_in}
 use Rattle.thes_vocab.proofs.labels.LabelTable.new.Goals as goal
 
 pub invariant_of-result : goal.invariant_of-result

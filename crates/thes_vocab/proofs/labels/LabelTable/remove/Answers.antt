@@ -2,7 +2,7 @@ use Rattle.std.proofs.Common.{◌∙◌, ◌-◌, ap, sym, subst, cond, Bool}
 use Rattle.std.specs.FinSet as set
 use Rattle.thes_base.specs.Machine.{owned}
 use Rattle.thes_vocab.specs.LabelData.{own_label}
-use Rattle.thes_vocab.specs.Rows.{AreRows}
+use Rattle.thes_vocab.specs.LabelRows.{AreRows}
 use Rattle.thes_vocab.proofs.TableLemmas.{rows_taken, take_labels, counted_one}
 use Rattle.thes_vocab.proofs.labels.LabelTable.remove.Goals as goal
 

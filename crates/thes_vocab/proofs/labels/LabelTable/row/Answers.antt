@@ -1,7 +1,7 @@
 use Rattle.std.proofs.Common.{subst}
 use Rattle.std.specs.Option.{MatchOption, option_copied}
 use Rattle.thes_base.specs.Labels.{Labels}
-use Rattle.thes_vocab.specs.Rows.{Owns, OwnsNone}
+use Rattle.thes_vocab.specs.LabelRows.{Owns, OwnsNone}
 use Rattle.thes_vocab.proofs.TableLemmas.{row_owns}
 use Rattle.thes_vocab.proofs.AnswerLemmas.{behind}
 use Rattle.thes_vocab.proofs.labels.LabelTable.row.Goals as goal

@@ -1,0 +1,246 @@
+//! Texts at the edges of their forms.
+use Form::{Base, Iri, Key, Note, Record, Tag, Text};
+use std::alloc::{AllocError, Global};
+use std::test::Fail;
+use thes_base::fault::{FormFault, ReadStop};
+use thes_base::text;
+
+// What a text is read as.
+#[derive(Clone, Copy, Debug, PartialEq, Eq)]
+enum Form {
+    Tag,
+    Text,
+    Note,
+    Iri,
+    Base,
+    Key,
+    Record,
+}
+
+impl Form {
+    fn fault(self) -> FormFault {
+        match self {
+            Tag => FormFault::BadTag,
+            Text | Note => FormFault::BadText,
+            Iri | Base => FormFault::BadIri,
+            Key => FormFault::BadKey,
+            Record => FormFault::BadRecord,
+        }
+    }
+}
+
+// What a clone shows, if it is equal to what was cloned.
+fn shown(alloc: Global, clone: &str, is_equal: bool) -> Result<String, ReadStop> {
+    let shown = if is_equal { clone } else { "another value" };
+    Ok(String::from_str(alloc, shown)?)
+}
+
+fn tag(alloc: Global, text: &str) -> Result<String, ReadStop> {
+    let read = text::Tag::read(alloc, text)?;
+    let clone = read.try_clone(alloc)?;
+    shown(alloc, clone.as_str(), read == clone)
+}
+
+fn text(alloc: Global, text: &str) -> Result<String, ReadStop> {
+    let read = text::Text::read(alloc, text)?;
+    let clone = read.try_clone(alloc)?;
+    shown(alloc, clone.as_str(), read == clone)
+}
+
+fn note(alloc: Global, text: &str) -> Result<String, ReadStop> {
+    let read = text::Note::read(alloc, text)?;
+    let clone = read.try_clone(alloc)?;
+    shown(alloc, clone.as_str(), read == clone)
+}
+
+fn iri(alloc: Global, text: &str) -> Result<String, ReadStop> {
+    let read = text::Iri::read(alloc, text)?;
+    let clone = read.try_clone(alloc)?;
+    shown(alloc, clone.as_str(), read == clone)
+}
+
+fn base(alloc: Global, text: &str) -> Result<String, ReadStop> {
+    let read = text::Base::read(alloc, text)?;
+    let clone = read.try_clone(alloc)?;
+    shown(alloc, clone.as_str(), read == clone)
+}
+
+fn key(alloc: Global, text: &str) -> Result<String, ReadStop> {
+    let read = text::Key::read(alloc, text)?;
+    let clone = read.try_clone(alloc)?;
+    shown(alloc, clone.as_str(), read == clone)
+}
+
+fn record(alloc: Global, text: &str) -> Result<String, ReadStop> {
+    let read = text::RecordName::read(alloc, text)?;
+    let clone = read.try_clone(alloc)?;
+    shown(alloc, clone.as_str(), read == clone)
+}
+
+// What a text is kept as, if it has the form.
+fn kept(alloc: Global, form: Form, given: &str) -> Result<String, ReadStop> {
+    match form {
+        Tag => tag(alloc, given),
+        Text => text(alloc, given),
+        Note => note(alloc, given),
+        Iri => iri(alloc, given),
+        Base => base(alloc, given),
+        Key => key(alloc, given),
+        Record => record(alloc, given),
+    }
+}
+
+static KEPT: [(Form, &str); 21] = [
+    (Tag, "e"),
+    (Tag, "abcdefgh"),
+    (Tag, "abcdefgh-12345678-abcdefgh-12345678"),
+    (Text, "a"),
+    (Text, "two words"),
+    (Text, "Größe \u{1F431}"),
+    (Text, "\"\\/\u{80}\u{A0}"),
+    (Note, "All small cats."),
+    (Key, "k"),
+    (Key, "!~"),
+    (Key, "a/b:c"),
+    (Record, "r"),
+    (Record, " "),
+    (Record, " r 1 "),
+    (Record, "é"),
+    (Iri, "a:b"),
+    (Iri, "http://example.org/x"),
+    (Iri, "A+1-.z::"),
+    (Iri, "x:é\u{7F}"),
+    (Base, "http://example.org/"),
+    (Base, "a:b"),
+];
+
+#[test]
+fn a_text_of_the_form_is_kept(rt: HostRuntime) -> Result<(), Fail> {
+    for (form, given) in &KEPT {
+        let text = kept(rt.alloc(), *form, given)?;
+        assert_eq!(rt; text.as_str(), *given, "{form:?}");
+    }
+    Ok(())
+}
+
+static LOWERED: [(&str, &str); 2] = [
+    ("EN-GB", "en-gb"),
+    ("sl-Rozaj-1994-abcdefgh", "sl-rozaj-1994-abcdefgh"),
+];
+
+#[test]
+fn a_tag_is_kept_in_lower_case(rt: HostRuntime) -> Result<(), Fail> {
+    for (given, lowered) in &LOWERED {
+        let text = kept(rt.alloc(), Tag, given)?;
+        assert_eq!(rt; text.as_str(), *lowered);
+    }
+    Ok(())
+}
+
+static REFUSED: [(Form, &[&str]); 5] = [
+    (
+        Tag,
+        &[
+            "",
+            "-",
+            "en-",
+            "-en",
+            "en--gb",
+            "abcdefghi",
+            "en-abcdefghi",
+            "e1",
+            "1-en",
+            "en_gb",
+            "en gb",
+            "é",
+            "en-é",
+            "abcdefgh-12345678-abcdefgh-1234567-a",
+        ],
+    ),
+    (
+        Text,
+        &[
+            "", " ", " Cats", "Cats ", "\tCats", "a\nb", "Cats\0", "a\u{1F}b", "a\u{7F}",
+        ],
+    ),
+    (Key, &[" k", "k 1", "k ", "k\u{7F}", "é"]),
+    (Record, &["r\n", "\u{7F}"]),
+    (
+        Iri,
+        &[
+            "", "x", "a:", ":b", "1a:b", "é:b", "a_b:c", "a b:c", "a:b c", "a:<", "a:b>c", "a:\"",
+            "a:{", "a:}", "a:|", "a:^", "a:`", "a:\\", "a:\u{1F}",
+        ],
+    ),
+];
+
+#[test]
+fn a_text_of_another_form_is_refused(rt: HostRuntime) -> Result<(), Fail> {
+    for (form, texts) in &REFUSED {
+        for given in *texts {
+            let stop = kept(rt.alloc(), *form, given).err();
+            assert_eq!(rt;
+                stop,
+                Some(ReadStop::Form(form.fault())),
+                "{form:?} {given:?}"
+            );
+        }
+    }
+    Ok(())
+}
+
+// A text with so many letters behind its start.
+fn lengthened(
+    alloc: Global,
+    start: &str,
+    letter: char,
+    count: usize,
+) -> Result<String, AllocError> {
+    let mut text = String::from_str(alloc, start)?;
+    for _ in 0..count {
+        text.push(letter)?;
+    }
+    Ok(text)
+}
+
+// The start of a text, the letter that follows it so many times, and whether it is short enough. The limits are on bytes: é has two.
+static LENGTHS: [(Form, &str, char, usize, bool); 16] = [
+    (Text, "", 'é', 128, true),
+    (Text, "", 'é', 129, false),
+    (Note, "", 'n', 0, false),
+    (Note, "", 'n', 2000, true),
+    (Note, "", 'n', 2001, false),
+    (Key, "", 'k', 0, false),
+    (Key, "", 'k', 64, true),
+    (Key, "", 'k', 65, false),
+    (Record, "", 'r', 0, false),
+    (Record, "", 'r', 128, true),
+    (Record, "", 'r', 129, false),
+    (Base, "a:", 'b', 198, true),
+    (Base, "a:", 'b', 199, false),
+    (Iri, "a:", 'b', 199, true),
+    (Iri, "a:", 'b', 510, true),
+    (Iri, "a:", 'b', 511, false),
+];
+
+#[test]
+fn each_form_has_a_longest_text(rt: HostRuntime) -> Result<(), Fail> {
+    for (form, start, letter, count, fits) in &LENGTHS {
+        let text = lengthened(rt.alloc(), start, *letter, *count)?;
+        let is_kept = kept(rt.alloc(), *form, text.as_str()).is_ok();
+        assert_eq!(rt; is_kept, *fits, "{form:?} {count}");
+    }
+    Ok(())
+}
+
+fn is_before(alloc: Global, first: &str, second: &str) -> Result<bool, ReadStop> {
+    Ok(text::Text::read(alloc, first)? < text::Text::read(alloc, second)?)
+}
+
+#[test]
+fn texts_are_ordered_by_their_bytes(rt: HostRuntime) -> Result<(), Fail> {
+    for (first, second) in [("A", "a"), ("Z", "a"), ("Zz", "a"), ("!", "a"), ("a", "aa")] {
+        assert!(rt; is_before(rt.alloc(), first, second)?, "{first}");
+    }
+    Ok(())
+}

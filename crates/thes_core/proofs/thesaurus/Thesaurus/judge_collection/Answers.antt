@@ -1,0 +1,12 @@
+use Rattle.std.proofs.Common.{rules}
+use Rattle.thes_base.specs.Changes.{collection_resource}
+use Rattle.thes_core.specs.View.{state_of}
+use Rattle.thes_core.proofs.GrowthLemmas.{made_grows}
+use Rattle.thes_core.proofs.JudgeLemmas.{room_row}
+use Rattle.thes_core.proofs.thesaurus.Thesaurus.judge_collection.Goals as goal
+
+pub returns : goal.returns
+returns c = λ tag text.
+    let t = c.args.self.now in
+    let room = room_row t (made_grows (state_of t) t.vocab.base c.requires.legal (collection_resource c.args.scheme) tag text) c.judge_room.ensures in
+    search rules depth 12

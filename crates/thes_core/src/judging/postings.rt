@@ -1,0 +1,74 @@
+//! What refuses splits, postings and withdrawals.
+ghost use Rattle.std.specs.Prelude.{◌≡◌, Some, IfOk, List, ℕ};
+ghost use Rattle.thes_base.specs.declared.request.Command.TheVariants as request;
+ghost use Rattle.thes_base.specs.Resources.{IsConcept, scheme_of};
+ghost use Rattle.thes_core.specs.Requests.{Judges};
+ghost use Rattle.thes_core.specs.View.{IsKept};
+
+use crate::arguments::judge_live_concept;
+use crate::room::Growth;
+use crate::thesaurus::Thesaurus;
+use std::alloc::AllocError;
+use thes_base::fault::Refusal;
+use thes_base::number::{PostNo, ResNo};
+use thes_base::text::{Tag, Text};
+
+impl Thesaurus {
+    // What refuses a split.
+    pub(super) fn judge_split(
+        &self,
+        source: ResNo,
+        tag: &Tag,
+        text: &Text,
+        postings: &[PostNo],
+    ) -> Result<Option<Refusal>, AllocError>
+        requires { IsKept self.now }
+        ensures { let command = request.Split source tag.now text.now postings.now in
+            IfOk result (Judges self.now command) }
+    {
+        if let Some(refusal) = judge_live_concept(&self.vocab, source) {
+            return Ok(Some(refusal));
+        }
+        if let Some(refusal) = self.book.judge_listed(self.alloc, source, postings)? {
+            return Ok(Some(refusal));
+        }
+        if let Some(refusal) = self.vocab.judge_concept(self.scheme(source), tag, text) {
+            return Ok(Some(refusal));
+        }
+        Ok(self.judge_room(Growth {
+            moves: postings.len() as u64,
+            ..Growth::NAMED
+        }))
+    }
+
+    // The scheme of a concept.
+    pub(crate) fn scheme(&self, concept: ResNo) -> ResNo
+        requires kept { IsKept self.now }
+        requires concept { IsConcept self.now.vocab.resources concept }
+        ensures { scheme_of self.now.vocab.resources concept ≡ Some result }
+    {
+        self.vocab.resource(concept).unwrap().scheme.unwrap()
+    }
+
+    // What refuses a posting of a new key.
+    pub(super) fn judge_post(&self, concept: ResNo) -> Option<Refusal>
+        requires { IsKept self.now }
+        ensures { (key rec : List ℕ) → Judges self.now (request.Post key rec concept) result }
+    {
+        if let Some(refusal) = judge_live_concept(&self.vocab, concept) {
+            return Some(refusal);
+        }
+        self.judge_room(Growth {
+            postings: 1,
+            ..Growth::NONE
+        })
+    }
+
+    // What refuses that a posting is withdrawn.
+    pub(super) fn judge_withdraw(&self, posting: PostNo) -> Option<Refusal>
+        requires { IsKept self.now }
+        ensures { Judges self.now (request.Withdraw posting) result }
+    {
+        self.book.judge_withdraw(posting)
+    }
+}

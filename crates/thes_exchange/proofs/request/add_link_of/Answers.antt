@@ -1,8 +1,0 @@
-use Rattle.std.proofs.Common.{rules}
-use Rattle.thes_exchange.specs.Requests.{add_link_of}
-use Rattle.thes_exchange.proofs.ReadingLemmas.{goes_on}
-use Rattle.thes_exchange.proofs.request.add_link_of.Goals as goal
-
-pub returns : goal.returns
-unfolding add_link_of
-returns c = goes_on _ _ c.in_ok-link.link _ c.in_ok-link.ensures (search rules)

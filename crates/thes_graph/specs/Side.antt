@@ -1,0 +1,42 @@
+-- Where a link leads from one of its ends, and the order of a node's links by it.
+use Rattle.std.specs.Prelude.{◌==◌, ℕ, Bool, true, false, if◌then◌else◌}
+use Rattle.std.specs.declared.cmp.Ordering.{Ordering}
+use Rattle.std.specs.Ordering.{nat_cmp, ordering_then}
+use Rattle.thes_base.specs.declared.data.Link.{Link}
+use Rattle.thes_base.specs.declared.data.Direction.{Direction}
+use Rattle.thes_base.specs.declared.data.Direction.TheVariants.{Forward, Backward, Either, Never}
+use Rattle.thes_base.specs.Links.{broader_way, related_way, exact_way, link_cmp}
+use Rattle.thes_graph.specs.declared.side.Side.{Side}
+use Rattle.thes_graph.specs.declared.side.Side.TheVariants.{Up, Beside, Alike, Down, Apart}
+use Rattle.thes_graph.specs.declared.side.Standing.{Standing}
+
+abbrev pub side_no : Side → ℕ
+side_no Up = 1
+side_no Beside = 2
+side_no Alike = 3
+side_no Down = 4
+side_no Apart = 5
+
+abbrev pub if_either : Direction → Side → Side → Side
+if_either Either one other = one
+if_either _ one other = other
+
+-- where a link leads from its first end, or from its other one: by the way to a broader concept, and those to a related one and
+-- to an exact match
+abbrev pub side_by : (first : Bool) → Direction → (beside alike : Direction) → Side
+side_by true Forward beside alike = Up
+side_by false Forward beside alike = Down
+side_by true Backward beside alike = Down
+side_by false Backward beside alike = Up
+side_by first _ beside alike = if_either beside Beside (if_either alike Alike Apart)
+
+-- where the link leads from n
+abbrev pub side_at : ℕ → Link → Side
+side_at n l = side_by (l.a == n) (broader_way l.kind) (related_way l.kind) (exact_way l.kind)
+
+abbrev pub standing_at : ℕ → Link → Standing
+standing_at n l = record { side = side_at n l; link = l }
+
+-- by side, and then as links are ordered
+abbrev pub standing_cmp : Standing → Standing → Ordering
+standing_cmp x y = ordering_then (nat_cmp (side_no x.side) (side_no y.side)) (link_cmp x.link y.link)

@@ -1,0 +1,69 @@
+//! Where a link leads from one of its ends, by which the links of a node are kept apart.
+ghost use Rattle.std.specs.Prelude.{◌≡◌};
+ghost use Rattle.thes_graph.specs.Side.{side_no, side_at, standing_at};
+
+use crate::relation::{Relation, way};
+use thes_base::data::{Direction, Link, LinkKind};
+use thes_base::number::ResNo;
+
+/// Where a link leads from one of its ends: up to a broader concept, to a related or to an exact match, down to a narrower one, or
+/// none of these.
+#[derive(Clone, Copy, PartialEq, Eq, PartialOrd, Ord)]
+pub enum Side {
+    Up,
+    Beside,
+    Alike,
+    Down,
+    Apart,
+}
+
+impl Side {
+    /// The place of the side in the order of a node's links.
+    pub fn number(self) -> u8
+        ensures { result ≡ side_no self }
+    {
+        match self {
+            Side::Up => 1,
+            Side::Beside => 2,
+            Side::Alike => 3,
+            Side::Down => 4,
+            Side::Apart => 5,
+        }
+    }
+}
+
+/// A link of a node, and where it leads from there.
+#[derive(Clone, Copy, PartialEq, Eq, PartialOrd, Ord)]
+pub struct Standing {
+    pub side: Side,
+    pub link: Link,
+}
+
+/// Where the link leads from the node.
+pub fn side_of(link: &Link, n: ResNo) -> Side
+    ensures { result ≡ side_at n link.now }
+{
+    let first = link.a == n;
+    match way(Relation::Broader, link.kind) {
+        Direction::Forward if first => return Side::Up,
+        Direction::Forward => return Side::Down,
+        Direction::Backward if first => return Side::Down,
+        Direction::Backward => return Side::Up,
+        _ => {}
+    }
+    match link.kind {
+        LinkKind::Related | LinkKind::RelMatch => Side::Beside,
+        LinkKind::Exact => Side::Alike,
+        _ => Side::Apart,
+    }
+}
+
+/// The link as it stands at the node.
+pub fn standing_of(link: &Link, n: ResNo) -> Standing
+    ensures { result ≡ standing_at n link.now }
+{
+    Standing {
+        side: side_of(link, n),
+        link: *link,
+    }
+}

@@ -1,0 +1,133 @@
+//! A book of which the tests know what its calls answer, and no contract. Each change is judged before it is made.
+use std::alloc::{AllocError, Global};
+use thes_base::data::{History, Known, Totals};
+use thes_base::fault::{ReadStop, Refusal};
+use thes_base::number::{PostNo, ResNo};
+use thes_base::text::{Key, RecordName};
+use thes_post::book::Book;
+
+/// What a change is answered with.
+#[derive(Clone, Copy, Debug, PartialEq, Eq)]
+pub enum Answer {
+    Done,
+    Number(u32),
+    Moved(u32),
+    Again(u32),
+    Reused,
+    No(Refusal),
+}
+
+/// A concept's number.
+pub fn concept(n: u32) -> ResNo {
+    ResNo::new(n.max(1))
+}
+
+/// A posting's number.
+pub fn posting(n: u32) -> PostNo {
+    PostNo::new(n.max(1))
+}
+
+/// A book.
+#[derive(Drop)]
+pub struct Desk {
+    alloc: Global,
+    book: Book,
+}
+
+impl Desk {
+    /// No postings.
+    pub fn new(alloc: Global) -> Desk {
+        Desk {
+            alloc,
+            book: Book::new(alloc),
+        }
+    }
+
+    /// Posts a record at a concept under a key, unless the key is known.
+    pub fn post(&mut self, key: &str, rec: &str, at: u32) -> Result<Answer, ReadStop> {
+        let key = Key::read(self.alloc, key)?;
+        let rec = RecordName::read(self.alloc, rec)?;
+        let at = concept(at);
+        match self.book.judge_post(&key, &rec, at) {
+            Some(Known::Again(number)) => return Ok(Answer::Again(number.get())),
+            Some(Known::Reused) => return Ok(Answer::Reused),
+            None => {}
+        }
+        if self.book.totals().accepted > 100 {
+            return Ok(Answer::No(Refusal::TooMany));
+        }
+        Ok(Answer::Number(self.book.post(&key, &rec, at)?.get()))
+    }
+
+    /// Withdraws a posting that stands.
+    pub fn withdraw(&mut self, number: u32) -> Answer {
+        let number = posting(number);
+        if let Some(refusal) = self.book.judge_withdraw(number) {
+            return Answer::No(refusal);
+        }
+        self.book.withdraw(number);
+        Answer::Done
+    }
+
+    /// Moves all postings that stand at a concept.
+    pub fn merge(&mut self, source: u32, target: u32) -> Result<Answer, AllocError> {
+        let (source, target) = (concept(source), concept(target));
+        if source == target {
+            return Ok(Answer::No(Refusal::SameResource));
+        }
+        if self.book.moves() > 100 || self.book.count(source) > 100 {
+            return Ok(Answer::No(Refusal::TooMany));
+        }
+        Ok(Answer::Moved(self.book.move_all(source, target)?))
+    }
+
+    /// Moves the postings listed, which stand at the source.
+    pub fn split(
+        &mut self,
+        source: u32,
+        target: u32,
+        postings: &[PostNo],
+    ) -> Result<Answer, AllocError> {
+        let (source, target) = (concept(source), concept(target));
+        if source == target {
+            return Ok(Answer::No(Refusal::SameResource));
+        }
+        if let Some(refusal) = self.book.judge_listed(self.alloc, source, postings)? {
+            return Ok(Answer::No(refusal));
+        }
+        if self.book.moves() > 100 || postings.len() > 100 {
+            return Ok(Answer::No(Refusal::TooMany));
+        }
+        Ok(Answer::Moved(self.book.move_listed(source, target, postings)?))
+    }
+
+    /// What was accepted, what was withdrawn, and what stands.
+    pub fn totals(&self) -> Totals {
+        self.book.totals()
+    }
+
+    /// How many moves were made.
+    pub fn moves(&self) -> u32 {
+        self.book.moves()
+    }
+
+    /// How many postings stand at a concept.
+    pub fn count(&self, at: u32) -> u64 {
+        self.book.count(concept(at))
+    }
+
+    /// Which postings stand at a concept.
+    pub fn standing_at(&self, at: u32) -> &[PostNo] {
+        self.book.standing_at(concept(at))
+    }
+
+    /// Where a posting stands, or stood when it was withdrawn.
+    pub fn place(&self, number: u32) -> Option<ResNo> {
+        self.book.place(posting(number))
+    }
+
+    /// What became of a posting.
+    pub fn history(&self, number: u32) -> Option<&History> {
+        self.book.history(posting(number))
+    }
+}
