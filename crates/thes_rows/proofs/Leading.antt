@@ -1,5 +1,5 @@
 -- The changes of a request lead to the rows of the next state.
-use Rattle.std.proofs.Common.{◌≡◌, ◌≢◌, ◌<◌, ◌≤◌, ◌⊎◌, inl, inr, ℕ, zero, suc, ◌+◌, ◌-◌, length, List, [], ◌∷◌, ◌++◌, refl, sym, ap, ◌∙◌, subst, arith, true, false, Bool, cond, not, map, length-append, append_assoc}
+use Rattle.std.proofs.Common.{◌≡◌, ◌≢◌, ◌<◌, ◌≤◌, inl, inr, ℕ, suc, ◌+◌, ◌-◌, length, List, [], ◌∷◌, ◌++◌, refl, sym, ap, ◌∙◌, subst, arith, true, false, Bool, cond, map, append_assoc}
 use Rattle.std.proofs.lemmas.List.{map-append}
 use Rattle.std.specs.Prelude.{Some, None, Option, slice_get, if◌then◌else◌}
 use Rattle.std.specs.Ordering.{nat_cmp, eq_by_cmp, is_eq}
@@ -11,18 +11,17 @@ use Rattle.thes_base.specs.declared.data.Resource.{Resource}
 use Rattle.thes_base.specs.declared.data.History.{History}
 use Rattle.thes_base.specs.declared.data.Link.{Link}
 use Rattle.thes_base.specs.declared.data.LabelKind.TheVariants.{Pref, Alt}
-use Rattle.thes_base.specs.declared.fault.Refusal.TheVariants as no
 use Rattle.thes_base.specs.declared.request.Command.{Command}
 use Rattle.thes_base.specs.declared.request.Command.TheVariants as request
-use Rattle.thes_base.specs.Resources.{numbered, set_numbered, scheme_of, is_outside, CanOwn, BeginsWith}
+use Rattle.thes_base.specs.Resources.{numbered, scheme_of, is_outside, CanOwn}
 use Rattle.thes_base.specs.Labels.{Label, Labels, label_cmp, preferred_in, HasLabel}
-use Rattle.thes_base.specs.Links.{Links, link_cmp, norm, without_node, contracted, HeldIn}
-use Rattle.thes_base.specs.Postings.{place, stands_at, move_count, withdraw, moved_those}
+use Rattle.thes_base.specs.Links.{Links, norm, without_node, contracted, HeldIn}
+use Rattle.thes_base.specs.Postings.{place, stands_at, move_count, withdraw}
 use Rattle.thes_base.specs.State.{State}
 use Rattle.thes_base.specs.Legal.{Legal}
-use Rattle.thes_base.specs.Refusals.{Setting, IsOfKey, unless_within}
-use Rattle.thes_base.specs.Changes.{label, made, outside_made, outside_resource, label_added, label_dropped, relabelled, renamed, link_added, link_dropped, deprecated, merged, split_off, posted, history_withdrawn, marked_dead, next_number, concept_resource, taken_labels, is_listed}
-use Rattle.thes_base.specs.Machine.{owned, link, next_state, row_of}
+use Rattle.thes_base.specs.Refusals.{Setting, IsOfKey}
+use Rattle.thes_base.specs.Changes.{label, made, outside_made, outside_resource, label_added, label_dropped, relabelled, renamed, deprecated, merged, split_off, posted, history_withdrawn, marked_dead, next_number, concept_resource, taken_labels, is_listed}
+use Rattle.thes_base.specs.Machine.{HasNewKey, owned, link, next_state, row_of}
 use Rattle.thes_base.proofs.LabelSets.{labels_total, labels_exact}
 use Rattle.thes_base.proofs.LinkSets.{links_total}
 use Rattle.thes_base.proofs.LinkSets as links
@@ -34,16 +33,17 @@ use Rattle.thes_rows.specs.declared.rows.PostingRow.{PostingRow}
 use Rattle.thes_rows.specs.declared.rows.MoveRow.{MoveRow}
 use Rattle.thes_rows.specs.declared.change.Change.{Change}
 use Rattle.thes_rows.specs.declared.change.Change.TheVariants as change
-use Rattle.thes_rows.specs.Tables.{Tables, IsRowsOf, IsIn, Lists, IsLabelOf, AreIris, Ascends, AreMoves, posting_row}
-use Rattle.thes_rows.specs.Rows.{changed, all_changed, Fits, FitAll, without_row, with_posting, withdrawn_row, placed_row, moved_row}
+use Rattle.thes_rows.specs.Tables.{Tables, IsRowsOf, IsIn, Lists, IsLabelOf, AreIris, Ascends, posting_row}
+use Rattle.thes_rows.specs.Rows.{changed, all_changed, FitAll, without_row, with_posting, withdrawn_row, placed_row, moved_row}
 use Rattle.thes_rows.specs.Changes.{changes_of, changes_made, changes_relabelled, new_moves, add_link, drop_link, coming, links_changed}
-use Rattle.thes_rows.specs.Leads.{Leads, IsFresh}
+use Rattle.thes_rows.specs.Leads.{Leads}
 use Rattle.std.proofs.lemmas.List.{append-nil}
 use Rattle.std.proofs.lemmas.Bool.{cases_Bool}
-use Rattle.thes_rows.proofs.Sets.{in_append, clash, absent, inserted_cases, inserted_union, removed_cases, coming_same, coming_absent, Absent, row_new, listed_push, listed_drop, listed_all}
+use Rattle.thes_base.proofs.SetMembers.{inserted_cases, removed_cases}
+use Rattle.thes_rows.proofs.Sets.{in_append, clash, absent, inserted_union, coming_same, coming_absent, Absent, row_new, listed_push, listed_drop, listed_all}
 use Rattle.thes_rows.proofs.Steps.{all_append, fit_append}
 use Rattle.thes_rows.proofs.LinkRows.{LinkRows, links_of, relinked, added_only, dropped_only, link_in, link_out, link_fits, drop_fits, turned_only, turned_rows, turned_fit}
-use Rattle.thes_rows.proofs.MoveRows.{bounded, moves_more, moves_posted, moves_set, rises_new, map_set, map_numbered, with_at, rows_moved, placed_all, NumberedFrom, numbered_from, rows_placed}
+use Rattle.thes_rows.proofs.MoveRows.{bounded, moves_more, moves_posted, moves_set, map_set, map_numbered, with_at, rows_moved, placed_all, NumberedFrom, numbered_from, rows_placed}
 
 -- Rows of outside.
 
@@ -432,7 +432,7 @@ module _ (base : List ℕ) (s : State) (legal : Legal base s) where
     fit = λ t is. (tt, tt);
   })
 
-pub leads : (setting : Setting) (s : State) (command : Command) → Legal setting.base s → IsFresh command s → row_of setting s (next_state command s) command None → Leads setting.base (changes_of command s) s (next_state command s)
+pub leads : (setting : Setting) (s : State) (command : Command) → Legal setting.base s → HasNewKey command s → row_of setting s (next_state command s) command None → Leads setting.base (changes_of command s) s (next_state command s)
 leads setting s (request.Scheme tag text) legal fresh row = leads_made setting.base s legal _ tag text
 leads setting s (request.Concept scheme tag text) legal fresh row = leads_made setting.base s legal _ tag text
 leads setting s (request.Collection scheme tag text) legal fresh row = leads_made setting.base s legal _ tag text

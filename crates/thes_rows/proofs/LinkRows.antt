@@ -1,7 +1,7 @@
 -- The rows of links, in the two tables that hold them.
-use Rattle.std.proofs.Common.{◌≡◌, ◌⊎◌, ℕ, List, [], ◌∷◌, ◌++◌, refl, sym, ap, ◌∙◌, subst, inl, inr, true, false, Bool, not, map}
+use Rattle.std.proofs.Common.{◌≡◌, ◌⊎◌, ℕ, List, [], ◌∷◌, ◌++◌, refl, sym, ap, ◌∙◌, subst, inl, inr, false, not, map}
 use Rattle.std.proofs.lemmas.Option.{same_Some}
-use Rattle.std.specs.Prelude.{Option, None, Some, filter}
+use Rattle.std.specs.Prelude.{Option, None, Some}
 use Rattle.std.specs.Ordering.{eq_by_cmp, is_eq}
 use Rattle.std.specs.Cmp.{tied_itself}
 use Rattle.std.specs.FinSet as set
@@ -14,13 +14,13 @@ use Rattle.thes_base.proofs.LinkSets.{links_total, links_exact}
 use Rattle.thes_rows.specs.declared.rows.HierRow.{HierRow}
 use Rattle.thes_rows.specs.declared.rows.HierType.{HierType}
 use Rattle.thes_rows.specs.declared.rows.HierType.TheVariants as ht
-use Rattle.thes_rows.specs.declared.change.Change.{Change}
 use Rattle.thes_rows.specs.declared.change.Change.TheVariants as change
-use Rattle.thes_rows.specs.Tables.{Tables, IsRowsOf, IsIn, Lists, IsHierOf, IsLinkOf, hier_kind, hier_link, hier_type}
-use Rattle.thes_rows.specs.Rows.{changed, all_changed, FitAll, Fits, without_hier}
+use Rattle.thes_rows.specs.Tables.{Tables, IsRowsOf, Lists, IsHierOf, IsLinkOf, hier_kind, hier_link, hier_type}
+use Rattle.thes_rows.specs.Rows.{changed, all_changed, FitAll, Fits}
 use Rattle.thes_rows.specs.Changes.{hier_row, add_link, drop_link, coming, without_all, links_going, links_changed}
 use Rattle.std.proofs.lemmas.Bool.{cases_Bool, not-true, not_from_false}
-use Rattle.thes_rows.proofs.Sets.{clash, inserted_cases, inserted_kept, inserted_new, removed_cases, removed_kept, tied, inserted, Absent, coming_same, coming_absent, turned, lists_push, lists_filter, lists_drop, lists_same}
+use Rattle.thes_base.proofs.SetMembers.{inserted_cases, inserted_kept, inserted_new, removed_cases, removed_kept}
+use Rattle.thes_rows.proofs.Sets.{clash, tied, inserted, Absent, coming_same, coming_absent, turned, lists_push, lists_filter, lists_drop, lists_same}
 use Rattle.thes_rows.proofs.Steps.{all_append, fit_append}
 
 -- Rows of hier and the links that they tell.

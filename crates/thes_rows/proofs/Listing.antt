@@ -1,27 +1,22 @@
 -- Rows of cells are those of one typed row alone.
-use Rattle.std.proofs.Common.{◌≡◌, ℕ, pos, List, [], ◌∷◌, ◌+◌, map, Bool, true, false, cond, Option, None, Some, refl, sym, ap, ◌∙◌, if◌then◌else◌, ◌==◌}
+use Rattle.std.proofs.Common.{◌≡◌, ℕ, List, [], ◌∷◌, ◌+◌, map, Bool, true, false, Option, None, Some, refl, sym, ap, ◌∙◌, if◌then◌else◌, ◌==◌}
+use Rattle.std.proofs.lemmas.Option.{same_Some}
 use Rattle.thes_base.specs.declared.data.Resource.{Resource}
 use Rattle.thes_base.specs.declared.data.ResourceKind.{ResourceKind}
 use Rattle.thes_base.specs.declared.data.ResourceKind.TheVariants as rk
-use Rattle.thes_base.specs.declared.data.LabelKind.{LabelKind}
-use Rattle.thes_base.specs.declared.data.LabelKind.TheVariants as lk
-use Rattle.thes_base.specs.declared.data.LinkKind.{LinkKind}
-use Rattle.thes_base.specs.declared.data.LinkKind.TheVariants as kk
 use Rattle.thes_base.specs.declared.data.Link.{Link}
-use Rattle.thes_base.specs.Labels.{Label, label_kind_no}
-use Rattle.thes_base.specs.Links.{link_kind_no}
+use Rattle.thes_base.specs.Labels.{Label}
+use Rattle.thes_base.proofs.LabelSets as labels
+use Rattle.thes_base.proofs.LinkSets as links
 use Rattle.thes_rows.specs.declared.cells.Cell.{Cell}
-use Rattle.thes_rows.specs.declared.cells.Cell.TheVariants.{Int, Text, Null}
+use Rattle.thes_rows.specs.declared.cells.Cell.TheVariants.{Text}
 use Rattle.thes_rows.specs.declared.rows.HierRow.{HierRow}
 use Rattle.thes_rows.specs.declared.rows.HierType.{HierType}
 use Rattle.thes_rows.specs.declared.rows.HierType.TheVariants as ht
 use Rattle.thes_rows.specs.declared.rows.PostingRow.{PostingRow}
 use Rattle.thes_rows.specs.declared.rows.MoveRow.{MoveRow}
 use Rattle.thes_rows.specs.Tables.{Tables}
-use Rattle.thes_rows.specs.Cells.{Raw, RawTable, number_cell, flag_cell, optional_cell, resource_kind_no, meta_cells, resource_cells, resource_rows, outside_cells, label_cells, link_cells, hier_type_no, hier_cells, posting_cells, move_cells, listed}
-
-some_one : {A : Type 0} {x y : A} → ◌≡◌ {A = Option A} (Some x) (Some y) → x ≡ y
-some_one e = cc
+use Rattle.thes_rows.specs.Cells.{Raw, number_cell, flag_cell, optional_cell, resource_kind_no, resource_cells, resource_rows, outside_cells, label_cells, link_cells, hier_type_no, hier_cells, posting_cells, move_cells, listed}
 
 head_one : {A : Type 0} {x y : A} {xs ys : List A} → x ∷ xs ≡ y ∷ ys → x ≡ y
 head_one e = cc
@@ -63,36 +58,6 @@ resource_kind_is rk.Concept = refl
 resource_kind_is rk.Collection = refl
 resource_kind_is rk.Outside = refl
 
-label_kind : ℕ → LabelKind
-label_kind n = if n == 1 then lk.Pref else if n == 2 then lk.Alt else if n == 3 then lk.Hidden else lk.Scope
-
-label_kind_is : (k : LabelKind) → label_kind (label_kind_no k) ≡ k
-unfolding label_kind
-label_kind_is lk.Pref = refl
-label_kind_is lk.Alt = refl
-label_kind_is lk.Hidden = refl
-label_kind_is lk.Scope = refl
-
-link_kind : ℕ → LinkKind
-link_kind n = if n == 1 then kk.Broader else if n == 2 then kk.Related else if n == 3 then kk.Exact else if n == 4 then kk.Close else if n == 5 then kk.Broad else if n == 6 then kk.Narrow else if n == 7 then kk.RelMatch else if n == 8 then kk.Member else if n == 9 then kk.BroaderGeneric else if n == 10 then kk.BroaderPartitive else kk.BroaderInstantial
-
-link_kind_is : (k : LinkKind) → link_kind (link_kind_no k) ≡ k
-unfolding link_kind
-link_kind_is kk.Broader = refl
-link_kind_is kk.Related = refl
-link_kind_is kk.Exact = refl
-link_kind_is kk.Close = refl
-link_kind_is kk.Broad = refl
-link_kind_is kk.Narrow = refl
-link_kind_is kk.RelMatch = refl
-link_kind_is kk.Member = refl
-link_kind_is kk.BroaderGeneric = refl
-link_kind_is kk.BroaderPartitive = refl
-link_kind_is kk.BroaderInstantial = refl
-
-cell_1 : {a b : Cell} {xs ys : List Cell} → a ∷ xs ≡ b ∷ ys → (a ≡ b) × (xs ≡ ys)
-cell_1 e = (head_one e, tail_one e)
-
 resource_one : (m n : ℕ) (r q : Resource) → resource_cells m r ≡ resource_cells n q → r ≡ q
 resource_one m n r q e =
     let kind = sym (resource_kind_is r.kind) ∙ ap resource_kind (number_one (head_one (tail_one e))) ∙ resource_kind_is q.kind in
@@ -113,14 +78,14 @@ outside_one x y e = λ i. (number_one (head_one e) i, text_one (head_one (tail_o
 label_one : (x y : Label) → label_cells x ≡ label_cells y → x ≡ y
 label_one x y e =
     let owner = number_one (head_one e) in
-    let kind = sym (label_kind_is x.kind) ∙ ap label_kind (number_one (head_one (tail_one e))) ∙ label_kind_is y.kind in
+    let kind = labels.same_kind x.kind y.kind (number_one (head_one (tail_one e))) in
     let tag = text_one (head_one (tail_one (tail_one e))) in
     let text = text_one (head_one (tail_one (tail_one (tail_one e)))) in
     λ i. record { owner = owner i; kind = kind i; tag = tag i; text = text i }
 
 link_one : (x y : Link) → link_cells x ≡ link_cells y → x ≡ y
 link_one x y e =
-    let kind = sym (link_kind_is x.kind) ∙ ap link_kind (number_one (head_one e)) ∙ link_kind_is y.kind in
+    let kind = links.same_kind x.kind y.kind (number_one (head_one e)) in
     let a = number_one (head_one (tail_one e)) in
     let b = number_one (head_one (tail_one (tail_one e))) in
     λ i. record { kind = kind i; a = a i; b = b i }
@@ -163,12 +128,12 @@ move_one x y e =
 -- the rows of cells tell the tables
 pub listed_one : (t u : Tables) → listed t ≡ listed u → t ≡ u
 listed_one t u e =
-    let base = text_one (head_one (tail_one (tail_one (head_one (some_one (ap (λ (r : Raw). r.meta) e)))))) in
-    let resource = resources_one 1 1 t.resource u.resource (some_one (ap (λ (r : Raw). r.resource) e)) in
-    let outside = map_one outside_cells outside_one t.outside u.outside (some_one (ap (λ (r : Raw). r.outside) e)) in
-    let label = map_one label_cells label_one t.label u.label (some_one (ap (λ (r : Raw). r.label) e)) in
-    let link = map_one link_cells link_one t.link u.link (some_one (ap (λ (r : Raw). r.link) e)) in
-    let hier = map_one hier_cells hier_one t.hier u.hier (some_one (ap (λ (r : Raw). r.hier) e)) in
-    let posting = map_one posting_cells posting_one t.posting u.posting (some_one (ap (λ (r : Raw). r.posting) e)) in
-    let move = map_one move_cells move_one t.move u.move (some_one (ap (λ (r : Raw). r.move) e)) in
+    let base = text_one (head_one (tail_one (tail_one (head_one (same_Some _ _ (ap (λ (r : Raw). r.meta) e)))))) in
+    let resource = resources_one 1 1 t.resource u.resource (same_Some _ _ (ap (λ (r : Raw). r.resource) e)) in
+    let outside = map_one outside_cells outside_one t.outside u.outside (same_Some _ _ (ap (λ (r : Raw). r.outside) e)) in
+    let label = map_one label_cells label_one t.label u.label (same_Some _ _ (ap (λ (r : Raw). r.label) e)) in
+    let link = map_one link_cells link_one t.link u.link (same_Some _ _ (ap (λ (r : Raw). r.link) e)) in
+    let hier = map_one hier_cells hier_one t.hier u.hier (same_Some _ _ (ap (λ (r : Raw). r.hier) e)) in
+    let posting = map_one posting_cells posting_one t.posting u.posting (same_Some _ _ (ap (λ (r : Raw). r.posting) e)) in
+    let move = map_one move_cells move_one t.move u.move (same_Some _ _ (ap (λ (r : Raw). r.move) e)) in
     λ i. record { base = base i; resource = resource i; outside = outside i; label = label i; link = link i; hier = hier i; posting = posting i; move = move i }

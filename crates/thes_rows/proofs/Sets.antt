@@ -1,16 +1,16 @@
 -- Sets that change element by element.
-use Rattle.std.proofs.Common.{◌≡◌, ◌⊎◌, ℕ, List, [], ◌∷◌, ◌++◌, refl, sym, ap, ◌∙◌, subst, inl, inr, Bool, true, false, not, ◌&&◌, ◌||◌, cond, T, map, append_assoc}
-use Rattle.std.proofs.lemmas.Bool.{cases_Bool, or_cases, or_left, or_right, and_from, not-true, not_from_false}
+use Rattle.std.proofs.Common.{◌≡◌, ◌⊎◌, List, [], ◌∷◌, ◌++◌, refl, sym, ap, ◌∙◌, subst, inl, inr, Bool, true, false, not, ◌&&◌, cond, append_assoc}
+use Rattle.std.proofs.lemmas.Bool.{cases_Bool, or_cases, or_left, or_right, not-true, not_from_false}
 use Rattle.std.proofs.lemmas.List.{append-nil}
-use Rattle.std.specs.Prelude.{filter, if◌then◌else◌}
+use Rattle.std.specs.Prelude.{filter}
 use Rattle.std.specs.List.{list_any}
 use Rattle.std.specs.declared.cmp.Ordering.{Ordering}
-use Rattle.std.specs.declared.cmp.Ordering.TheVariants.{Less, Equal, Greater}
-use Rattle.std.specs.Ordering.{eq_by_cmp, is_eq, is_lt}
+use Rattle.std.specs.Ordering.{eq_by_cmp, is_eq}
 use Rattle.std.specs.Cmp.{IsTotalOrder, tied_itself, Equal-is, both_ways}
 use Rattle.std.specs.FinMap.{IsAntisymmetric}
 use Rattle.std.specs.FinSet as set
 use Rattle.std.specs.FinSet.{FinSet}
+use Rattle.thes_base.proofs.SetMembers.{inserted_cases, inserted_kept, inserted_new, removed_cases, removed_kept}
 use Rattle.thes_rows.specs.Tables.{IsIn, Once, Lists}
 use Rattle.thes_rows.specs.Rows.{without_row}
 use Rattle.thes_rows.specs.Changes.{coming, without_all}
@@ -118,27 +118,6 @@ module _ {K : Type 0} {R : K → K → Ordering} (o : IsTotalOrder R) (exact : I
   pub item_held : (s : FinSet R) (q : K) → set.contains s q ≡ true → IsIn q (set.items s)
   item_held s q h = in_any q (set.items s) (sym (set.contains-items s q) ∙ h)
 
-  pub inserted_cases : (s : FinSet R) (k q : K) → set.contains (set.insert s k) q ≡ true → (q ≡ k) ⊎ (set.contains s q ≡ true)
-  inserted_cases s k q e = elim (or_cases _ _ (sym (set.contains-insert o s k q) ∙ e)) [ inl same ↦ inl (tied q k same) | inr old ↦ inr old ]
-
-  pub inserted_kept : (s : FinSet R) (k q : K) → set.contains s q ≡ true → set.contains (set.insert s k) q ≡ true
-  inserted_kept s k q e = set.contains-insert o s k q ∙ or_right _ _ e
-
-  pub inserted_new : (s : FinSet R) (k : K) → set.contains (set.insert s k) k ≡ true
-  inserted_new s k = set.contains-insert o s k k ∙ or_left _ _ (itself k)
-
-  pub removed_cases : (s : FinSet R) (k q : K) → set.contains (set.remove s k) q ≡ true → (q ≡ k → ⊥) × (set.contains s q ≡ true)
-  removed_cases s k q e =
-      let both = sym (set.contains-remove o s k q) ∙ e in
-      (λ same. clash (eq_by_cmp R q k) (ap (eq_by_cmp R q) (sym same) ∙ itself q) (not-true _ (and_first _ _ both)), and_second _ _ both)
-
-  pub removed_kept : (s : FinSet R) (k q : K) → (q ≡ k → ⊥) → set.contains s q ≡ true → set.contains (set.remove s k) q ≡ true
-  removed_kept s k q ne e = set.contains-remove o s k q ∙ and_from _ _ (not_from_false _ (other (cases_Bool (eq_by_cmp R q k)))) e
-    where
-      other : (eq_by_cmp R q k ≡ true) ⊎ (eq_by_cmp R q k ≡ false) → eq_by_cmp R q k ≡ false
-      other (inl same) = absurd (ne (tied q k same))
-      other (inr apart) = apart
-
   -- not in the set, where it can't be
   pub absent : (s : FinSet R) (q : K) → (set.contains s q ≡ true → ⊥) → set.contains s q ≡ false
   absent s q never = elim (cases_Bool (set.contains s q)) [ inl h ↦ absurd (never h) | inr h ↦ h ]
@@ -150,30 +129,30 @@ module _ {K : Type 0} {R : K → K → Ordering} (o : IsTotalOrder R) (exact : I
 
   all_kept : (ks : List K) (s : FinSet R) (q : K) → set.contains s q ≡ true → set.contains (inserted ks s) q ≡ true
   all_kept [] s q h = h
-  all_kept (k ∷ ks) s q h = all_kept ks (set.insert s k) q (inserted_kept s k q h)
+  all_kept (k ∷ ks) s q h = all_kept ks (set.insert s k) q (inserted_kept o exact s k q h)
 
   all_new : (ks : List K) (s : FinSet R) (q : K) → IsIn q ks → set.contains (inserted ks s) q ≡ true
   all_new [] s q h = absurd h
-  all_new (k ∷ ks) s q (inl e) = all_kept ks (set.insert s k) q (ap (set.contains (set.insert s k)) e ∙ inserted_new s k)
+  all_new (k ∷ ks) s q (inl e) = all_kept ks (set.insert s k) q (ap (set.contains (set.insert s k)) e ∙ inserted_new o exact s k)
   all_new (k ∷ ks) s q (inr h) = all_new ks (set.insert s k) q h
 
   all_cases : (ks : List K) (s : FinSet R) (q : K) → set.contains (inserted ks s) q ≡ true → IsIn q ks ⊎ (set.contains s q ≡ true)
   all_cases [] s q h = inr h
   all_cases (k ∷ ks) s q h = elim (all_cases ks (set.insert s k) q h) [
     | inl later ↦ inl (inr later)
-    | inr at ↦ elim (inserted_cases s k q at) [ inl e ↦ inl (inl e) | inr old ↦ inr old ]
+    | inr at ↦ elim (inserted_cases o exact s k q at) [ inl e ↦ inl (inl e) | inr old ↦ inr old ]
   ]
 
   gone_cases : (ks : List K) (s : FinSet R) (q : K) → set.contains (without_all ks s) q ≡ true → (IsIn q ks → ⊥) × (set.contains s q ≡ true)
   gone_cases [] s q h = (λ n. n, h)
   gone_cases (k ∷ ks) s q h =
       let later = gone_cases ks (set.remove s k) q h in
-      let here = removed_cases s k q later.1 in
+      let here = removed_cases o exact s k q later.1 in
       (λ n. elim n [ inl e ↦ here.0 e | inr m ↦ later.0 m ], here.1)
 
   gone_kept : (ks : List K) (s : FinSet R) (q : K) → (IsIn q ks → ⊥) → set.contains s q ≡ true → set.contains (without_all ks s) q ≡ true
   gone_kept [] s q out h = h
-  gone_kept (k ∷ ks) s q out h = gone_kept ks (set.remove s k) q (λ m. out (inr m)) (removed_kept s k q (λ e. out (inl e)) h)
+  gone_kept (k ∷ ks) s q out h = gone_kept ks (set.remove s k) q (λ m. out (inr m)) (removed_kept o exact s k q (λ e. out (inl e)) h)
 
   -- all of another set
   pub inserted_union : (s t : FinSet R) → inserted (set.items t) s ≡ set.union s t
@@ -196,7 +175,7 @@ module _ {K : Type 0} {R : K → K → Ordering} (o : IsTotalOrder R) (exact : I
       (λ h. all_new (set.items t) _ q (item_held t q h)))
 
   insert_held : (s : FinSet R) (k : K) → set.contains s k ≡ true → set.insert s k ≡ s
-  insert_held s k h = set.same_set o exact _ _ (λ q. both_ways _ _ (λ m. elim (inserted_cases s k q m) [ inl e ↦ ap (set.contains s) e ∙ h | inr old ↦ old ]) (inserted_kept s k q))
+  insert_held s k h = set.same_set o exact _ _ (λ q. both_ways _ _ (λ m. elim (inserted_cases o exact s k q m) [ inl e ↦ ap (set.contains s) e ∙ h | inr old ↦ old ]) (inserted_kept o exact s k q))
 
   -- those that come, and the rest that is there already
   pub coming_same : (ks : List K) (s : FinSet R) → inserted (coming s ks) s ≡ inserted ks s
@@ -234,10 +213,10 @@ module _ {K : Type 0} {R : K → K → Ordering} (o : IsTotalOrder R) (exact : I
   row_new s rows q are new h = clash (set.contains s q) (are.sound q h) new
 
   pub listed_push : (s : FinSet R) (rows : List K) (k : K) → Lists (Held s) rows → set.contains s k ≡ false → Lists (Held (set.insert s k)) (rows ++ k ∷ [])
-  listed_push s rows k are new = lists_push rows k (λ h. clash (set.contains s k) h new) (λ q h. inserted_cases s k q h) (inserted_new s k) (λ q h. inserted_kept s k q h) are
+  listed_push s rows k are new = lists_push rows k (λ h. clash (set.contains s k) h new) (λ q h. inserted_cases o exact s k q h) (inserted_new o exact s k) (λ q h. inserted_kept o exact s k q h) are
 
   pub listed_drop : (s : FinSet R) (rows : List K) (k : K) → Lists (Held s) rows → Lists (Held (set.remove s k)) (without_row R k rows)
-  listed_drop s rows k are = lists_drop rows k (λ q h. removed_cases s k q h) (λ q ne h. removed_kept s k q ne h) are
+  listed_drop s rows k are = lists_drop rows k (λ q h. removed_cases o exact s k q h) (λ q ne h. removed_kept o exact s k q ne h) are
 
   pub listed_all : (ks : List K) (s : FinSet R) (rows : List K) → Lists (Held s) rows → Absent ks s → Lists (Held (inserted ks s)) (rows ++ ks)
   listed_all [] s rows are a = subst (Lists (Held s)) (sym (append-nil rows)) are

@@ -26,7 +26,7 @@ pub enum Change {
     AddMove(MoveRow),
 }
 
-/// The changes of an accepted request lead from the rows of its state to those of the next.
+/// The changes of an accepted request fit the rows of its state, and make those of the next.
 pub fn changes_lead()
     ensures { ChangesLead }
 {}

@@ -76,7 +76,7 @@ impl Model for OutsideRow {
 }
 
 impl LabelRow {
-    /// An equal row.
+    /// Copies the row.
     pub fn try_clone(&self, alloc: Global) -> Result<LabelRow, AllocError>
         ensures { IfOk result (λ row. row ≡ self.now) }
     {
@@ -86,7 +86,7 @@ impl LabelRow {
         })
     }
 
-    /// Whether the rows are equal.
+    /// Tells whether the rows have the same owner and label.
     pub fn is_same(&self, other: &LabelRow) -> bool
         ensures { IsTrue result ↔ (self.now ≡ other.now) }
     {
@@ -95,7 +95,7 @@ impl LabelRow {
 }
 
 impl OutsideRow {
-    /// An equal row.
+    /// Copies the row.
     pub fn try_clone(&self, alloc: Global) -> Result<OutsideRow, AllocError>
         ensures { IfOk result (λ row. row ≡ self.now) }
     {
@@ -107,7 +107,7 @@ impl OutsideRow {
 }
 
 impl PostingRow {
-    /// An equal row.
+    /// Copies the row.
     pub fn try_clone(&self, alloc: Global) -> Result<PostingRow, AllocError>
         ensures { IfOk result (λ row. row ≡ self.now) }
     {
