@@ -11,30 +11,30 @@ use Rattle.thes_base.specs.Resources.{Exists, IsScheme, IsConcept, IsLive, CanOw
 use Rattle.thes_base.specs.Labels.{HasLabel, S13, S14, UniquePreferred}
 use Rattle.thes_base.specs.Links.{HeldIn, NoCycle, S27, S46, form_of, norm}
 use Rattle.thes_base.specs.Postings.{standing_count}
-use Rattle.thes_base.specs.State.{State, Within}
+use Rattle.thes_base.specs.State.{State, IsWithin}
 use Rattle.thes_base.specs.Changes.{owned, link}
 use Rattle.thes_base.specs.Refusals.{Setting, LeavesPreferred, AreEnds, HaveSchemes, EachOnce, EachListed, IsKnownPosting, IsStanding, IsPlacedAt}
 
 -- `s` is the state before, and `after` the one that the request would make.
 abbrev pub checks_of : Setting → State → State → Command → List Check
 checks_of setting s after (request.Scheme tag text) =
-    no.TooMany unless Within setting.limits s after
+    no.TooMany unless IsWithin setting.limits s after
     ∷ []
 checks_of setting s after (request.Concept scheme tag text) =
     no.UnknownResource unless Exists s.resources scheme
     ∷ no.WrongKind unless IsScheme s.resources scheme
     ∷ no.PreferredTaken unless UniquePreferred after.resources after.labels
-    ∷ no.TooMany unless Within setting.limits s after
+    ∷ no.TooMany unless IsWithin setting.limits s after
     ∷ []
 checks_of setting s after (request.Collection scheme tag text) =
     no.UnknownResource unless Exists s.resources scheme
     ∷ no.WrongKind unless IsScheme s.resources scheme
-    ∷ no.TooMany unless Within setting.limits s after
+    ∷ no.TooMany unless IsWithin setting.limits s after
     ∷ []
 checks_of setting s after (request.Outside iri) =
     no.WrongKind when BeginsWith iri setting.base
     ∷ no.OutsideKnown for_some (λ n. dict.get s.iris n ≡ Some iri)
-    ∷ no.TooMany unless Within setting.limits s after
+    ∷ no.TooMany unless IsWithin setting.limits s after
     ∷ []
 checks_of setting s after (request.AddLabel owner l) =
     no.UnknownResource unless Exists s.resources owner
@@ -44,7 +44,7 @@ checks_of setting s after (request.AddLabel owner l) =
     ∷ no.S13 unless S13 after.labels
     ∷ no.S14 unless S14 after.labels
     ∷ no.PreferredTaken unless UniquePreferred after.resources after.labels
-    ∷ no.TooMany unless Within setting.limits s after
+    ∷ no.TooMany unless IsWithin setting.limits s after
     ∷ []
 checks_of setting s after (request.DropLabel owner l) =
     no.UnknownResource unless Exists s.resources owner
@@ -60,7 +60,7 @@ checks_of setting s after (request.Relabel owner tag text keep) =
     ∷ no.NoSuchLabel unless ((old : List ℕ) × HasLabel s.labels owner Pref tag old)
     ∷ no.S13 unless S13 after.labels
     ∷ no.PreferredTaken unless UniquePreferred after.resources after.labels
-    ∷ no.TooMany unless Within setting.limits s after
+    ∷ no.TooMany unless IsWithin setting.limits s after
     ∷ []
 checks_of setting s after (request.Link kind a b) =
     no.UnknownResource unless (Exists s.resources a × Exists s.resources b)
@@ -72,7 +72,7 @@ checks_of setting s after (request.Link kind a b) =
     ∷ no.Cycle unless NoCycle (HeldIn after.links)
     ∷ no.S27 unless S27 (HeldIn after.links)
     ∷ no.S46 unless S46 (HeldIn after.links)
-    ∷ no.TooMany unless Within setting.limits s after
+    ∷ no.TooMany unless IsWithin setting.limits s after
     ∷ []
 checks_of setting s after (request.Unlink kind a b) =
     no.UnknownResource unless (Exists s.resources a × Exists s.resources b)
@@ -97,7 +97,7 @@ checks_of setting s after (request.Merge source target) =
     ∷ no.Cycle unless NoCycle (HeldIn after.links)
     ∷ no.S27 unless S27 (HeldIn after.links)
     ∷ no.S46 unless S46 (HeldIn after.links)
-    ∷ no.TooMany unless Within setting.limits s after
+    ∷ no.TooMany unless IsWithin setting.limits s after
     ∷ []
 checks_of setting s after (request.Split source tag text postings) =
     no.UnknownResource unless Exists s.resources source
@@ -108,13 +108,13 @@ checks_of setting s after (request.Split source tag text postings) =
     ∷ no.Withdrawn unless EachListed (IsStanding s.histories) postings
     ∷ no.NotAtSource unless EachListed (IsPlacedAt s.histories source) postings
     ∷ no.PreferredTaken unless UniquePreferred after.resources after.labels
-    ∷ no.TooMany unless Within setting.limits s after
+    ∷ no.TooMany unless IsWithin setting.limits s after
     ∷ []
 checks_of setting s after (request.Post key rec concept) =
     no.UnknownResource unless Exists s.resources concept
     ∷ no.WrongKind unless IsConcept s.resources concept
     ∷ no.NotLive unless IsLive s.resources concept
-    ∷ no.TooMany unless Within setting.limits s after
+    ∷ no.TooMany unless IsWithin setting.limits s after
     ∷ []
 checks_of setting s after (request.Withdraw posting) =
     no.UnknownPosting unless IsKnownPosting s.histories posting

@@ -76,7 +76,7 @@ impl Stop {
     }
 }
 
-// Whether the device gave up, rather than to be asked again.
+// Whether the error is final (not `Interrupted`).
 fn is_failure(error: &io::Error) -> bool
     ensures { IsTrue result ↔ (error_kind error.now ≢ ErrorKind.Interrupted) }
 {

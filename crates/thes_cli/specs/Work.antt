@@ -1,10 +1,12 @@
 -- What the program does with what the words of the command line ask for.
-use Rattle.std.specs.Prelude.{◌≡◌, false, ℕ, List, codes, Option, MatchResult, MatchOption, Result, Ok, Err}
+use Rattle.std.specs.Prelude.{◌≡◌, ◌⊎◌, false, ℕ, List, codes, Option, MatchResult, MatchOption, Result, Ok, Err}
 use Rattle.thes_base.specs.Headline.{IsInOrder}
 use Rattle.thes_base.specs.Pipe.{KeepsToLimit}
 use Rattle.thes_base.specs.State.{empty_state}
 use Rattle.thes_base.specs.declared.data.Limits.{Limits}
+use Rattle.thes_base.specs.declared.fault.Fault.TheVariants.{OutOfMemory}
 use Rattle.thes_base.specs.declared.fault.PipeFault.{PipeFault}
+use Rattle.thes_base.specs.declared.fault.PipeFault.TheVariants.{Fault}
 use Rattle.thes_base.specs.declared.pipe.Pipe.{Pipe}
 use Rattle.thes_core.specs.Kept.{Kept}
 use Rattle.thes_exchange.specs.CoreDesk.{CoreServes, is_unspent, IsLed}
@@ -39,6 +41,10 @@ module _ {R W : Type 0} (remaining : R → Option (List ℕ)) (out : W → Optio
     pub in_order : after.spent ≡ false → IsInOrder after.setting.base after.state
     pub calls : KeepsToLimit input input' output output'
 
+  -- there was no memory for a store, and nothing was read or written
+  abbrev pub HasNoStore : Result Ended PipeFault → Type 0
+  HasNoStore result = (result ≡ Err (Fault OutOfMemory)) × (input' ≡ input) × (output' ≡ output)
+
   module _ {E : Type 0} (err : E → Option (List ℕ)) (errors errors' : Pipe E) where
     -- the fault of a script is told, if there was one, and the status is that of its end
     abbrev pub Closes : Result Ended PipeFault → ℕ → Type 0
@@ -46,5 +52,5 @@ module _ {R W : Type 0} (remaining : R → Option (List ℕ)) (out : W → Optio
 
     -- A script was run and its end told, or help or what is wrong with the words was told and nothing read.
     abbrev pub Works : Result Task Parting → ℕ → Type 0
-    Works (Ok task) status = (result : Result Ended PipeFault) × AnswersScript result × Closes result status
+    Works (Ok task) status = (result : Result Ended PipeFault) × (AnswersScript result ⊎ HasNoStore result) × Closes result status
     Works (Err parting) status = (input' ≡ input) × Parts out err output output' errors errors' parting status

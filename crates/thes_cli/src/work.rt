@@ -1,9 +1,9 @@
 //! What the words of the command line ask for, done over three streams.
-ghost use Rattle.std.specs.Prelude.{◌≡◌, IfOk};
+ghost use Rattle.std.specs.Prelude.{◌≡◌, ◌⊎◌, IfOk};
 ghost use Rattle.std.specs.Process.{exit_status};
 ghost use Rattle.thes_base.specs.Pipe.{IsFresh};
 ghost use Rattle.thes_cli.specs.Parting.{Parts};
-ghost use Rattle.thes_cli.specs.Work.{IsNewStore, AnswersScript, Works};
+ghost use Rattle.thes_cli.specs.Work.{IsNewStore, AnswersScript, HasNoStore, Works};
 
 use crate::ending::{close, print, tell};
 use crate::words::{Parting, Task};
@@ -40,7 +40,8 @@ fn answer_script<R: Read, W: Write>(
 ) -> Result<Ended, PipeFault>
     requires input { IsFresh input.old }
     requires output { IsFresh output.old }
-    ensures { AnswersScript R.remaining W.contents input.old input.new output.old output.new result }
+    ensures { AnswersScript R.remaining W.contents input.old input.new output.old output.new result
+        ⊎ HasNoStore R.remaining W.contents input.old input.new output.old output.new result }
 {
     let mut core = new_store(alloc)?;
     core_script(alloc, input, output, &mut core)

@@ -13,7 +13,7 @@ use Rattle.thes_base.proofs.LinkSets.{links_total, links_exact}
 use Rattle.thes_base.proofs.SetMembers as sets
 use Rattle.thes_base.specs.Labels.{Label, Labels, HasLabel, label_cmp, S13, S14}
 use Rattle.thes_base.specs.Postings.{move_count, stands_at, standing_count}
-use Rattle.thes_base.specs.State.{State, Within, Fits}
+use Rattle.thes_base.specs.State.{State, IsWithin, Fits}
 use Rattle.thes_base.specs.Changes.{label, made, outside_made, label_added, labels_relabelled, relabelled, renamed, next_number, link_added, merged, taken_labels, split_off, is_listed, posted, marked_dead, dead}
 use Rattle.thes_base.specs.Legal.{Legal, LegalLabels}
 use Rattle.thes_base.proofs.LabelSets.{len_inserted, labels_total, inserted_cases}
@@ -48,7 +48,7 @@ fits_from limit before after more (inl e) fits = omega arith
 fits_from limit before after more (inr (none, less)) fits = omega arith
 
 module _ (limits : Limits) (s t : State) (growth : Growth) (grows : Grows s t growth) where
-  pub within_of_room : HasRoom limits s growth → Within limits s t
+  pub within_of_room : HasRoom limits s growth → IsWithin limits s t
   within_of_room room = record {
     resources = fits_to _ _ _ _ grows.resources room.for_resources;
     labels = fits_to _ _ _ _ grows.labels room.for_labels;
@@ -57,7 +57,7 @@ module _ (limits : Limits) (s t : State) (growth : Growth) (grows : Grows s t gr
     moves = fits_to _ _ _ _ grows.moves room.for_moves;
   }
 
-  pub room_of_within : Within limits s t → HasRoom limits s growth
+  pub room_of_within : IsWithin limits s t → HasRoom limits s growth
   room_of_within within = record {
     for_resources = fits_from _ _ _ _ grows.resources within.resources;
     for_labels = fits_from _ _ _ _ grows.labels within.labels;

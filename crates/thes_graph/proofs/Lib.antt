@@ -10,6 +10,7 @@ mod SightLemmas
 mod WalkLemmas
 mod ProbeLemmas
 mod JudgeLemmas
+mod NeighbourhoodLemmas
 pub mod NormLemmas
 pub mod SetLemmas
 pub mod ContractLemmas
@@ -23,3 +24,5 @@ mod ReaderLemmas
 mod WholeLemmas
 mod ClimbLemmas
 pub mod AnswerLemmas
+mod SideLemmas
+mod KindLemmas

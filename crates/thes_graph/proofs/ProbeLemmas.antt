@@ -13,7 +13,7 @@ use Rattle.thes_graph.proofs.WeightLemmas.{Contains-head, Contains-cons_cases, C
 
 -- the last step of a chain
 module _ (S : ℕ → ℕ → Type 0) where
-  Path-last : (x : ℕ) (ms : List ℕ) (z : ℕ) → Path S x ms z → (y : ℕ) × Reaches S x y × S y z
+  pub Path-last : (x : ℕ) (ms : List ℕ) (z : ℕ) → Path S x ms z → (y : ℕ) × Reaches S x y × S y z
   Path-last x [] z one = (x, inl refl, one)
   Path-last x (m ∷ ms) z path =
       let rest = Path-last m ms z path.1 in (rest.0, inr (front rest.0 rest.1), rest.2)
@@ -47,7 +47,7 @@ module _ (Would : Link → Type 0) (p : ℕ) where
   narrower_from : (x y : ℕ) → Steps Narrower Would x y → IsBroader Would y x
   narrower_from x y (l, would, leads) = (l, would, Leads-turned (broader_way l.kind) l.a l.b x y leads)
 
-  narrower_to : (x y : ℕ) → IsBroader Would x y → Steps Narrower Would y x
+  pub narrower_to : (x y : ℕ) → IsBroader Would x y → Steps Narrower Would y x
   narrower_to x y (l, would, leads) = (l, would, turned_Leads (broader_way l.kind) l.a l.b x y leads)
 
   pub below_from : (x : ℕ) → Reaches (Steps Narrower Would) p x → UpTo Would x p

@@ -1,10 +1,12 @@
 -- What the judging calls answer, and the links in whose sight they do.
-use Rattle.std.specs.Prelude.{◌≡◌, ◌⊎◌, ℕ, List, Contains}
+use Rattle.std.specs.Prelude.{◌≡◌, ◌⊎◌, ◌+◌, ◌*◌, ◌≤◌, ℕ, Bool, List, Contains, length}
 use Rattle.std.specs.FinSet.{insert}
 use Rattle.thes_base.specs.declared.data.Link.{Link}
 use Rattle.thes_base.specs.declared.fault.Refusal.TheVariants as no
 use Rattle.thes_base.specs.Rows.{Row, refused_if}
 use Rattle.thes_base.specs.Links.{Links, HeldIn, IsFirstBroken}
+use Rattle.thes_base.specs.Neighbourhood.{Edit}
+use Rattle.thes_base.specs.Neighbourhood as edit
 use Rattle.thes_graph.specs.declared.sight.Sight.{Sight}
 use Rattle.thes_graph.specs.declared.sight.Sight.TheVariants.{AsHeld, With, Merged}
 use Rattle.thes_graph.specs.Reading.{EndsAt}
@@ -22,7 +24,12 @@ IsEdited (With new) p n = p ≡ n
 IsEdited (Merged source target) p n = (source ≡ n) ⊎ (p ≡ n)
 
 -- These have each held link that has an end at an edited node, or at one above, below or alike it in the links that would be.
--- The least such list is the neighbourhood of the edit.
+-- The neighbourhood of the edit has them.
 abbrev pub HasNeighbourhood : Sight → Links → (p : ℕ) → List Link → Type 0
 HasNeighbourhood sight held p ns =
     (l : Link) → HeldIn held l → (n : ℕ) → IsEdited sight p n ⊎ IsNear (WouldBe sight held) p n → EndsAt n l → Contains ns l
+
+-- No more visits than six for each link in the neighbourhood of the edit.
+abbrev pub AreFewVisits : (is_outside : ℕ → Bool) → Edit → Links → (before after : ℕ) → Type 0
+AreFewVisits is_outside made held before after =
+    (ns : List Link) → edit.HasNeighbourhood is_outside made held ns → after ≤ before + 6 * length ns

@@ -12,3 +12,4 @@ pub mod Linked
 pub mod Mapped
 pub mod Moved
 pub mod Whole
+pub mod Ends

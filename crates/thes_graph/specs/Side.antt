@@ -1,14 +1,18 @@
 -- Where a link leads from one of its ends, and the order of a node's links by it.
-use Rattle.std.specs.Prelude.{◌==◌, ℕ, Bool, true, false, if◌then◌else◌}
+use Rattle.std.specs.Prelude.{◌==◌, ℕ, Bool, List, Option, Some, slice_get, if◌then◌else◌}
+use Rattle.std.specs.Prelude.{◌≡◌, ◌<◌, ◌≤◌, length}
 use Rattle.std.specs.declared.cmp.Ordering.{Ordering}
 use Rattle.std.specs.Ordering.{nat_cmp, ordering_then}
 use Rattle.thes_base.specs.declared.data.Link.{Link}
 use Rattle.thes_base.specs.declared.data.Direction.{Direction}
 use Rattle.thes_base.specs.declared.data.Direction.TheVariants.{Forward, Backward, Either, Never}
 use Rattle.thes_base.specs.Links.{broader_way, related_way, exact_way, link_cmp}
+use Rattle.thes_graph.specs.declared.relation.Relation.{Relation}
+use Rattle.thes_graph.specs.declared.relation.Relation.TheVariants as relation
 use Rattle.thes_graph.specs.declared.side.Side.{Side}
 use Rattle.thes_graph.specs.declared.side.Side.TheVariants.{Up, Beside, Alike, Down, Apart}
 use Rattle.thes_graph.specs.declared.side.Standing.{Standing}
+use Rattle.thes_graph.specs.declared.side.Part.{Part}
 
 abbrev pub side_no : Side → ℕ
 side_no Up = 1
@@ -23,16 +27,14 @@ if_either _ one other = other
 
 -- where a link leads from its first end, or from its other one: by the way to a broader concept, and those to a related one and
 -- to an exact match
-abbrev pub side_by : (first : Bool) → Direction → (beside alike : Direction) → Side
-side_by true Forward beside alike = Up
-side_by false Forward beside alike = Down
-side_by true Backward beside alike = Down
-side_by false Backward beside alike = Up
-side_by first _ beside alike = if_either beside Beside (if_either alike Alike Apart)
+abbrev pub side_by : Direction → (first : Bool) → (beside alike : Direction) → Side
+side_by Forward first beside alike = if first then Up else Down
+side_by Backward first beside alike = if first then Down else Up
+side_by _ first beside alike = if_either beside Beside (if_either alike Alike Apart)
 
 -- where the link leads from n
 abbrev pub side_at : ℕ → Link → Side
-side_at n l = side_by (l.a == n) (broader_way l.kind) (related_way l.kind) (exact_way l.kind)
+side_at n l = side_by (broader_way l.kind) (l.a == n) (related_way l.kind) (exact_way l.kind)
 
 abbrev pub standing_at : ℕ → Link → Standing
 standing_at n l = record { side = side_at n l; link = l }
@@ -40,3 +42,21 @@ standing_at n l = record { side = side_at n l; link = l }
 -- by side, and then as links are ordered
 abbrev pub standing_cmp : Standing → Standing → Ordering
 standing_cmp x y = ordering_then (nat_cmp (side_no x.side) (side_no y.side)) (link_cmp x.link y.link)
+
+-- between these places of the row stand the links that lead this way from n, and no others
+pub record IsPart (row : List Link) (n : ℕ) (side : Side) (part : Part) : Type 0 where
+  pub within : part.to ≤ length row
+  pub inside : (k : ℕ) (l : Link) → slice_get row k ≡ Some l → part.from ≤ k → k < part.to → side_at n l ≡ side
+  pub has : (k : ℕ) (l : Link) → slice_get row k ≡ Some l → side_at n l ≡ side → (part.from ≤ k) × (k < part.to)
+
+-- relations whose links stand on one side of a node
+abbrev pub IsWalked : Relation → Type 0
+IsWalked relation.Apart = ⊥
+IsWalked _ = Unit {0}
+
+abbrev pub side_in : Relation → Side
+side_in relation.Broader = Up
+side_in relation.Narrower = Down
+side_in relation.Related = Beside
+side_in relation.Exact = Alike
+side_in relation.Apart = Apart

@@ -7,6 +7,7 @@ ghost use Rattle.thes_base.specs.declared.data.LinkKind.TheVariants as kinds;
 ghost use Rattle.thes_base.specs.Links.{HeldIn, norm, contracted, without_node, IsFirstBroken};
 ghost use Rattle.thes_base.specs.Listing.{IsListing};
 ghost use Rattle.thes_graph.specs.Reading.{HaveTwoEnds, EndsAt};
+ghost use Rattle.thes_graph.specs.Side.{IsPart};
 ghost use Rattle.thes_graph.specs.Net.{is_marked, standings_at, links_at};
 ghost use Rattle.thes_base.specs.Views.{HasLink, HasBroader, IsMapping, mapping_cmp, IsTyped, typed_cmp};
 ghost use Rattle.thes_graph.specs.Linked.{IsLinked};
@@ -17,7 +18,7 @@ use crate::linked::{Linked, list_in, way_to};
 use crate::links::Links;
 use crate::mapped::{as_seen, as_typed, list_mapping};
 use crate::relation::lead;
-use crate::side::{Standing, standing_of};
+use crate::side::{Part, Side, Standing, is_before, is_until, standing_of};
 use crate::sight::merge;
 use crate::whole::check_all;
 use std::alloc::{AllocError, Global};
@@ -100,6 +101,18 @@ impl Graph {
             Some(standing) => Some(standing.link),
             None => None,
         }
+    }
+
+    // Between which places at the node the links stand that lead this way.
+    fn part_at(&self, n: ResNo, side: Side) -> Part
+        ensures part { IsPart (links_at self.now.links n) n side result }
+        ensures two_ends { HaveTwoEnds (HeldIn self.now.links) }
+    {
+        let number = side.number();
+        let row = self.at(n);
+        let from = row.partition_point(|standing| is_before(standing, number));
+        let to = row.partition_point(|standing| is_until(standing, number));
+        Part { from, to }
     }
 
     // Whether the link is held as it is handed in.
@@ -382,6 +395,10 @@ impl<'a> Links for Walk<'a> {
             }
             None => None,
         }
+    }
+
+    fn part(&self, node: ResNo, side: Side) -> Part {
+        self.graph.part_at(node, side)
     }
 
     fn holds(&mut self, link: &Link) -> bool {

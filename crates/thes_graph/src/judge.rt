@@ -3,12 +3,14 @@
 ghost use Rattle.std.specs.Prelude.{◌≡◌, ◌≢◌, ◌+◌, ◌*◌, ◌≤◌, List, Contains, OnOk, IfOk, length, nat_lt, if◌then◌else◌, ◌&&◌};
 ghost use Rattle.thes_base.specs.declared.data.Link.{Link};
 ghost use Rattle.thes_base.specs.Links.{HeldIn, is_symmetric, exchanged, norm, contracted, IsFirstBroken};
-ghost use Rattle.thes_graph.specs.declared.sight.Sight.TheVariants.{AsHeld, With, Merged};
+ghost use Rattle.thes_base.specs.Neighbourhood.{Add, Merge, Check};
+ghost use Rattle.thes_graph.specs.declared.sight.Sight.TheVariants.{With};
 ghost use Rattle.thes_graph.specs.Reading.{HaveTwoEnds};
 ghost use Rattle.thes_graph.specs.Sight.{WouldBe, IsFit, LooksAsHeld};
 ghost use Rattle.thes_graph.specs.Local.{BreakNone, AwayFrom, IsFirstBrokenAt, CoversNear};
-ghost use Rattle.thes_graph.specs.Judge.{row_of_add, HasNeighbourhood};
+ghost use Rattle.thes_graph.specs.Judge.{row_of_add, HasNeighbourhood, AreFewVisits};
 
+use crate::ends::is_harmless;
 use crate::links::Links;
 use crate::nodes::Nodes;
 use crate::relation::Relation;
@@ -79,8 +81,8 @@ pub fn probe<L: Links>(
 
 /// The first rule that the links held break, where those without an end at the pivot break none.
 ///
-/// The bound on visits holds for every list that has the links near the pivot: those with an end at it, or at a node above it, below
-/// it or in its class of exact matches.
+/// The visits are bounded by the links near the pivot: those with an end at it, or at a node above it, below it or in its class of
+/// exact matches.
 pub fn check_at<L: Links>(
     alloc: Global,
     links: &mut L,
@@ -90,7 +92,7 @@ pub fn check_at<L: Links>(
     ensures held { L.held links.new ≡ L.held links.old }
     ensures outside { L.outside links.new ≡ L.outside links.old }
     ensures first { IfOk result (IsFirstBroken (HeldIn (L.held links.old))) }
-    ensures count { OnOk result ((ns : List Link) → HasNeighbourhood AsHeld (L.held links.old) pivot ns → L.count links.new ≤ L.count links.old + 6 * length ns) }
+    ensures count { OnOk result (AreFewVisits (L.outside links.old) (Check pivot) (L.held links.old) (L.count links.old) (L.count links.new)) }
 {
     let answer = probe(alloc, links, &Sight::AsHeld, pivot)?;
     Ok(answer)
@@ -98,7 +100,7 @@ pub fn check_at<L: Links>(
 
 /// What speaks against one more link: that it is there, or else the first rule that the links with it would break.
 ///
-/// The bound on visits is that of `check_at`, with the new link among those near its first end.
+/// The visits are bounded by the links near its first end, of which it is one.
 pub fn judge_add<L: Links>(
     alloc: Global,
     links: &mut L,
@@ -109,7 +111,7 @@ pub fn judge_add<L: Links>(
     ensures held { L.held links.new ≡ L.held links.old }
     ensures outside { L.outside links.new ≡ L.outside links.old }
     ensures answer { IfOk result (row_of_add (L.held links.old) (norm (L.outside links.old) link.now)) }
-    ensures count { let new = norm (L.outside links.old) link.now in OnOk result ((ns : List Link) → Contains ns new → HasNeighbourhood (With new) (L.held links.old) new.a ns → L.count links.new ≤ L.count links.old + 6 * length ns) }
+    ensures count { let edit = Add (norm (L.outside links.old) link.now) in OnOk result (AreFewVisits (L.outside links.old) edit (L.held links.old) (L.count links.old) (L.count links.new)) }
 {
     let new = normal(links, link);
     let answer = judge_normal(alloc, links, &new)?;
@@ -132,6 +134,9 @@ fn judge_normal<L: Links>(
     if links.holds(new) {
         return Ok(Some(Refusal::LinkThere));
     }
+    if is_harmless(links, new) {
+        return Ok(None);
+    }
     let sight = Sight::With(*new);
     let answer = probe(alloc, links, &sight, new.a)?;
     Ok(answer)
@@ -139,7 +144,7 @@ fn judge_normal<L: Links>(
 
 /// What speaks against a merge of the source into the target: the first rule that the links after it would break.
 ///
-/// The bound on visits is that of `check_at` at the target, with the links at the source.
+/// The visits are bounded by the links near the two concepts.
 pub fn judge_contract<L: Links>(
     alloc: Global,
     links: &mut L,
@@ -151,7 +156,7 @@ pub fn judge_contract<L: Links>(
     ensures held { L.held links.new ≡ L.held links.old }
     ensures outside { L.outside links.new ≡ L.outside links.old }
     ensures first { IfOk result (IsFirstBroken (HeldIn (contracted (L.outside links.old) source target (L.held links.old)))) }
-    ensures count { OnOk result ((ns : List Link) → HasNeighbourhood (Merged source target) (L.held links.old) target ns → L.count links.new ≤ L.count links.old + 6 * length ns) }
+    ensures count { OnOk result (AreFewVisits (L.outside links.old) (Merge source target) (L.held links.old) (L.count links.old) (L.count links.new)) }
 {
     let sight = Sight::Merged(source, target);
     let answer = probe(alloc, links, &sight, target)?;

@@ -2,6 +2,7 @@
 #![tactic(auto)]
 
 pub mod climb;
+pub mod ends;
 pub mod graph;
 pub mod judge;
 pub mod linked;

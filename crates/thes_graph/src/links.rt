@@ -3,8 +3,10 @@ ghost use Rattle.std.specs.Prelude.{◌≡◌, ℕ, List, Bool, slice_get};
 ghost use Rattle.std.specs.FinSet.{contains};
 ghost use Rattle.thes_base.specs.Links.{Links as LinkSet, HeldIn};
 ghost use Rattle.thes_base.specs.declared.data.Link.{Link};
+ghost use Rattle.thes_graph.specs.Side.{IsPart};
 ghost use Rattle.thes_graph.specs.Reading.{HaveTwoEnds, IsRow, visited, visited_by};
 
+use crate::side::{Part, Side};
 use thes_base::data::Link;
 use thes_base::number::ResNo;
 
@@ -32,6 +34,12 @@ pub trait Links {
         ensures listed { IsRow (held self.old) node (links_of self.old node) }
         ensures link { result ≡ slice_get (links_of self.old node) i }
         ensures count { count self.new ≡ visited_by (count self.old) result };
+
+    /// Between which places at the node the links stand that lead this way. None of them is handed out.
+    fn part(&self, node: ResNo, side: Side) -> Part
+        ensures two_ends { HaveTwoEnds (HeldIn (held self.now)) }
+        ensures listed { IsRow (held self.now) node (links_of self.now node) }
+        ensures part { IsPart (links_of self.now node) node side result };
 
     /// Whether the link is held; a visit.
     fn holds(&mut self, link: &Link) -> bool

@@ -1,6 +1,7 @@
 //! Where a link leads from one of its ends, by which the links of a node are kept apart.
 ghost use Rattle.std.specs.Prelude.{◌≡◌};
-ghost use Rattle.thes_graph.specs.Side.{side_no, side_at, standing_at};
+ghost use Rattle.std.proofs.Math.Dec.{ltb, leb};
+ghost use Rattle.thes_graph.specs.Side.{side_no, side_in, side_at, standing_at};
 
 use crate::relation::{Relation, way};
 use thes_base::data::{Direction, Link, LinkKind};
@@ -32,11 +33,31 @@ impl Side {
     }
 }
 
+/// The side on which the links of the relation stand.
+pub fn side_for(relation: Relation) -> Side
+    ensures { result ≡ side_in relation }
+{
+    match relation {
+        Relation::Broader => Side::Up,
+        Relation::Narrower => Side::Down,
+        Relation::Related => Side::Beside,
+        Relation::Exact => Side::Alike,
+        Relation::Apart => Side::Apart,
+    }
+}
+
 /// A link of a node, and where it leads from there.
 #[derive(Clone, Copy, PartialEq, Eq, PartialOrd, Ord)]
 pub struct Standing {
     pub side: Side,
     pub link: Link,
+}
+
+/// Between which places the links of a node stand that lead one way from there.
+#[derive(Clone, Copy)]
+pub struct Part {
+    pub from: usize,
+    pub to: usize,
 }
 
 /// Where the link leads from the node.
@@ -56,6 +77,20 @@ pub fn side_of(link: &Link, n: ResNo) -> Side
         LinkKind::Exact => Side::Alike,
         _ => Side::Apart,
     }
+}
+
+/// Whether the link stands on an earlier side than that of this number.
+pub fn is_before(standing: &Standing, number: u8) -> bool
+    ensures { result ≡ ltb (side_no standing.now.side) number }
+{
+    standing.side.number() < number
+}
+
+/// Whether the link stands on no later side than that of this number.
+pub fn is_until(standing: &Standing, number: u8) -> bool
+    ensures { result ≡ leb (side_no standing.now.side) number }
+{
+    standing.side.number() <= number
 }
 
 /// The link as it stands at the node.

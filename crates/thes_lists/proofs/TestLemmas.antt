@@ -1,5 +1,5 @@
 -- Whether a rising list has a value, as a test: after a search, and after a value is put in or taken out.
-use Rattle.std.proofs.Common.{◌≡◌, ◌<◌, ◌≤◌, ℕ, arith, length, get_or, List, [], ◌∷◌, Bool, true, false, not, cond, ◌||◌, ◌&&◌, inl, inr, Ordering, Less, Equal, Greater, refl, sym, ap, ◌∙◌, subst}
+use Rattle.std.proofs.Common.{◌≡◌, ◌<◌, ◌≤◌, ℕ, arith, length, get_or, List, [], ◌∷◌, Bool, true, false, not, cond, ◌||◌, ◌&&◌, inl, inr, Ordering, Less, Equal, Greater, refl, sym, ap, ◌∙◌}
 use Rattle.std.specs.Ordering.{is_eq, eq_by_cmp, match_ordering, ordering_reverse}
 use Rattle.std.specs.Cmp.{IsTotalOrder, Equal-is}
 use Rattle.std.specs.List.{HoldsAt, AllByRecursion, list_any}

@@ -153,7 +153,8 @@ impl Book {
         self.move_rising(source, target, moving)
     }
 
-    /// Moves the postings listed from the source to the target, and says how many. Their moves are numbered in the order of the postings' numbers.
+    /// Moves the postings listed from the source to the target, and says how many. Their moves are numbered in the order
+    /// of the postings' numbers.
     pub fn move_listed(
         &mut self,
         source: ResNo,

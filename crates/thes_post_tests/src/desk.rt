@@ -27,6 +27,13 @@ pub fn posting(n: u32) -> PostNo {
     PostNo::new(n.max(1))
 }
 
+fn told(known: Known) -> Answer {
+    match known {
+        Known::Again(number) => Answer::Again(number.get()),
+        Known::Reused => Answer::Reused,
+    }
+}
+
 /// A book.
 #[derive(Drop)]
 pub struct Desk {
@@ -48,15 +55,14 @@ impl Desk {
         let key = Key::read(self.alloc, key)?;
         let rec = RecordName::read(self.alloc, rec)?;
         let at = concept(at);
-        match self.book.judge_post(&key, &rec, at) {
-            Some(Known::Again(number)) => return Ok(Answer::Again(number.get())),
-            Some(Known::Reused) => return Ok(Answer::Reused),
-            None => {}
+        if let Some(known) = self.book.judge_post(&key, &rec, at) {
+            return Ok(told(known));
         }
         if self.book.totals().accepted > 100 {
             return Ok(Answer::No(Refusal::TooMany));
         }
-        Ok(Answer::Number(self.book.post(&key, &rec, at)?.get()))
+        let number = self.book.post(&key, &rec, at)?;
+        Ok(Answer::Number(number.get()))
     }
 
     /// Withdraws a posting that stands.

@@ -10,7 +10,7 @@ use Rattle.std.specs.List.{list_any}
 use Rattle.std.specs.FinSet as set
 use Rattle.std.proofs.lemmas.Cmp.{nat_list_cmp_total}
 use Rattle.std.proofs.lemmas.Map.Lookups.{exact_bytes}
-use Rattle.std.proofs.lemmas.Bool.{or_cases, or_left, or_right, true≢false}
+use Rattle.std.proofs.lemmas.Bool.{or_cases, or_left, or_right, true≢false, and_from}
 use Rattle.thes_base.specs.declared.data.Resource.{Resource}
 use Rattle.thes_base.specs.declared.data.LabelKind.{LabelKind}
 use Rattle.thes_base.specs.declared.data.LabelKind.TheVariants.{Pref, Alt, Hidden, Scope}
@@ -30,7 +30,7 @@ use Rattle.thes_base.proofs.Uniqueness.{made_unique, taken_breaks}
 use Rattle.thes_base.proofs.ConditionLemmas.{owner_exists}
 use Rattle.thes_base.proofs.NumberedLemmas.{numbered_bound}
 use Rattle.thes_base.proofs.LabelsKept.{removed_cases, removed_kept}
-use Rattle.thes_base.proofs.ResourceLemmas.{same_or_not, left_true, right_true, both_true}
+use Rattle.thes_base.proofs.ResourceLemmas.{same_or_not, left_true, right_true}
 use Rattle.std.proofs.lemmas.Option.{same_Some}
 use Rattle.thes_vocab.specs.Vocabulary.{IsHolder}
 use Rattle.thes_vocab.specs.Rivals.{HasRival, HasTwoPreferred, Clashes}
@@ -85,7 +85,7 @@ is_pref Hidden e = absurd (cc)
 is_pref Scope e = absurd (cc)
 
 preferred_test : (owner : ℕ) (tag text : List ℕ) → is_preferred_in owner tag (label owner Pref tag text) ≡ true
-preferred_test owner tag text = both_true (owner == owner) _ (eq-eqb owner owner refl) (ap is_eq (tied_itself nat_list_cmp_total tag))
+preferred_test owner tag text = and_from (owner == owner) _ (eq-eqb owner owner refl) (ap is_eq (tied_itself nat_list_cmp_total tag))
 
 tested_preferred : (owner : ℕ) (tag : List ℕ) (l : Label) → is_preferred_in owner tag l ≡ true → l ≡ label owner Pref tag l.text
 tested_preferred owner tag l e =

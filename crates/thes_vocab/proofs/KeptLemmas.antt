@@ -1,6 +1,6 @@
 -- What holds of every vocabulary is kept by each change.
 use Rattle.std.proofs.Common.{◌≡◌, ◌≢◌, ◌⊎◌, ◌<◌, ◌^◌, inl, inr, ℕ, zero, suc, get_or, ◌+◌, ◌-◌, length, List, [], ◌∷◌, ◌++◌, refl, sym, ap, ◌∙◌, subst, arith, Bool, true, false}
-use Rattle.std.specs.Prelude.{Option, None, Some, slice_get, option_and_then}
+use Rattle.std.specs.Prelude.{Option, None, Some, slice_get}
 use Rattle.std.specs.Option.{MatchOption}
 use Rattle.std.specs.Ordering.{nat_cmp}
 use Rattle.std.specs.Cmp.Lexicographic.{slice_cmp}
@@ -25,10 +25,10 @@ use Rattle.thes_base.specs.Rows.{accepted}
 use Rattle.thes_base.specs.Refusals.{unless_scheme, unless_unique, unless_label, unless_dropped, unless_relabelled}
 use Rattle.thes_base.proofs.RowLemmas.{passed_if, passed_unless}
 use Rattle.thes_base.proofs.LabelSets.{inserted_cases, inserted_kept, inserted_new}
-use Rattle.thes_base.proofs.LabelsKept.{labels_made, labels_push, labels_added, labels_dropped, labels_renamed, labels_dead, removed_cases, MayOwn}
-use Rattle.thes_base.proofs.ResourcesKept.{resources_push, resources_push_outside, resources_dead}
+use Rattle.thes_base.proofs.LabelsKept.{labels_made, labels_push, labels_added, labels_dropped, labels_renamed, labels_dead, removed_cases, outside_owns_none}
+use Rattle.thes_base.proofs.ResourcesKept.{resources_push, resources_push_outside, resources_dead, outside_fit}
 use Rattle.thes_base.proofs.Uniqueness.{made_unique, taken_breaks, live_before}
-use Rattle.thes_base.proofs.NumberedLemmas.{push_old, push_new, push_cases, numbered_bound, set_other}
+use Rattle.thes_base.proofs.NumberedLemmas.{numbered_bound}
 use Rattle.thes_base.proofs.ResourceLemmas.{same_or_not, one_resource, concept_of_live, live_of_live}
 use Rattle.thes_base.proofs.MergedLabels.{labels_merged}
 use Rattle.thes_base.specs.Listing.{IsListing}
@@ -264,23 +264,14 @@ kept_named base rs iris labels names concepts r tag text legal named is free few
 pub kept_outside : (base : List ℕ) (rs : List Resource) (iris : Iris) (labels : Labels) (names : Names) (concepts : Lists ℕ) (iri : List ℕ) → IsKept base rs iris labels names concepts → length rs + 1 < 2 ^ 32 → (BeginsWith iri base → ⊥) → ((n : ℕ) → dict.get iris n ≢ Some iri)
     → IsKept base (rs ++ outside_resource ∷ []) (dict.insert iris (length rs + 1) iri) labels names concepts
 kept_outside base rs iris labels names concepts iri kept few foreign fresh = record {
-  legal = resources_push_outside base rs iris outside_resource kept.legal (record { live = refl; replaced = refl; scheme = λ k. absurd (no_kind k); no_scheme = λ _. refl }) iri few refl foreign fresh;
-  named = labels_push rs labels outside_resource no_owner kept.named;
+  legal = resources_push_outside base rs iris outside_resource kept.legal (outside_fit rs) iri few refl foreign fresh;
+  named = labels_push rs labels outside_resource outside_owns_none kept.named;
   found = λ s n t x h. elim (concept_cases rs outside_resource s n h.0) [ inl was ↦ kept.found s n t x (was, h.1) | inr new ↦ absurd (never new.1.0) ];
   listed = listed_made rs outside_resource concepts concepts None (λ s is. never is.0) (λ s. refl) kept.listed;
 }
   where
     never : false ≡ true → ⊥
     never e = cc
-
-    no_kind : (false ≡ true) ⊎ (false ≡ true) → ⊥
-    no_kind (inl e) = cc
-    no_kind (inr e) = cc
-
-    no_owner : MayOwn outside_resource → ⊥
-    no_owner (inl e) = cc
-    no_owner (inr (inl e)) = cc
-    no_owner (inr (inr e)) = cc
 
 -- a new number has no IRI yet
 pub no_iri : (base : List ℕ) (rs : List Resource) (iris : Iris) → LegalResources base rs iris → dict.get iris (length rs + 1) ≡ None

@@ -10,7 +10,7 @@ use Rattle.std.specs.List.Sorted.{IsStrictlySortedBy}
 use Rattle.std.proofs.lemmas.Map.Lookups.{exact_unsigned}
 use Rattle.std.specs.BTreeMap.{BTreeMap, IsOrdered}
 use Rattle.std.specs.FinSet as set
-use Rattle.std.proofs.lemmas.Bool.{or_cases, or_left, or_right, true≢false}
+use Rattle.std.proofs.lemmas.Bool.{or_cases, or_left, or_right, true≢false, and_from}
 use Rattle.thes_base.specs.declared.data.LabelKind.{LabelKind}
 use Rattle.thes_base.specs.declared.data.LabelKind.TheVariants.{Pref, Alt, Hidden, Scope}
 use Rattle.thes_base.specs.Data.{LabelData}
@@ -18,7 +18,7 @@ use Rattle.thes_base.specs.Labels.{Label, Labels, label_cmp, HasLabel, is_name, 
 use Rattle.thes_base.specs.Changes.{label, has_name, taken_kind, taken_labels}
 use Rattle.thes_base.specs.Machine.{owned}
 use Rattle.thes_base.proofs.LabelSets.{labels_total, labels_exact}
-use Rattle.thes_base.proofs.ResourceLemmas.{left_true, right_true, both_true}
+use Rattle.thes_base.proofs.ResourceLemmas.{left_true, right_true}
 use Rattle.std.proofs.lemmas.Bool.{cases_Bool, not-true}
 use Rattle.thes_vocab.specs.LabelData.{data_cmp, own_label, has_own, AreLabelsOf}
 use Rattle.thes_vocab.specs.Taken.{takes, takes_own, taken, gives}
@@ -131,8 +131,8 @@ module _ (labels : Labels) (source target : ℕ) (own : List LabelData) (owns : 
           let source_is = eqb-true l.owner source (left_true (l.owner == source) _ found.1) in
           let takes_it = right_true (l.owner == source) (takes labels target (data_of l)) found.1 in
           let has = owns (data_of l) ∙ ap (λ n. set.contains labels (label n l.kind l.tag l.text)) (sym source_is) ∙ held in
-          both_true (eq_by_cmp nat_cmp q.owner target) (list_any (test q) own) (ap (λ (x : Label). eq_by_cmp nat_cmp x.owner target) is ∙ ap is_eq (tied_itself nat_cmp_total target))
-          (any_of (test q) own (data_of l) (both_true (takes labels target (data_of l)) _ takes_it (ties (data_of q) (taken (data_of l)) (ap data_of is))) has)
+          and_from (eq_by_cmp nat_cmp q.owner target) (list_any (test q) own) (ap (λ (x : Label). eq_by_cmp nat_cmp x.owner target) is ∙ ap is_eq (tied_itself nat_cmp_total target))
+          (any_of (test q) own (data_of l) (and_from (takes labels target (data_of l)) _ takes_it (ties (data_of q) (taken (data_of l)) (ap data_of is))) has)
 
       back : (eq_by_cmp nat_cmp q.owner target && list_any (test q) own) ≡ true → list_any (eq_by_cmp label_cmp q) (map given (filter passes (set.items labels))) ≡ true
       back e =
@@ -143,7 +143,7 @@ module _ (labels : Labels) (source target : ℕ) (own : List LabelData) (owns : 
           let takes_it = left_true (takes labels target d) _ found.1 in
           let is = tied (data_of q) (taken d) (right_true (takes labels target d) (eq_by_cmp data_cmp (data_of q) (taken d)) found.1) in
           let same : q ≡ given l = λ i. label (owner i) (is i).kind (is i).tag (is i).text in
-          mapped_any passes given q l (set.items labels) (both_true (source == source) (takes labels target d) (eq-eqb source source refl) takes_it) same (sym (set.contains-items labels l) ∙ sym (owns d) ∙ found.2)
+          mapped_any passes given q l (set.items labels) (and_from (source == source) (takes labels target d) (eq-eqb source source refl) takes_it) same (sym (set.contains-items labels l) ∙ sym (owns d) ∙ found.2)
 
   pub union_contains : (q : Label) → set.contains (set.union labels (taken_labels source target labels)) q ≡ (set.contains labels q || (eq_by_cmp nat_cmp q.owner target && list_any (test q) own))
   union_contains q = set.contains-union labels_total labels (taken_labels source target labels) q ∙ ap (λ b. set.contains labels q || b) (taken_contains q)

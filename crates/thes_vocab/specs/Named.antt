@@ -34,7 +34,8 @@ AreSameTags old new = (tag text : List ℕ) → tag_holder new tag text ≡ tag_
 
 abbrev pub IsPut : Names → Names → ℕ → List ℕ → List ℕ → Option ℕ → Type 0
 IsPut old new scheme tag text holder =
-    (holder_in new scheme tag text ≡ holder) × ((s : ℕ) (t x : List ℕ) → ((s ≡ scheme) × (t ≡ tag) × (x ≡ text) → ⊥) → holder_in new s t x ≡ holder_in old s t x)
+    (holder_in new scheme tag text ≡ holder)
+    × ((s : ℕ) (t x : List ℕ) → ((s ≡ scheme) × (t ≡ tag) × (x ≡ text) → ⊥) → holder_in new s t x ≡ holder_in old s t x)
 
 abbrev pub AreSame : Names → Names → Type 0
 AreSame old new = (scheme : ℕ) (tag text : List ℕ) → holder_in new scheme tag text ≡ holder_in old scheme tag text

@@ -29,4 +29,5 @@ pub record HasTwoPreferred (labels : Labels) (owner : ℕ) : Type 0 where
 -- In place of the owner's preferred label in the language, the text would stand under two kinds: it is an alternative or
 -- a hidden label, or it is the old one, which is to be kept.
 abbrev pub Clashes : Labels → ℕ → List ℕ → List ℕ → List ℕ → Bool → Type 0
-Clashes labels owner tag text old keep = HasLabel labels owner Alt tag text ⊎ HasLabel labels owner Hidden tag text ⊎ ((keep ≡ true) × (old ≡ text))
+Clashes labels owner tag text old keep =
+    HasLabel labels owner Alt tag text ⊎ HasLabel labels owner Hidden tag text ⊎ ((keep ≡ true) × (old ≡ text))

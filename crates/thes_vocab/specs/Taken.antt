@@ -14,7 +14,8 @@ takes labels target l = is_name l.kind && not (has_name labels target l.tag l.te
 
 -- the same by the target's own labels
 abbrev pub has_own_name : List LabelData → List ℕ → List ℕ → Bool
-has_own_name own tag text = has_own own (own_label Pref tag text) || has_own own (own_label Alt tag text) || has_own own (own_label Hidden tag text)
+has_own_name own tag text =
+    has_own own (own_label Pref tag text) || has_own own (own_label Alt tag text) || has_own own (own_label Hidden tag text)
 
 abbrev pub takes_own : List LabelData → LabelData → Bool
 takes_own own l = is_name l.kind && not (has_own_name own l.tag l.text)

@@ -1,4 +1,4 @@
-//! Changes of resources and labels. Each makes its growths first, so that want of memory changes nothing.
+//! Changes of resources and labels. Each allocates before it changes anything, so running out of memory changes nothing.
 ghost use Rattle.std.specs.Prelude.{◌≡◌, ◌≢◌, ◌<◌, ◌+◌, ◌^◌, ℕ, length, true, IfOk, OnOk, OnErr, None, Some};
 ghost use Rattle.std.specs.FinMap as dict;
 ghost use Rattle.std.specs.FinSet as set;

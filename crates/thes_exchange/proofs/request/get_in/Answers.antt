@@ -5,4 +5,4 @@ use Rattle.thes_exchange.proofs.request.get_in.Goals as goal
 
 pub returns : goal.returns
 unfolding made_of
-returns c = goes_on _ _ c.in_ok-query_of.field-0 _ c.in_ok-query_of.ensures (search rules)
+returns c = goes_on _ _ c.in_ok-query_in.field-0 _ c.in_ok-query_in.ensures (search rules)

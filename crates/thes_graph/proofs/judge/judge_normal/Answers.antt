@@ -1,6 +1,7 @@
-use Rattle.std.proofs.Common.{◌+◌, ◌*◌, ◌≤◌, inr, length, arith, sym}
+use Rattle.std.proofs.Common.{◌+◌, ◌*◌, ◌<◌, ◌≤◌, inr, length, arith, sym, subst, refl, None}
+use Rattle.thes_base.specs.Links.{Links, HeldIn}
 use Rattle.thes_graph.specs.declared.sight.Sight.TheVariants.{With}
-use Rattle.thes_graph.specs.Local.{CoversNear}
+use Rattle.thes_graph.specs.Local.{BreakNone, CoversNear}
 use Rattle.thes_graph.proofs.JudgeLemmas.{IsFirstBroken-with, CoversNear-with}
 use Rattle.thes_graph.proofs.SetLemmas.{not_held_of}
 use Rattle.thes_graph.proofs.ContractLemmas.{IsFirstBroken-inserted}
@@ -17,3 +18,16 @@ returns-clause-count g c ns has_new all =
     let covers : CoversNear (With c.args.new.now) (g.L.Links.held c.args.links.now) c.args.new.now.a rest.0 = rest.2 in
     let walked : g.L.Links.count c.probe.new.links ≤ g.L.Links.count c.holds.new.self + 6 * length rest.0 = c.in_ok-answer.ensures.count rest.0 (rw c.if-holds.ensures.held covers) in
     omega (arith, c.if-holds.ensures.count, rest.1)
+
+pub is_harmless-requires-clause-unbroken : goal.is_harmless-requires-clause-unbroken
+is_harmless-requires-clause-unbroken g c = subst (λ (links : Links). BreakNone (HeldIn links)) (sym c.if-holds.ensures.held) c.requires.unbroken
+
+pub returns-then-is_harmless-clause-answer : goal.returns-then-is_harmless-clause-answer
+returns-then-is_harmless-clause-answer g c =
+    let legal = c.if-is_harmless.ensures refl in
+    inr (not_held_of _ (sym c.if-holds.ensures.holds), IsFirstBroken-inserted (g.L.Links.held c.args.links.now) c.args.new.now None (rw c.if-holds.ensures.held at legal))
+
+pub returns-then-is_harmless-clause-count : goal.returns-then-is_harmless-clause-count
+returns-then-is_harmless-clause-count g c ns has_new all =
+    let some : has_new.0 < length ns = has_new.1 in
+    omega (arith, c.if-holds.ensures.count)

@@ -1,4 +1,4 @@
-use Rattle.std.proofs.Common.{◌≡◌, ◌∙◌, ap, sym, subst, not, ◌||◌}
+use Rattle.std.proofs.Common.{◌≡◌, ◌∙◌, ap, subst, not, ◌||◌}
 use Rattle.std.specs.Prelude.{Ok, Err}
 use Rattle.std.specs.Ordering.{eq_by_cmp}
 use Rattle.thes_vocab.specs.LabelData.{has_own, data_cmp}

@@ -1,0 +1,8 @@
+use Rattle.std.proofs.Common.{refl}
+use Rattle.thes_base.specs.Links.{HeldIn}
+use Rattle.thes_graph.proofs.KindLemmas.{unbroken_loose}
+use Rattle.thes_graph.proofs.ends.is_harmless.Goals as goal
+
+pub returns-then-is_loose : goal.returns-then-is_loose
+returns-then-is_loose g c = λ _.
+    unbroken_loose (HeldIn (g.L.Links.held c.args.links.now)) c.args.new.now c.requires.unbroken c.if-is_loose.ensures.0 c.if-is_loose.ensures.1 c.if-is_loose.ensures.2 c.if-is_loose.ensures.3
