@@ -40,7 +40,8 @@ abbrev pub IsFirstBrokenAt : (Link → Type 0) → ℕ → Option Refusal → Ty
 IsFirstBrokenAt Held p None = NoCycleAt Held p × NoS27At Held p × NoS46At Held p
 IsFirstBrokenAt Held p (Some no.Cycle) = IsAbove Held p p
 IsFirstBrokenAt Held p (Some no.S27) = NoCycleAt Held p × ((x : ℕ) × (y : ℕ) × UpTo Held x p × UpTo Held p y × IsRelated Held x y)
-IsFirstBrokenAt Held p (Some no.S46) = NoCycleAt Held p × NoS27At Held p × ((x : ℕ) × (y : ℕ) × InClassOf Held p x × InClassOf Held p y × IsApart Held x y)
+IsFirstBrokenAt Held p (Some no.S46) =
+    NoCycleAt Held p × NoS27At Held p × ((x : ℕ) × (y : ℕ) × InClassOf Held p x × InClassOf Held p y × IsApart Held x y)
 IsFirstBrokenAt Held p (Some _) = ⊥
 
 -- the start and all that it leads to, and the links with an end at one of these
