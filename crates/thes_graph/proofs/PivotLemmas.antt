@@ -9,7 +9,7 @@ use Rattle.thes_base.specs.declared.fault.Refusal.{Refusal}
 use Rattle.thes_base.specs.Links.{broader_way, related_way, exact_way, apart_way, Leads, Path, Chain, Joined, IsBroader, IsAbove, IsRelated, IsExact, IsApart, NoCycle, S27, S46, IsFirstBroken}
 use Rattle.thes_graph.specs.Reading.{HaveTwoEnds}
 use Rattle.thes_graph.specs.Steps.{Reaches}
-use Rattle.thes_graph.specs.Local.{BreakNone, AwayFrom, UpTo, Alike, NoCycleAt, NoS27At, NoS46At, IsFirstBrokenAt}
+use Rattle.thes_graph.specs.Local.{BreakNone, AwayFrom, UpTo, InClassOf, NoCycleAt, NoS27At, NoS46At, IsFirstBrokenAt}
 use Rattle.thes_base.specs.declared.fault.Refusal.TheVariants as no
 use Rattle.thes_base.specs.declared.data.LinkKind.TheVariants.{Exact}
 
@@ -156,8 +156,8 @@ module _ (Held : Link → Type 0) where
   pub exact_turns : (x y : ℕ) → Joined Held exact_way x y → Joined Held exact_way y x
   exact_turns x y (l, held, leads) = (l, held, Leads-exact_turns l.kind l.a l.b x y leads)
 
-  pub Alike-turn : (x y : ℕ) → Alike Held x y → Alike Held y x
-  Alike-turn = Reaches-turn (Joined Held exact_way) (Joined Held exact_way) exact_turns
+  pub InClassOf-turn : (x y : ℕ) → InClassOf Held x y → InClassOf Held y x
+  InClassOf-turn = Reaches-turn (Joined Held exact_way) (Joined Held exact_way) exact_turns
 
 -- what is broken through p is broken
 module _ (Held : Link → Type 0) (two : HaveTwoEnds Held) (p : ℕ) where
@@ -169,11 +169,11 @@ module _ (Held : Link → Type 0) (two : HaveTwoEnds Held) (p : ℕ) where
       climb (inr to) (inl same) = subst (λ (w : ℕ). IsAbove Held x w) same to
       climb (inl one) (inl same) = absurd (Leads-two (related_way r.0.kind) r.0.a r.0.b x (two r.0 r.1) (let P : ℕ → Type 0 = λ w. Leads (related_way r.0.kind) r.0.a r.0.b x w in subst P (sym same ∙ sym one) r.2))
 
-  pub S46-witness : (x : ℕ) × (y : ℕ) × Alike Held p x × Alike Held p y × IsApart Held x y → (x : ℕ) × (y : ℕ) × IsExact Held x y × IsApart Held x y
+  pub S46-witness : (x : ℕ) × (y : ℕ) × InClassOf Held p x × InClassOf Held p y × IsApart Held x y → (x : ℕ) × (y : ℕ) × IsExact Held x y × IsApart Held x y
   S46-witness (x, y, to, from, m) = (x, y, across to from, m)
     where
-      across : Alike Held p x → Alike Held p y → IsExact Held x y
-      across to (inr from) = Reaches-then_chain (Joined Held exact_way) x p y (Alike-turn Held p x to) from
+      across : InClassOf Held p x → InClassOf Held p y → IsExact Held x y
+      across to (inr from) = Reaches-then_chain (Joined Held exact_way) x p y (InClassOf-turn Held p x to) from
       across (inr to) (inl same) = subst (λ (w : ℕ). IsExact Held x w) same (Chain-turn (Joined Held exact_way) (Joined Held exact_way) (exact_turns Held) p x to)
       across (inl one) (inl same) = absurd (Leads-two (apart_way m.0.kind) m.0.a m.0.b x (two m.0 m.1) (let P : ℕ → Type 0 = λ w. Leads (apart_way m.0.kind) m.0.a m.0.b x w in subst P (sym same ∙ one) m.2))
 
@@ -204,11 +204,11 @@ module _ (Held : Link → Type 0) (p : ℕ) (legal : BreakNone (AwayFrom Held p)
   s46_from : NoS46At Held p → (x y : ℕ) → IsExact Held x y → IsApart Held x y → ⊥
   s46_from none x y e m =
       elim (chain_at Held p exact_way x y e) [
-        | inr (to, from) ↦ none x y (Alike-turn Held x p to) from m
+        | inr (to, from) ↦ none x y (InClassOf-turn Held x p to) from m
         | inl away ↦ elim (step_at Held p apart_way x y m) [
           | inl m_away ↦ legal.2.none x y away m_away
           | inr (inl at) ↦ none x y (inl (sym at)) (inr (subst (λ (w : ℕ). IsExact Held w y) at e)) m
-          | inr (inr at) ↦ none x y (Alike-turn Held x p (inr (subst (λ (w : ℕ). IsExact Held x w) at e))) (inl (sym at)) m
+          | inr (inr at) ↦ none x y (InClassOf-turn Held x p (inr (subst (λ (w : ℕ). IsExact Held x w) at e))) (inl (sym at)) m
         ]
       ]
 

@@ -6,7 +6,7 @@ use Rattle.thes_base.specs.declared.data.Direction.TheVariants.{Forward, Backwar
 use Rattle.thes_base.specs.Links.{broader_way, related_way, apart_way, Leads, Path, Chain, IsBroader, IsAbove, IsRelated, IsApart}
 use Rattle.thes_base.proofs.ListMembers.{Contains-head, Contains-cons_cases, Contains-none}
 use Rattle.thes_graph.specs.Steps.{turned, Steps, Reaches, Ties}
-use Rattle.thes_graph.specs.Local.{UpTo, Alike, NoCycleAt, NoS27At, NoS46At, IsGathered, IsNear}
+use Rattle.thes_graph.specs.Local.{UpTo, InClassOf, NoCycleAt, NoS27At, NoS46At, IsGathered, IsNear}
 use Rattle.thes_graph.specs.declared.relation.Relation.TheVariants.{Broader, Narrower, Related, Exact, Apart}
 use Rattle.thes_graph.proofs.StepLemmas.{Leads-first}
 use Rattle.thes_graph.proofs.PivotLemmas.{Reaches-turn, Reaches-then_chain}
@@ -89,7 +89,7 @@ module _ (Would : Link → Type 0) (p : ℕ) where
           (x, y, below.reach.complete x (below_to x to), in_up, leads)
 
   module _ (same : List ℕ) (links : List Link) (alike : IsGathered Would Exact p same links) where
-    pub s46_found : (l : Link) × Contains links l × Ties Apart l same same → (x : ℕ) × (y : ℕ) × Alike Would p x × Alike Would p y × IsApart Would x y
+    pub s46_found : (l : Link) × Contains links l × Ties Apart l same same → (x : ℕ) × (y : ℕ) × InClassOf Would p x × InClassOf Would p y × IsApart Would x y
     s46_found (l, has, (x, y, in_x, in_y, leads)) = (x, y, alike.reach.sound x in_x, alike.reach.sound y in_y, (l, alike.sound l has, leads))
 
     pub s46_none : ((l : Link) → Contains links l → Ties Apart l same same → ⊥) → NoS46At Would p

@@ -11,7 +11,7 @@ use Rattle.thes_base.specs.declared.data.Direction.TheVariants.{Forward, Backwar
 use Rattle.thes_base.specs.Links.{broader_way, related_way, exact_way, Leads, Path, Joined, IsBroader, IsAbove, IsApart, NoCycle, S27, S46}
 use Rattle.thes_graph.specs.declared.relation.Relation.TheVariants as relation
 use Rattle.thes_graph.specs.Steps.{Reaches, GrowsBy}
-use Rattle.thes_graph.specs.Local.{UpTo, Alike, NoCycleAt, NoS46At, IsGathered}
+use Rattle.thes_graph.specs.Local.{UpTo, InClassOf, NoCycleAt, NoS46At, IsGathered}
 use Rattle.thes_graph.specs.Whole.{HasWay, IsSomeS27}
 use Rattle.thes_graph.proofs.PivotLemmas.{Reaches-then_chain, Chain-then_reach, exact_turns}
 use Rattle.thes_graph.proofs.StepLemmas.{GrowsBy-then}
@@ -108,7 +108,7 @@ module _ (Held : Link → Type 0) where
       go x y l (up, down) above (inr (b, a)) = down (subst (λ (v : ℕ). UpTo Held v l.a) (sym b) (subst (λ (w : ℕ). UpTo Held x w) (sym a) (inr above)))
 
   -- each node of a class says the same
-  pub class_free : (p m : ℕ) → NoS46At Held p → Alike Held p m → NoS46At Held m
+  pub class_free : (p m : ℕ) → NoS46At Held p → InClassOf Held p m → NoS46At Held m
   class_free p m none to x y in_x in_y apart = none x y (reach_join p m x to in_x) (reach_join p m y to in_y) apart
 
   -- a link of exact matches whose first end is done
@@ -118,16 +118,16 @@ module _ (Held : Link → Type 0) where
   pub s46_all : (done : List ℕ) → ((n : ℕ) → Contains done n → NoS46At Held n) → ((l : Link) → Held l → IsDone done l) → S46 Held
   s46_all done free each = record { none = λ x y (ms, path) apart. go x y ms path apart }
     where
-      first : (x z y : ℕ) (l : Link) → Held l → Leads (exact_way l.kind) l.a l.b x z → Alike Held z y → IsApart Held x y → ⊥
+      first : (x z y : ℕ) (l : Link) → Held l → Leads (exact_way l.kind) l.a l.b x z → InClassOf Held z y → IsApart Held x y → ⊥
       first x z y l held leads rest apart = elim (pair (exact_way l.kind) l.a l.b x z leads) [
         | inl (a, _) ↦ at x y (inl a) (reach_join l.a x y (inl a) to_y) apart
         | inr (_, a) ↦ at x y (reach_join l.a z x (inl a) (inr ([], exact_turns Held x z (l, held, leads)))) (reach_join l.a z y (inl a) rest) apart
       ]
         where
-          to_y : Alike Held x y
+          to_y : InClassOf Held x y
           to_y = reach_join x z y (inr ([], (l, held, leads))) rest
 
-          at : (x y : ℕ) → Alike Held l.a x → Alike Held l.a y → IsApart Held x y → ⊥
+          at : (x y : ℕ) → InClassOf Held l.a x → InClassOf Held l.a y → IsApart Held x y → ⊥
           at = free l.a (each l held (never (exact_way l.kind) l.a l.b x z leads))
 
       go : (x y : ℕ) (ms : List ℕ) → Path (Joined Held exact_way) x ms y → IsApart Held x y → ⊥

@@ -23,8 +23,8 @@ abbrev pub UpTo : (Link → Type 0) → ℕ → ℕ → Type 0
 UpTo Held = Reaches (IsBroader Held)
 
 -- y is x, or in its class of exact matches
-abbrev pub Alike : (Link → Type 0) → ℕ → ℕ → Type 0
-Alike Held = Reaches (Joined Held exact_way)
+abbrev pub InClassOf : (Link → Type 0) → ℕ → ℕ → Type 0
+InClassOf Held = Reaches (Joined Held exact_way)
 
 abbrev pub NoCycleAt : (Link → Type 0) → ℕ → Type 0
 NoCycleAt Held p = IsAbove Held p p → ⊥
@@ -33,14 +33,15 @@ abbrev pub NoS27At : (Link → Type 0) → ℕ → Type 0
 NoS27At Held p = (x y : ℕ) → UpTo Held x p → UpTo Held p y → IsRelated Held x y → ⊥
 
 abbrev pub NoS46At : (Link → Type 0) → ℕ → Type 0
-NoS46At Held p = (x y : ℕ) → Alike Held p x → Alike Held p y → IsApart Held x y → ⊥
+NoS46At Held p = (x y : ℕ) → InClassOf Held p x → InClassOf Held p y → IsApart Held x y → ⊥
 
 -- the first rule that the links break by a chain or pair through p
 abbrev pub IsFirstBrokenAt : (Link → Type 0) → ℕ → Option Refusal → Type 0
 IsFirstBrokenAt Held p None = NoCycleAt Held p × NoS27At Held p × NoS46At Held p
 IsFirstBrokenAt Held p (Some no.Cycle) = IsAbove Held p p
 IsFirstBrokenAt Held p (Some no.S27) = NoCycleAt Held p × ((x : ℕ) × (y : ℕ) × UpTo Held x p × UpTo Held p y × IsRelated Held x y)
-IsFirstBrokenAt Held p (Some no.S46) = NoCycleAt Held p × NoS27At Held p × ((x : ℕ) × (y : ℕ) × Alike Held p x × Alike Held p y × IsApart Held x y)
+IsFirstBrokenAt Held p (Some no.S46) =
+    NoCycleAt Held p × NoS27At Held p × ((x : ℕ) × (y : ℕ) × InClassOf Held p x × InClassOf Held p y × IsApart Held x y)
 IsFirstBrokenAt Held p (Some _) = ⊥
 
 -- the start and all that it leads to, and the links with an end at one of these
