@@ -2,7 +2,7 @@
 use super::{Label, Link, Plain, Reply, at};
 use crate::orders::{FIRST_TEXT, LAST_TEXT, Order, TAGS, Word};
 use std::alloc::AllocError;
-use thes_base::data::{LabelKind, LinkKind, ResourceKind};
+use thes_base::data::{LabelKind, LinkKind, ResourceKind, TypedKind};
 
 /// Writes an answer as a line.
 pub fn push_reply(line: &mut String, reply: Reply) -> Result<(), AllocError> {
@@ -23,25 +23,6 @@ static HIERARCHICAL: [LinkKind; 4] = [
     LinkKind::BroaderGeneric,
     LinkKind::BroaderPartitive,
     LinkKind::BroaderInstantial,
-];
-
-// The typed ones among them in the order of their words, with the words at the narrower and at the broader end.
-static TYPED: [(LinkKind, &str, &str); 3] = [
-    (
-        LinkKind::BroaderGeneric,
-        "broaderGeneric",
-        "narrowerGeneric",
-    ),
-    (
-        LinkKind::BroaderInstantial,
-        "broaderInstantial",
-        "narrowerInstantial",
-    ),
-    (
-        LinkKind::BroaderPartitive,
-        "broaderPartitive",
-        "narrowerPartitive",
-    ),
 ];
 
 // Writes the numbers from 1 to the last that are chosen, as a list.
@@ -129,22 +110,43 @@ impl Plain {
         line.push_str("]")
     }
 
+    // Whether a concept shows the other under this typed kind.
+    fn is_typed(&self, kind: TypedKind, concept: u32, other: u32) -> bool {
+        match kind {
+            TypedKind::BroaderGeneric => self.has_link(LinkKind::BroaderGeneric, concept, other),
+            TypedKind::BroaderInstantial => {
+                self.has_link(LinkKind::BroaderInstantial, concept, other)
+            }
+            TypedKind::BroaderPartitive => {
+                self.has_link(LinkKind::BroaderPartitive, concept, other)
+            }
+            TypedKind::NarrowerGeneric => self.has_link(LinkKind::BroaderGeneric, other, concept),
+            TypedKind::NarrowerInstantial => {
+                self.has_link(LinkKind::BroaderInstantial, other, concept)
+            }
+            TypedKind::NarrowerPartitive => {
+                self.has_link(LinkKind::BroaderPartitive, other, concept)
+            }
+        }
+    }
+
     // Writes the typed links of a concept, those to broader ones first.
     fn push_typed(&self, line: &mut String, concept: u32) -> Result<(), AllocError> {
         line.push_str("\"typed\":[")?;
         let mut comma = "";
-        for is_up in [true, false] {
-            for (kind, up, down) in &TYPED {
-                for other in 1..=self.resources() {
-                    let (word, is_linked) = if is_up {
-                        (*up, self.has_link(*kind, concept, other))
-                    } else {
-                        (*down, self.has_link(*kind, other, concept))
-                    };
-                    if is_linked {
-                        write!(line, "{comma}[\"{word}\",{other}]")?;
-                        comma = ",";
-                    }
+        for kind in [
+            TypedKind::BroaderGeneric,
+            TypedKind::BroaderInstantial,
+            TypedKind::BroaderPartitive,
+            TypedKind::NarrowerGeneric,
+            TypedKind::NarrowerInstantial,
+            TypedKind::NarrowerPartitive,
+        ] {
+            for other in 1..=self.resources() {
+                if self.is_typed(kind, concept, other) {
+                    let word = kind.word();
+                    write!(line, "{comma}[\"{word}\",{other}]")?;
+                    comma = ",";
                 }
             }
         }
