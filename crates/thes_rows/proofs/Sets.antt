@@ -103,11 +103,11 @@ module _ {K : Type 0} {R : K → K → Ordering} (o : IsTotalOrder R) (exact : I
   itself : (x : K) → eq_by_cmp R x x ≡ true
   itself x = ap is_eq (tied_itself o x)
 
-  in_any : (q : K) (ks : List K) → list_any (eq_by_cmp R q) ks ≡ true → IsIn q ks
+  pub in_any : (q : K) (ks : List K) → list_any (eq_by_cmp R q) ks ≡ true → IsIn q ks
   in_any q [] e = absurd (cc)
   in_any q (k ∷ ks) e = elim (or_cases _ _ e) [ inl same ↦ inl (tied q k same) | inr rest ↦ inr (in_any q ks rest) ]
 
-  any_in : (q : K) (ks : List K) → IsIn q ks → list_any (eq_by_cmp R q) ks ≡ true
+  pub any_in : (q : K) (ks : List K) → IsIn q ks → list_any (eq_by_cmp R q) ks ≡ true
   any_in q [] h = absurd h
   any_in q (k ∷ ks) (inl same) = or_left _ _ (ap (eq_by_cmp R q) (sym same) ∙ itself q)
   any_in q (k ∷ ks) (inr rest) = or_right _ _ (any_in q ks rest)
