@@ -10,7 +10,10 @@ use Rattle.thes_cli.specs.declared.words.Task.{Task}
 
 -- the program has one command, `script`, which can't be left out
 abbrev pub program : App
-program = with_subcommand (on_top (λ s. record s { subcommand_required = true }) (new_app (codes "thesaurus"))) (new_app (codes "script")).top
+program =
+    with_subcommand
+    (on_top (λ s. record s { subcommand_required = true }) (new_app (codes "thesaurus")))
+    (new_app (codes "script")).top
 
 -- why nothing is done where clap answers with this kind of error
 abbrev pub PartsFor : ErrorKind → Parting → Type 0
@@ -23,6 +26,8 @@ PartsFor kind OutOfMemory = Unit {0}
 abbrev pub Plans : List (List ℕ) → Result Task Parting → Type 0
 Plans words (Ok task) = fault_of program words ≡ []
 Plans words (Err OutOfMemory) = Unit {0}
-Plans words (Err (Help text)) = (kind : ErrorKind) × IsAmong kind (fault_of program words) × PartsFor kind (Help text)
-Plans words (Err (Usage text)) = (kind : ErrorKind) × IsAmong kind (fault_of program words) × PartsFor kind (Usage text)
+Plans words (Err (Help text)) =
+    (kind : ErrorKind) × IsAmong kind (fault_of program words) × PartsFor kind (Help text)
+Plans words (Err (Usage text)) =
+    (kind : ErrorKind) × IsAmong kind (fault_of program words) × PartsFor kind (Usage text)
 Plans words (Err NotText) = ⊥

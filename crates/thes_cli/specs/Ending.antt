@@ -30,4 +30,5 @@ fault_line fault = codes "thesaurus: fault " ++ pipe_text fault ++ codes "\n"
 abbrev pub Prints : {W : Type 0} → (W → Option (List ℕ)) → Pipe W → Pipe W → List ℕ → Type 0
 Prints contents old new text =
     Appends (written contents old) (written contents new) text
-    ⊎ (AppendsFront (written contents old) (written contents new) text × ((failed_of new ≡ true) ⊎ (denied_of new ≡ true)))
+    ⊎ (AppendsFront (written contents old) (written contents new) text
+    × ((failed_of new ≡ true) ⊎ (denied_of new ≡ true)))

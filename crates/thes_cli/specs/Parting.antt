@@ -27,15 +27,19 @@ abbrev pub not_text_line : List ℕ
 not_text_line = codes "thesaurus: a word of the command line is not UTF-8\n"
 
 -- Help goes to standard output, and anything else to standard error. Help that can't be printed is a fault.
-module _ {W E : Type 0} (out : W → Option (List ℕ)) (err : E → Option (List ℕ)) (output output' : Pipe W) (errors errors' : Pipe E) where
+module _ {W E : Type 0} (out : W → Option (List ℕ)) (err : E → Option (List ℕ))
+    (output output' : Pipe W) (errors errors' : Pipe E) where
   abbrev pub PrintsHelp : List ℕ → ℕ → Type 0
   PrintsHelp text status =
-      (Appends (written out output) (written out output') text × (errors' ≡ errors) × (status ≡ 0))
-      ⊎ (AppendsFront (written out output) (written out output') text × ((failed_of output' ≡ true) ⊎ (denied_of output' ≡ true))
+      (Appends (written out output) (written out output') text
+      × (errors' ≡ errors) × (status ≡ 0))
+      ⊎ (AppendsFront (written out output) (written out output') text
+      × ((failed_of output' ≡ true) ⊎ (denied_of output' ≡ true))
       × Prints err errors errors' (fault_line Write) × (status ≡ 3))
 
   abbrev pub PrintsError : List ℕ → ℕ → ℕ → Type 0
-  PrintsError text code status = Prints err errors errors' text × (output' ≡ output) × (status ≡ code)
+  PrintsError text code status =
+      Prints err errors errors' text × (output' ≡ output) × (status ≡ code)
 
   abbrev pub Parts : Parting → ℕ → Type 0
   Parts (Help text) status = PrintsHelp (string_bytes text) status

@@ -51,7 +51,8 @@ fn answer_script<R: Read, W: Write>(
 fn part<W: Write, E: Write>(output: &mut Pipe<W>, errors: &mut Pipe<E>, parting: &Parting) -> u8
     requires output { IsFresh output.old }
     requires errors { IsFresh errors.old }
-    ensures { Parts W.contents E.contents output.old output.new errors.old errors.new parting.now result }
+    ensures { Parts W.contents E.contents output.old output.new errors.old errors.new
+        parting.now result }
 {
     match parting {
         Parting::Help(text) => {

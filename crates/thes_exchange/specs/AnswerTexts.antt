@@ -12,14 +12,16 @@ use Rattle.thes_exchange.specs.declared.answer.Reply.{Reply}
 use Rattle.thes_exchange.specs.declared.answer.Reply.TheVariants as replies
 
 abbrev pub refusal_text : Refusal → List ℕ
-refusal_text (OutsideKnown n) = codes "{\"no\":\"OutsideKnown\",\"number\":" ++ decimal n ++ codes "}\n"
+refusal_text (OutsideKnown n) =
+    codes "{\"no\":\"OutsideKnown\",\"number\":" ++ decimal n ++ codes "}\n"
 refusal_text r = codes "{\"no\":\"" ++ (refusal_code r).name ++ codes "\"}\n"
 
 abbrev pub form_fault_text : FormFault → List ℕ
 form_fault_text f = codes "{\"bad\":\"" ++ (form_code f).name ++ codes "\"}\n"
 
 abbrev pub fault_reply_text : Fault → List ℕ
-fault_reply_text (faults.BadStore table) = codes "{\"fault\":\"BadStore\",\"table\":\"" ++ table_name table ++ codes "\"}\n"
+fault_reply_text (faults.BadStore table) =
+    codes "{\"fault\":\"BadStore\",\"table\":\"" ++ table_name table ++ codes "\"}\n"
 fault_reply_text f = codes "{\"fault\":\"" ++ (fault_code f).name ++ codes "\"}\n"
 
 abbrev pub answer_text : Answer → List ℕ
@@ -27,7 +29,8 @@ answer_text (Number n) = codes "{\"ok\":" ++ decimal n ++ codes "}\n"
 answer_text (Again n) = codes "{\"again\":" ++ decimal n ++ codes "}\n"
 answer_text Done = codes "{\"done\":true}\n"
 answer_text (Moved k) = codes "{\"moved\":" ++ decimal k ++ codes "}\n"
-answer_text (Parted n k) = codes "{\"moved\":" ++ decimal k ++ codes ",\"ok\":" ++ decimal n ++ codes "}\n"
+answer_text (Parted n k) =
+    codes "{\"moved\":" ++ decimal k ++ codes ",\"ok\":" ++ decimal n ++ codes "}\n"
 answer_text (No r) = refusal_text r
 
 abbrev pub reply_text : Reply → List ℕ

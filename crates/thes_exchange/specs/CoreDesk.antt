@@ -20,7 +20,9 @@ use Rattle.thes_exchange.specs.ViewTexts.{view_text}
 
 -- A step of the machine, by a core that isn't spent. The state after it is in order.
 abbrev pub CorePerforms : Performing Kept
-CorePerforms old command result new = (old.spent ≡ false) × Performs old command result new × OnOk result (IsInOrder new.setting.base new.state)
+CorePerforms old command result new =
+    (old.spent ≡ false) × Performs old command result new
+    × OnOk result (IsInOrder new.setting.base new.state)
 
 -- the line of a view that is no refusal
 abbrev pub IsLineOf : View → List ℕ → Type 0
@@ -29,7 +31,8 @@ IsLineOf view text = text ≡ view_text view
 
 -- The line of the state's view that the query asks for, or the refusal. Running out of memory may stand in its place.
 abbrev pub IsViewed : State → Query → Result Viewed Fault → Type 0
-IsViewed s query (Ok (viewed.Line text)) = (view : View) × IsView s query view × IsLineOf view text
+IsViewed s query (Ok (viewed.Line text)) =
+    (view : View) × IsView s query view × IsLineOf view text
 IsViewed s query (Ok (viewed.No r)) = IsView s query (views.No r)
 IsViewed s query (Err fault) = fault ≡ OutOfMemory
 
@@ -48,4 +51,6 @@ CoreServes = Serves CorePerforms CoreShows
 abbrev pub IsLed : Kept → Kept → Type 0
 IsLed old new =
     (new.spent ≡ true)
-    ⊎ ((commands : List Command) × (answers : List Answer) × Run old.setting old.state commands answers new.state × (new.spent ≡ false) × (new.setting ≡ old.setting))
+    ⊎ ((commands : List Command) × (answers : List Answer)
+    × Run old.setting old.state commands answers new.state
+    × (new.spent ≡ false) × (new.setting ≡ old.setting))

@@ -65,7 +65,8 @@ pub record TakesRun (old new line line' : List ℕ) (kept : Bool) (run : Run) : 
 
 -- a line, whose text is held unless there was no memory for it
 abbrev pub FindsLine : Found → List ℕ → Option (List ℕ) → Option (List ℕ) → Bool → Type 0
-FindsLine found held old new ended = (raw : List ℕ) × TakesLine old new raw ended × (found ≡ Line → line_text raw ended ≡ held)
+FindsLine found held old new ended =
+    (raw : List ℕ) × TakesLine old new raw ended × (found ≡ Line → line_text raw ended ≡ held)
 
 -- the end of the input
 abbrev pub FindsEnd : Option (List ℕ) → Option (List ℕ) → Bool → Type 0

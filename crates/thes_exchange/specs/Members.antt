@@ -25,7 +25,8 @@ truth_in name d = option_and_then as_bool (get name d)
 -- an array of numbers
 abbrev pub all_numbers : Items → Option (List Num)
 all_numbers no_items = Some []
-all_numbers (item d ds) = option_and_then (λ n. option_map (λ ns. n ∷ ns) (all_numbers ds)) (as_number d)
+all_numbers (item d ds) =
+    option_and_then (λ n. option_map (λ ns. n ∷ ns) (all_numbers ds)) (as_number d)
 
 abbrev pub numbers_in : List ℕ → Data → Option (List Num)
 numbers_in name d = option_and_then all_numbers (option_and_then as_array (get name d))

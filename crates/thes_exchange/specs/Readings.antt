@@ -15,7 +15,8 @@ pub data Reading (A : Type 0) : Type 1 where
 abbrev pub Reaches : {A : Type 0} → Reading A → Result A FormFault → Type 0
 Reaches (reads x) outcome = outcome ≡ Ok x
 Reaches (fails f) outcome = outcome ≡ Err f
-Reaches (unless rule f rest) outcome = ((¬ rule) × (outcome ≡ Err f)) ⊎ (rule × Reaches rest outcome)
+Reaches (unless rule f rest) outcome =
+    ((¬ rule) × (outcome ≡ Err f)) ⊎ (rule × Reaches rest outcome)
 
 -- A call that may run out of memory answers with what the reading reaches.
 pub record Gives {A : Type 0} (reading : Reading A) (result : Result A ReadStop) : Type 0 where

@@ -1,15 +1,16 @@
--- What the bytes of a request ask for, or their first fault. Three rules, in this order: the bytes are JSON; the object has the
--- members that its line of the table names and no others, each of its kind; each member has its form, in the line's order.
+-- What the bytes of a request ask for, or their first fault. Three rules, in this order: the bytes are JSON; the object
+-- has the members that its line of the table names and no others, each of its kind; each member has its form, in the
+-- line's order.
 use Rattle.std.specs.Prelude.{ℕ, Bool, List, All, codes, map, unwrap_or, option_and_then, Option, None, Some, if◌then◌else◌}
 use Rattle.std.specs.Str.{is_utf8}
 use Rattle.std.specs.Char.{to_ascii_lowercase}
 use Rattle.serde_json.specs.Data.{Num, Data}
 use Rattle.serde_json.specs.Read.{read}
 use Rattle.serde_json.specs.Find.{get, as_str, as_u64}
-use Rattle.thes_base.specs.Forms.{IsNumber, IsText, IsNote, IsIri, IsKey, IsRecordName, IsTag}
+use Rattle.thes_base.specs.Forms.{IsNumber, IsText, IsIri, IsKey, IsRecordName, IsTag}
 use Rattle.thes_base.specs.Data.{LabelData}
+use Rattle.thes_base.specs.Texts.{IsLabelText}
 use Rattle.thes_base.specs.declared.data.LabelKind.{LabelKind}
-use Rattle.thes_base.specs.declared.data.LabelKind.TheVariants.{Pref, Alt, Hidden, Scope}
 use Rattle.thes_base.specs.declared.data.Link.{Link}
 use Rattle.thes_base.specs.declared.data.LinkKind.{LinkKind}
 use Rattle.thes_base.specs.declared.fault.FormFault.TheVariants as bad
@@ -52,13 +53,6 @@ key_form text = formed (IsKey text) bad.BadKey text
 abbrev pub record_form : List ℕ → Reading (List ℕ)
 record_form text = formed (IsRecordName text) bad.BadRecord text
 
--- a note is longer than a name
-abbrev pub IsLabelText : LabelKind → List ℕ → Type 0
-IsLabelText Pref text = IsText text
-IsLabelText Alt text = IsText text
-IsLabelText Hidden text = IsText text
-IsLabelText Scope text = IsNote text
-
 abbrev pub label_text_form : LabelKind → List ℕ → Reading (List ℕ)
 label_text_form kind text = formed (IsLabelText kind text) bad.BadText text
 
@@ -98,7 +92,10 @@ a_keep = record { found = truth_in (codes "keep"); form = reads }
 
 -- the word of a kind of link
 abbrev pub a_link_kind : Member LinkKind LinkKind
-a_link_kind = record { found = λ d. option_and_then link_kind_named (text_in (codes "kind") d); form = reads }
+a_link_kind = record {
+  found = λ d. option_and_then link_kind_named (text_in (codes "kind") d);
+  form = reads;
+}
 
 abbrev pub some_postings : Member (List Num) (List ℕ)
 some_postings = record { found = numbers_in (codes "postings"); form = numbers_form }
@@ -117,7 +114,8 @@ line1 makes m d = do
   a ← m.form x
   reads (makes a)
 
-unfoldable pub line2 : {X A Y B C : Type 0} → (A → B → C) → Member X A → Member Y B → Data → Reading C
+unfoldable pub line2 : {X A Y B C : Type 0}
+    → (A → B → C) → Member X A → Member Y B → Data → Reading C
 line2 makes m n d = do
   _ ← shaped (members_of 3 d)
   x ← shaped (m.found d)
@@ -126,7 +124,8 @@ line2 makes m n d = do
   b ← n.form y
   reads (makes a b)
 
-unfoldable pub line3 : {X A Y B Z D C : Type 0} → (A → B → D → C) → Member X A → Member Y B → Member Z D → Data → Reading C
+unfoldable pub line3 : {X A Y B Z D C : Type 0}
+    → (A → B → D → C) → Member X A → Member Y B → Member Z D → Data → Reading C
 line3 makes m n o d = do
   _ ← shaped (members_of 4 d)
   x ← shaped (m.found d)
@@ -137,7 +136,8 @@ line3 makes m n o d = do
   e ← o.form z
   reads (makes a b e)
 
-unfoldable pub line4 : {X A Y B Z D U E C : Type 0} → (A → B → D → E → C) → Member X A → Member Y B → Member Z D → Member U E → Data → Reading C
+unfoldable pub line4 : {X A Y B Z D U E C : Type 0}
+    → (A → B → D → E → C) → Member X A → Member Y B → Member Z D → Member U E → Data → Reading C
 line4 makes m n o p d = do
   _ ← shaped (members_of 5 d)
   x ← shaped (m.found d)
@@ -166,7 +166,9 @@ label_line d = do
   reads (n, record { kind = kind; tag = t; text = x })
 
 abbrev pub link_line : Data → Reading Link
-link_line d = line3 (λ kind a b. record { kind = kind; a = a; b = b }) a_link_kind (number_at (codes "a")) (number_at (codes "b")) d
+link_line d =
+    line3 (λ kind a b. record { kind = kind; a = a; b = b })
+    a_link_kind (number_at (codes "a")) (number_at (codes "b")) d
 
 unfoldable pub made_of : {A C : Type 0} → (A → C) → Reading A → Reading C
 made_of makes line = do
@@ -185,8 +187,10 @@ command_of does.Relabel d = line4 request.Relabel (number_at (codes "owner")) a_
 command_of does.Link d = made_of (λ l. request.Link l.kind l.a l.b) (link_line d)
 command_of does.Unlink d = made_of (λ l. request.Unlink l.kind l.a l.b) (link_line d)
 command_of does.Deprecate d = line1 request.Deprecate (number_at (codes "concept")) d
-command_of does.Merge d = line2 request.Merge (number_at (codes "source")) (number_at (codes "target")) d
-command_of does.Split d = line4 request.Split (number_at (codes "source")) a_tag a_text some_postings d
+command_of does.Merge d =
+    line2 request.Merge (number_at (codes "source")) (number_at (codes "target")) d
+command_of does.Split d =
+    line4 request.Split (number_at (codes "source")) a_tag a_text some_postings d
 command_of does.Post d = line3 request.Post a_key a_record (number_at (codes "concept")) d
 command_of does.Withdraw d = line1 request.Withdraw (number_at (codes "posting")) d
 

@@ -64,10 +64,12 @@ abbrev pub RunLines : {S : Type 0} → Serving S → S → List (List ℕ) → L
 RunLines serves old [] [] new = new ≡ old
 RunLines serves old [] (f ∷ fates) new = ⊥
 RunLines serves old (line ∷ more) [] new = ⊥
-RunLines {S} serves old (line ∷ more) (f ∷ fates) new = (mid : S) × StepLine serves old line f mid × RunLines serves mid more fates new
+RunLines {S} serves old (line ∷ more) (f ∷ fates) new =
+    (mid : S) × StepLine serves old line f mid × RunLines serves mid more fates new
 
 -- The lines of these bytes are allowed, and become these fates one after another.
-pub record ServesLines {S : Type 0} (serves : Serving S) (bytes : List ℕ) (fates : List Fate) (old new : S) : Type 0 where
+pub record ServesLines {S : Type 0} (serves : Serving S) (bytes : List ℕ) (fates : List Fate)
+    (old new : S) : Type 0 where
   pub allowed : AreAllowed (whole_lines bytes)
   pub run : RunLines serves old (lines bytes) fates new
 
@@ -123,18 +125,31 @@ pub record IsBeyond (served : List ℕ) (rest : Option (List ℕ)) : Type 0 wher
   pub one : length (whole_lines next) ≡ 1
   pub beyond : ¬ AreAllowed (whole_lines (served ++ next))
 
-module _ {R W S : Type 0} (remaining : R → Option (List ℕ)) (contents : W → Option (List ℕ)) (serves : Serving S) (is_open : S → Bool) (old new : Scene R W S) where
+module _ {R W S : Type 0} (remaining : R → Option (List ℕ)) (contents : W → Option (List ℕ))
+    (serves : Serving S) (is_open : S → Bool) (old new : Scene R W S) where
+  -- this was written
+  abbrev pub Writes : List ℕ → Type 0
+  Writes text = Appends (written contents old.writer) (written contents new.writer) text
+
+  -- a front of this was written
+  abbrev pub WritesFront : List ℕ → Type 0
+  WritesFront text = AppendsFront (written contents old.writer) (written contents new.writer) text
+
+  -- these bytes were read
+  abbrev pub Takes : List ℕ → Type 0
+  Takes bytes = Consumes (unread remaining old.reader) (unread remaining new.reader) bytes
+
   -- all was read, each line was answered, and just the answers were written
   pub record Completes (ended : Ended) : Type 0 where
     pub input : List ℕ
-    pub taken : Consumes (unread remaining old.reader) (unread remaining new.reader) input
+    pub taken : Takes input
     pub end : IsAtEnd (unread remaining new.reader)
     pub told : ended_of new.reader ≡ true
     pub working : (failed_of new.reader ≡ false) × (failed_of new.writer ≡ false)
     pub fates : List Fate
     pub lines : ServesLines serves input fates old.desk new.desk
     pub stays_open : is_open new.desk ≡ true
-    pub text : Appends (written contents old.writer) (written contents new.writer) (script_text fates)
+    pub text : Writes (script_text fates)
     pub noted : ended ≡ ended_with fates
 
   -- Why no line is answered after these, and what was written of their answers.
@@ -144,14 +159,13 @@ module _ {R W S : Type 0} (remaining : R → Option (List ℕ)) (contents : W �
   --   There is no memory: none to begin with, or the desk was closed by the last line.
   abbrev pub IsCause : PipeFault → List ℕ → Option (List ℕ) → List ℕ → Type 0
   IsCause Read served rest text =
-      Appends (written contents old.writer) (written contents new.writer) text
-      × (part : List ℕ) × Consumes (unread remaining old.reader) (unread remaining new.reader) (served ++ part) × (has_newline part ≡ false)
-  IsCause Write served rest text = AppendsFront (written contents old.writer) (written contents new.writer) text
+      Writes text × (part : List ℕ) × Takes (served ++ part) × (has_newline part ≡ false)
+  IsCause Write served rest text = WritesFront text
   IsCause TooLong served rest text =
-      (AppendsFront (written contents old.writer) (written contents new.writer) text × (denied_of new.writer ≡ true))
-      ⊎ (Appends (written contents old.writer) (written contents new.writer) text × ((denied_of new.reader ≡ true) ⊎ IsBeyond served rest))
+      (WritesFront text × (denied_of new.writer ≡ true))
+      ⊎ (Writes text × ((denied_of new.reader ≡ true) ⊎ IsBeyond served rest))
   IsCause (Fault f) served rest text =
-      Appends (written contents old.writer) (written contents new.writer) text × (f ≡ OutOfMemory) × ((new.desk ≡ old.desk) ⊎ (is_open new.desk ≡ false))
+      Writes text × (f ≡ OutOfMemory) × ((served ≡ []) ⊎ (is_open new.desk ≡ false))
 
   -- The lines of these bytes were served, which are the first that the reader had, and then it stopped.
   pub record Stops (fault : PipeFault) : Type 0 where

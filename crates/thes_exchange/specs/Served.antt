@@ -12,12 +12,21 @@ use Rattle.thes_exchange.specs.Serving.{Serving}
 use Rattle.thes_exchange.specs.Script.{Fate, StepLine, ServesLines, EndsLine, Scene, whole_lines, outcome_of, text_told, script_text, noted, ended_with}
 use Rattle.thes_exchange.specs.declared.script.Ended.{Ended}
 
-module _ {W S : Type 0} (contents : W → Option (List ℕ)) (serves : Serving S) (is_open : S → Bool) (line : List ℕ) (old new : S) (writer writer' : Pipe W) where
+module _ {W S : Type 0} (contents : W → Option (List ℕ)) (serves : Serving S) (is_open : S → Bool)
+    (line : List ℕ) (old new : S) (writer writer' : Pipe W) where
+  -- this was written
+  abbrev pub LineWrites : List ℕ → Type 0
+  LineWrites text = Appends (written contents writer) (written contents writer') text
+
+  -- a front of this was written
+  abbrev pub LineWritesFront : List ℕ → Type 0
+  LineWritesFront text = AppendsFront (written contents writer) (written contents writer') text
+
   -- a line was skipped or answered
   pub record ServesLine (ended ended' : Ended) : Type 0 where
     pub fate : Fate
     pub step : StepLine serves old line fate new
-    pub text : Appends (written contents writer) (written contents writer') (text_told (outcome_of fate))
+    pub text : LineWrites (text_told (outcome_of fate))
     pub noted : ended' ≡ noted ended (outcome_of fate)
     pub stays_open : is_open new ≡ true
     pub fresh : IsFresh writer'
@@ -25,9 +34,11 @@ module _ {W S : Type 0} (contents : W → Option (List ℕ)) (serves : Serving S
   -- why no line is answered after this one
   abbrev pub StopsAfter : PipeFault → List ℕ → Type 0
   StopsAfter Read text = ⊥
-  StopsAfter Write text = AppendsFront (written contents writer) (written contents writer') text × (failed_of writer' ≡ true)
-  StopsAfter TooLong text = AppendsFront (written contents writer) (written contents writer') text × (failed_of writer' ≡ false) × (denied_of writer' ≡ true)
-  StopsAfter (Fault f) text = Appends (written contents writer) (written contents writer') text × (failed_of writer' ≡ false) × (f ≡ OutOfMemory) × (is_open new ≡ false)
+  StopsAfter Write text = LineWritesFront text × (failed_of writer' ≡ true)
+  StopsAfter TooLong text =
+      LineWritesFront text × (failed_of writer' ≡ false) × (denied_of writer' ≡ true)
+  StopsAfter (Fault f) text =
+      LineWrites text × (failed_of writer' ≡ false) × (f ≡ OutOfMemory) × (is_open new ≡ false)
 
   -- the same, and then the script stops
   pub record StopsAtLine (fault : PipeFault) : Type 0 where
@@ -36,7 +47,9 @@ module _ {W S : Type 0} (contents : W → Option (List ℕ)) (serves : Serving S
     pub cause : StopsAfter fault (text_told (outcome_of fate))
 
 -- The lines of these bytes were served, and this is left to read.
-pub record Served {R W S : Type 0} (remaining : R → Option (List ℕ)) (contents : W → Option (List ℕ)) (serves : Serving S) (old new : Scene R W S) (held : List ℕ) (count : ℕ) (ended : Ended) : Type 0 where
+pub record Served {R W S : Type 0} (remaining : R → Option (List ℕ)) (contents : W → Option (List ℕ))
+    (serves : Serving S) (old new : Scene R W S)
+    (held : List ℕ) (count : ℕ) (ended : Ended) : Type 0 where
   pub bytes : List ℕ
   pub taken : Consumes (unread remaining old.reader) (left remaining held new.reader) bytes
   pub whole : ended_of new.reader ≡ false → EndsLine bytes

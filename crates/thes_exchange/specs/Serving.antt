@@ -29,18 +29,29 @@ Showing S = S → Query → Result Viewed Fault → S → Type 0
 abbrev pub Serving : Type 0 → Type 1
 Serving S = S → List ℕ → Outcome → S → Type 0
 
--- The line is read, and its request performed or its view shown. A line that is no request changes nothing. A fault may stand
--- in place of any answer: that of the desk, or running out of memory while reading, and then nothing changes.
+-- The line is read, and its request performed or its view shown. A line that is no request changes nothing. A fault may
+-- stand in place of any answer: that of the desk, or running out of memory while reading, and then nothing changes.
+
+-- the line asks for this to be done, or to be shown
+abbrev pub AsksToDo : List ℕ → Command → Type 0
+AsksToDo line command = Reaches (request_of line) (Ok (Do command))
+
+abbrev pub AsksToSee : List ℕ → Query → Type 0
+AsksToSee line query = Reaches (request_of line) (Ok (Get query))
+
 abbrev pub Serves : {S : Type 0} → Performing S → Showing S → Serving S
 Serves performs shows old line (Told (reply.Answer a)) new =
-    ((command : Command) × Reaches (request_of line) (Ok (Do command)) × performs old command (Ok a) new)
-    ⊎ ((query : Query) × (r : Refusal) × Reaches (request_of line) (Ok (Get query)) × shows old query (Ok (view.No r)) new × (a ≡ answer.No r))
-Serves performs shows old line (Told (reply.Bad f)) new = Reaches (request_of line) (Err f) × (new ≡ old)
+    ((command : Command) × AsksToDo line command × performs old command (Ok a) new)
+    ⊎ ((query : Query) × (r : Refusal) × AsksToSee line query
+    × shows old query (Ok (view.No r)) new × (a ≡ answer.No r))
+Serves performs shows old line (Told (reply.Bad f)) new =
+    Reaches (request_of line) (Err f) × (new ≡ old)
 Serves performs shows old line (Told (reply.Fault f)) new =
     ((f ≡ OutOfMemory) × (new ≡ old))
-    ⊎ (((command : Command) × Reaches (request_of line) (Ok (Do command)) × performs old command (Err f) new)
-    ⊎ ((query : Query) × Reaches (request_of line) (Ok (Get query)) × shows old query (Err f) new))
-Serves performs shows old line (Shown text) new = (query : Query) × Reaches (request_of line) (Ok (Get query)) × shows old query (Ok (view.Line text)) new
+    ⊎ (((command : Command) × AsksToDo line command × performs old command (Err f) new)
+    ⊎ ((query : Query) × AsksToSee line query × shows old query (Err f) new))
+Serves performs shows old line (Shown text) new =
+    (query : Query) × AsksToSee line query × shows old query (Ok (view.Line text)) new
 
 abbrev pub outcome_text : Outcome → List ℕ
 outcome_text (Told r) = reply_text r

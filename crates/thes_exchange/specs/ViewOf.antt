@@ -23,7 +23,8 @@ abbrev pub IsView : State → Query → View → Type 0
 IsView s asked.Totals (views.Totals t) = t ≡ totals_of s.histories
 IsView s (asked.Concept n) (views.Concept c) = unless_concept s n None × IsShown s n c
 IsView s (asked.Concept n) (views.No r) = unless_concept s n (Some r)
-IsView s (asked.Postings n) (views.Postings hs) = unless_concept s n None × (hs ≡ standing_histories n s.histories)
+IsView s (asked.Postings n) (views.Postings hs) =
+    unless_concept s n None × (hs ≡ standing_histories n s.histories)
 IsView s (asked.Postings n) (views.No r) = unless_concept s n (Some r)
 IsView s (asked.Posting n) (views.Posting h) = numbered s.histories n ≡ Some h.now
 IsView s (asked.Posting n) (views.No r) = unless_posting s n (Some r)

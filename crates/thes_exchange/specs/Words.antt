@@ -22,13 +22,14 @@ label_word labels.Hidden = codes "hidden"
 label_word labels.Scope = codes "scope"
 
 abbrev pub label_kind_named : List ℕ → Option LabelKind
-label_kind_named text = named label_word (labels.Pref ∷ labels.Alt ∷ labels.Hidden ∷ labels.Scope ∷ []) text
+label_kind_named text =
+    named label_word (labels.Pref ∷ labels.Alt ∷ labels.Hidden ∷ labels.Scope ∷ []) text
 
 abbrev pub link_kind_named : List ℕ → Option LinkKind
 link_kind_named text =
     named link_word
-    (links.Broader ∷ links.Related ∷ links.Exact ∷ links.Close ∷ links.Broad ∷ links.Narrow ∷ links.RelMatch ∷ links.Member
-    ∷ links.BroaderGeneric ∷ links.BroaderPartitive ∷ links.BroaderInstantial ∷ []) text
+    (links.Broader ∷ links.Related ∷ links.Exact ∷ links.Close ∷ links.Broad ∷ links.Narrow
+    ∷ links.RelMatch ∷ links.Member ∷ links.BroaderGeneric ∷ links.BroaderPartitive ∷ links.BroaderInstantial ∷ []) text
 
 -- what stands at `do`
 abbrev pub verb_word : Verb → List ℕ
@@ -50,8 +51,8 @@ verb_word does.Withdraw = codes "withdraw"
 abbrev pub verb_named : List ℕ → Option Verb
 verb_named text =
     named verb_word
-    (does.Scheme ∷ does.Concept ∷ does.Collection ∷ does.Outside ∷ does.AddLabel ∷ does.DropLabel ∷ does.Relabel ∷ does.Link ∷ does.Unlink
-    ∷ does.Deprecate ∷ does.Merge ∷ does.Split ∷ does.Post ∷ does.Withdraw ∷ []) text
+    (does.Scheme ∷ does.Concept ∷ does.Collection ∷ does.Outside ∷ does.AddLabel ∷ does.DropLabel
+    ∷ does.Relabel ∷ does.Link ∷ does.Unlink ∷ does.Deprecate ∷ does.Merge ∷ does.Split ∷ does.Post ∷ does.Withdraw ∷ []) text
 
 -- what stands at `get`
 abbrev pub noun_word : Noun → List ℕ
@@ -61,4 +62,5 @@ noun_word gets.Postings = codes "postings"
 noun_word gets.Posting = codes "posting"
 
 abbrev pub noun_named : List ℕ → Option Noun
-noun_named text = named noun_word (gets.Totals ∷ gets.Concept ∷ gets.Postings ∷ gets.Posting ∷ []) text
+noun_named text =
+    named noun_word (gets.Totals ∷ gets.Concept ∷ gets.Postings ∷ gets.Posting ∷ []) text

@@ -3,10 +3,11 @@ ghost use Rattle.std.specs.Prelude.{◌≡◌, map, ◌⊎◌, Some, None, IfOk,
 ghost use Rattle.serde_json.specs.View.{view, number_view};
 ghost use Rattle.thes_base.specs.Forms.{IsNumber};
 ghost use Rattle.thes_base.specs.Reads.{Reads};
+ghost use Rattle.thes_base.specs.Texts.{IsLabelText};
 ghost use Rattle.thes_base.specs.declared.fault.FormFault.TheVariants.{BadNumber, BadText, NotJson};
 ghost use Rattle.thes_base.specs.Data.{kind_of, text_of};
 ghost use Rattle.thes_exchange.specs.Readings.{Gives};
-ghost use Rattle.thes_exchange.specs.Requests.{whole, AreNumbers, IsLabelText, label_line, link_line, made_of, command_of, query_of, request_in, json_in, request_of};
+ghost use Rattle.thes_exchange.specs.Requests.{whole, AreNumbers, label_line, link_line, made_of, command_of, query_of, request_in, json_in, request_of};
 ghost use Rattle.thes_exchange.specs.declared.request.Request.TheVariants.{Do, Get};
 
 use crate::members::{

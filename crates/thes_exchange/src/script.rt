@@ -92,11 +92,12 @@ fn serve_line<W: Write, D: Desk>(
     requires writer { IsFresh writer.old }
     requires open { D.is_open desk.old ≡ true }
     ensures ok { OnOk result ((text : List ℕ) → (found ≡ Found.Line → text ≡ line.now) →
-        ServesLine W.contents
-        (Serves D.performs D.shows) D.is_open text desk.old desk.new writer.old writer.new ended.old ended.new) }
+        ServesLine W.contents (Serves D.performs D.shows) D.is_open text
+        desk.old desk.new writer.old writer.new ended.old ended.new) }
     ensures stopped { IfErr result (λ fault. (text : List ℕ) →
-        (found ≡ Found.Line → text ≡ line.now) → StopsAtLine
-        W.contents (Serves D.performs D.shows) D.is_open text desk.old desk.new writer.old writer.new fault) }
+        (found ≡ Found.Line → text ≡ line.now) →
+        StopsAtLine W.contents (Serves D.performs D.shows) D.is_open text
+        desk.old desk.new writer.old writer.new fault) }
     ensures paid { PaysCalls writer.old writer.new budget.old budget.new }
 {
     if is_skipped(line, found) {
@@ -115,8 +116,9 @@ fn serve_line<W: Write, D: Desk>(
 
 /// Answers each line of the input before it reads the next.
 ///
-/// A line holds at most 1,048,576 bytes, and a script at most 1,000,000 lines, blank ones counted. `TooLong` is answered only
-/// where the input goes past that, and then the lines before were answered; or where a pipe was denied a read or a write.
+/// A line holds at most 1,048,576 bytes, and a script at most 1,000,000 lines, blank ones counted. `TooLong` is answered
+/// only where the input goes past that, and then the lines before were answered; or where a pipe was denied a read or a
+/// write. `OutOfMemory` is answered only before the first line, or once the desk is closed.
 /// All reads and writes together are at most 100,000,000.
 pub fn script<R: Read, W: Write, D: Desk>(
     alloc: Global,

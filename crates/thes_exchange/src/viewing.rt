@@ -16,7 +16,8 @@ use thes_core::Core;
 fn concept_at<'a>(core: &'a Core, number: ResNo) -> Result<&'a Resource, Refusal>
     requires { core.now.spent ≡ false }
     ensures { MatchResult result
-        (λ resource. unless_concept core.now.state number None × (numbered core.now.state.resources number ≡ Some resource.now))
+        (λ resource. unless_concept core.now.state number None
+        × (numbered core.now.state.resources number ≡ Some resource.now))
         (λ refusal. unless_concept core.now.state number (Some refusal)) }
 {
     let Some(resource) = core.resource(number) else {
