@@ -6,11 +6,11 @@ use thes_base::fault::{FormFault, ReadStop};
 use thes_base::number::ResNo;
 use thes_base::request::{Command, PostNos};
 use thes_base::text::Text;
-use thes_exchange::request::{Query, Request, read_request};
+use thes_exchange::request::{Memory, Query, Request, read_request};
 
 // The form fault of a line, if it has one.
 fn fault_of(alloc: Global, line: &[u8]) -> Option<FormFault> {
-    match read_request(alloc, line) {
+    match read_request(&mut Memory::new(alloc), line) {
         Err(ReadStop::Form(fault)) => Some(fault),
         _ => None,
     }
@@ -290,7 +290,7 @@ fn query_told(alloc: Global, query: Query) -> Result<String, AllocError> {
 
 // What a line asks for, in short.
 fn told(alloc: Global, line: &str) -> Result<String, Fail> {
-    Ok(match read_request(alloc, line.as_bytes())? {
+    Ok(match read_request(&mut Memory::new(alloc), line.as_bytes())? {
         Request::Do(command) => command_told(alloc, &command)?,
         Request::Get(query) => query_told(alloc, query)?,
     })
