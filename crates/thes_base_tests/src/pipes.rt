@@ -1,9 +1,10 @@
 //! What a pipe notes of its device.
-use crate::devices::{Filling, Halting, Interrupted};
 use std::alloc::Global;
-use std::io::{Read, Write};
+use std::io;
+use std::io::{ErrorKind, Read, Write};
 use std::test::Fail;
 use thes_base::pipe::{Budget, Pipe, Stop};
+use thes_devices::{Filling, Halting};
 
 // What a pipe notes.
 #[derive(Clone, Copy, Debug, PartialEq, Eq)]
@@ -40,7 +41,7 @@ fn read_from<R: Read + Drop>(
 type Reading = (&'static [u8], u32, Result<usize, Stop>, [u8; 4], Noted);
 
 static READINGS: [Reading; 3] = [
-    (b"abc", 20, Ok(2), *b"ab\0\0", Noted::Nothing),
+    (b"abcd", 20, Ok(3), *b"abc\0", Noted::Nothing),
     (b"", 20, Ok(0), [0; 4], Noted::Ended),
     (b"abc", 0, Err(Stop::Failed), [0; 4], Noted::Failed),
 ];
@@ -69,32 +70,32 @@ fn write_to<W: Write>(
     (result, notes_of(pipe))
 }
 
-fn filling(alloc: Global, room: usize) -> Pipe<Filling> {
+fn filling(alloc: Global, calls: u32) -> Pipe<Filling> {
     Pipe::new(Filling {
         bytes: Vec::new(alloc),
-        room,
-        is_interrupted: false,
+        calls,
+        is_full: true,
     })
 }
 
-// Texts, how much room the writer has, and what it holds and is noted in the end.
+// Texts, after how many calls the writer is full, and what it holds and is noted in the end.
 type Writing = (
     &'static [&'static [u8]],
-    usize,
+    u32,
     &'static [u8],
     Result<(), Stop>,
     Noted,
 );
 
 static WRITINGS: [Writing; 2] = [
-    (&[b"abc", b"", b"de"], 9, b"abcde", Ok(()), Noted::Nothing),
-    (&[b"abc"], 2, b"ab", Err(Stop::Failed), Noted::Failed),
+    (&[b"abc", b"", b"de"], 20, b"abcde", Ok(()), Noted::Nothing),
+    (&[b"abc"], 4, b"ab", Err(Stop::Failed), Noted::Failed),
 ];
 
 #[test]
 fn what_a_writer_does_is_noted(rt: HostRuntime) -> Result<(), Fail> {
-    for (texts, room, written, result, noted) in WRITINGS {
-        let mut pipe = filling(rt.alloc(), room);
+    for (texts, calls, written, result, noted) in WRITINGS {
+        let mut pipe = filling(rt.alloc(), calls);
         assert_eq!(rt;
             write_to(&mut Budget::new(), &mut pipe, texts),
             (result, noted),
@@ -105,13 +106,23 @@ fn what_a_writer_does_is_noted(rt: HostRuntime) -> Result<(), Fail> {
     Ok(())
 }
 
+// A reader that is interrupted at each call.
+#[derive(Drop)]
+struct Interrupted;
+
+impl Read for Interrupted {
+    fn read(&mut self, _buf: &mut [u8]) -> io::Result<usize> {
+        Err(io::Error::from(ErrorKind::Interrupted))
+    }
+}
+
 // A reader that is interrupted for ever uses the budget up, and a writer then has none left.
 #[test]
 fn a_budget_used_up_is_noted(rt: HostRuntime) -> Result<(), Fail> {
     let mut budget = Budget::new();
     let read = read_from(&mut budget, Interrupted);
     assert_eq!(rt; read, (Err(Stop::TooLong), [0; 4], Noted::Denied));
-    let mut pipe = filling(rt.alloc(), 9);
+    let mut pipe = filling(rt.alloc(), 20);
     let written = write_to(&mut budget, &mut pipe, &[b"a"]);
     assert_eq!(rt; written, (Err(Stop::TooLong), Noted::Denied));
     assert!(rt; pipe.into_device().bytes.is_empty());

@@ -1,11 +1,11 @@
 //! The calls of a core, each made directly: what it decides of a request, what it makes of it, and what can be looked up.
 ghost use Rattle.std.specs.Prelude.{◌≡◌, false, IfSome};
 
-use crate::run::{Store, filled};
+use crate::run::{Store, command, filled};
 use std::alloc::{AllocError, Global};
 use std::test::Fail;
 use thes_base::data::{
-    History, Label, LabelKind, Limits, Link, LinkKind, Move, Resource, ResourceKind, Totals,
+    History, Label, LabelKind, Link, LinkKind, Move, Resource, ResourceKind, Totals,
 };
 use thes_base::fault::{Fault, Refusal};
 use thes_base::number::{MoveNo, PostNo, ResNo};
@@ -162,22 +162,11 @@ impl Store {
         self.core.step(command)
     }
 
-    fn decide_broader(&self, a: ResNo, b: ResNo) -> Result<Verdict, Fault> {
-        self.decide(&Command::Link(LinkKind::Broader, a, b))
-    }
-
-    fn apply_broader(&mut self, a: ResNo, b: ResNo) -> Result<Option<Answer>, Fault> {
-        self.apply(&Command::Link(LinkKind::Broader, a, b))
-    }
-
-    fn step_broader(&mut self, a: ResNo, b: ResNo) -> Result<Answer, Fault> {
-        self.step(&Command::Link(LinkKind::Broader, a, b))
-    }
 }
 
 #[test]
 fn a_new_core_holds_nothing(rt: HostRuntime) -> Result<(), Fail> {
-    let store = Store::new(rt.alloc(), Limits::default())?;
+    let store = Store::new(rt.alloc())?;
     let sizes = Sizes {
         resources: 0,
         labels: 0,
@@ -429,47 +418,44 @@ fn mappings_are_listed_as_seen_from_an_end(rt: HostRuntime) -> Result<(), Fail> 
     Ok(())
 }
 
+// Cats below Mammals, and Mammals below Cats.
+const BELOW: &str = r#"{"do":"link","kind":"broader","a":2,"b":3}"#;
+
+const ABOVE: &str = r#"{"do":"link","kind":"broader","a":3,"b":2}"#;
+
 // What is decided changes nothing.
 #[test]
 fn a_request_is_decided(rt: HostRuntime) -> Result<(), Fail> {
-    let store = filled(rt.alloc(), "")?;
-    let (cats, mammals) = (ResNo::new(2), ResNo::new(3));
-    assert_eq!(rt; store.decide_broader(cats, mammals), Ok(Verdict::Accepted));
-    assert_eq!(rt; store.has(LinkKind::Broader, cats, mammals), Some(false));
+    let alloc = rt.alloc();
+    let store = filled(alloc, LINKED)?;
+    let sizes = store.sizes();
+    for (line, verdict) in [
+        (r#"{"do":"link","kind":"broader","a":4,"b":3}"#, Verdict::Accepted),
+        (ABOVE, Verdict::Settled(Answer::No(Refusal::Cycle))),
+    ] {
+        assert_eq!(rt; store.decide(&command(alloc, line)?), Ok(verdict), "{line}");
+    }
+    assert_eq!(rt; store.sizes(), sizes);
     Ok(())
 }
 
 #[test]
 fn a_request_is_applied(rt: HostRuntime) -> Result<(), Fail> {
-    let mut store = filled(rt.alloc(), "")?;
-    let (cats, mammals) = (ResNo::new(2), ResNo::new(3));
-    assert_eq!(rt; store.apply_broader(cats, mammals), Ok(Some(Answer::Done)));
-    assert_eq!(rt; store.has(LinkKind::Broader, cats, mammals), Some(true));
-    Ok(())
-}
-
-#[test]
-fn a_request_is_refused(rt: HostRuntime) -> Result<(), Fail> {
-    let store = filled(rt.alloc(), LINKED)?;
-    let refused = Verdict::Settled(Answer::No(Refusal::Cycle));
-    assert_eq!(rt;
-        store.decide_broader(ResNo::new(3), ResNo::new(2)),
-        Ok(refused)
-    );
+    let alloc = rt.alloc();
+    let mut store = filled(alloc, "")?;
+    for (line, answer) in [(BELOW, Some(Answer::Done)), (ABOVE, None)] {
+        assert_eq!(rt; store.apply(&command(alloc, line)?), Ok(answer), "{line}");
+    }
+    assert_eq!(rt; store.has(LinkKind::Broader, ResNo::new(2), ResNo::new(3)), Some(true));
     Ok(())
 }
 
 #[test]
 fn a_request_is_performed(rt: HostRuntime) -> Result<(), Fail> {
-    let mut store = filled(rt.alloc(), LINKED)?;
-    let refused = Answer::No(Refusal::Cycle);
-    assert_eq!(rt;
-        store.step_broader(ResNo::new(3), ResNo::new(2)),
-        Ok(refused)
-    );
-    assert_eq!(rt;
-        store.step_broader(ResNo::new(4), ResNo::new(3)),
-        Ok(Answer::Done)
-    );
+    let alloc = rt.alloc();
+    let mut store = filled(alloc, "")?;
+    for (line, answer) in [(BELOW, Answer::Done), (ABOVE, Answer::No(Refusal::Cycle))] {
+        assert_eq!(rt; store.step(&command(alloc, line)?), Ok(answer), "{line}");
+    }
     Ok(())
 }

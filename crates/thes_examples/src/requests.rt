@@ -1,5 +1,6 @@
 //! What lines are read as.
 use std::alloc::{AllocError, Global};
+use std::process::Abort;
 use std::test::Fail;
 use thes_base::data::Label;
 use thes_base::fault::{FormFault, ReadStop};
@@ -16,29 +17,38 @@ fn fault_of(alloc: Global, line: &[u8]) -> Option<FormFault> {
     }
 }
 
+// Each of the lines has this fault.
+fn expect_fault(rt: &impl Abort, alloc: Global, fault: FormFault, lines: &[&str]) {
+    for line in lines {
+        assert_eq!(rt; fault_of(alloc, line.as_bytes()), Some(fault), "at {line}");
+    }
+}
+
+// Each of the lines has the fault beside it.
+fn expect_faults(rt: &impl Abort, alloc: Global, rows: &[(&str, FormFault)]) {
+    for (line, fault) in rows {
+        assert_eq!(rt; fault_of(alloc, line.as_bytes()), Some(*fault), "at {line}");
+    }
+}
+
 #[test]
 fn texts_that_are_no_json(rt: HostRuntime) {
-    for line in [
+    let lines = [
         "[1",
         "",
         "\u{feff}{\"get\":\"totals\"}",
         r#"{"do":"merge","source":1e400,"target":2}"#,
         "{\"do\":\"outside\",\"iri\":\"http://a\tb\"}",
         r#"{"do":"outside","iri":"http://\ud800"}"#,
-    ] {
-        assert_eq!(rt;
-            fault_of(rt.alloc(), line.as_bytes()),
-            Some(FormFault::NotJson),
-            "at {line}"
-        );
-    }
+    ];
+    expect_fault(&rt, rt.alloc(), FormFault::NotJson, &lines);
     let no_text = b"{\"do\":\"outside\",\"iri\":\"\xff\"}";
     assert_eq!(rt; fault_of(rt.alloc(), no_text), Some(FormFault::NotJson));
 }
 
 #[test]
 fn shapes_that_are_no_request(rt: HostRuntime) {
-    for line in [
+    let lines = [
         "[]",
         r#""merge""#,
         "{}",
@@ -54,35 +64,32 @@ fn shapes_that_are_no_request(rt: HostRuntime) {
         r#"{"do":"split","source":2,"tag":"en","text":"Cats","postings":1}"#,
         r#"{"get":"totals","number":1}"#,
         r#"{"get":"concept","concept":1}"#,
-    ] {
-        assert_eq!(rt;
-            fault_of(rt.alloc(), line.as_bytes()),
-            Some(FormFault::BadShape),
-            "at {line}"
-        );
-    }
+    ];
+    expect_fault(&rt, rt.alloc(), FormFault::BadShape, &lines);
 }
 
 // A wrong shape anywhere comes before a form fault anywhere.
 #[test]
 fn shapes_come_first(rt: HostRuntime) {
-    for line in [
+    let lines = [
         r#"{"do":"addLabel","owner":0,"kind":"fly","tag":"en","text":"Cats"}"#,
         r#"{"do":"merge","source":0,"target":"3"}"#,
         r#"{"do":"split","source":0,"tag":"!","text":"Cats","postings":[1,"2"]}"#,
         r#"{"do":"post","key":"k 1","record":"r1","concept":null}"#,
-    ] {
-        assert_eq!(rt;
-            fault_of(rt.alloc(), line.as_bytes()),
-            Some(FormFault::BadShape),
-            "at {line}"
-        );
+    ];
+    expect_fault(&rt, rt.alloc(), FormFault::BadShape, &lines);
+}
+
+fn expect_number_fault(rt: &impl Abort, alloc: Global, fault: Option<FormFault>, numbers: &[&str]) {
+    for number in numbers {
+        assert_eq!(rt; number_fault(alloc, number), fault, "at {number}");
     }
 }
 
 #[test]
 fn numbers_that_may_not_be(rt: HostRuntime) {
-    for number in [
+    let alloc = rt.alloc();
+    let bad = [
         "0",
         "4294967296",
         "18446744073709551616",
@@ -90,29 +97,40 @@ fn numbers_that_may_not_be(rt: HostRuntime) {
         "-0",
         "1.0",
         "1E2",
-    ] {
-        assert_eq!(rt;
-            number_fault(rt.alloc(), number),
-            Some(FormFault::BadNumber),
-            "at {number}"
-        );
+    ];
+    expect_number_fault(&rt, alloc, Some(FormFault::BadNumber), &bad);
+    expect_number_fault(&rt, alloc, None, &["1", "4294967295"]);
+}
+
+// How lines begin of which a test makes the rest.
+const MERGE: &str = r#"{"do":"merge","target":1,"source":"#;
+
+const POST: &str = r#"{"do":"post","key":"k1","concept":2,"record":""#;
+
+fn joined(alloc: Global, start: &str, middle: &str, end: &str) -> Result<String, AllocError> {
+    let mut text = String::from_str(alloc, start)?;
+    text.push_str(middle)?;
+    text.push_str(end)?;
+    Ok(text)
+}
+
+fn repeated(alloc: Global, letter: char, count: usize) -> Result<String, AllocError> {
+    let mut text = String::new(alloc);
+    for _ in 0..count {
+        text.push(letter)?;
     }
-    for number in ["1", "4294967295"] {
-        assert_eq!(rt; number_fault(rt.alloc(), number), None, "at {number}");
-    }
+    Ok(text)
 }
 
 // The fault of a merge from this number.
 fn number_fault(alloc: Global, number: &str) -> Option<FormFault> {
-    let mut line = String::from_str(alloc, r#"{"do":"merge","target":1,"source":"#).ok()?;
-    line.push_str(number).ok()?;
-    line.push_str("}").ok()?;
+    let line = joined(alloc, MERGE, number, "}").ok()?;
     fault_of(alloc, line.as_bytes())
 }
 
 #[test]
 fn forms_in_order(rt: HostRuntime) {
-    for (line, fault) in [
+    let rows = [
         (
             r#"{"do":"scheme","tag":"abcdefghi","text":" Cats"}"#,
             FormFault::BadTag,
@@ -155,22 +173,14 @@ fn forms_in_order(rt: HostRuntime) {
             r#"{"do":"split","source":2,"tag":"en","text":"Cats","postings":[1,0]}"#,
             FormFault::BadNumber,
         ),
-    ] {
-        assert_eq!(rt;
-            fault_of(rt.alloc(), line.as_bytes()),
-            Some(fault),
-            "at {line}"
-        );
-    }
+    ];
+    expect_faults(&rt, rt.alloc(), &rows);
 }
 
 // A post whose record has this many bytes.
 fn record_fault(alloc: Global, bytes: usize) -> Result<Option<FormFault>, Fail> {
-    let mut line = String::from_str(alloc, r#"{"do":"post","key":"k1","concept":2,"record":""#)?;
-    for _ in 0..bytes {
-        line.push('r')?;
-    }
-    line.push_str(r#""}"#)?;
+    let record = repeated(alloc, 'r', bytes)?;
+    let line = joined(alloc, POST, record.as_str(), "\"}")?;
     Ok(fault_of(alloc, line.as_bytes()))
 }
 
@@ -183,15 +193,10 @@ fn records_by_length(rt: HostRuntime) -> Result<(), Fail> {
 
 // A merge whose source is so many arrays in one another.
 fn nested_fault(alloc: Global, arrays: usize) -> Result<Option<FormFault>, Fail> {
-    let mut line = String::from_str(alloc, r#"{"do":"merge","target":1,"source":"#)?;
-    for _ in 0..arrays {
-        line.push('[')?;
-    }
-    line.push('1')?;
-    for _ in 0..arrays {
-        line.push(']')?;
-    }
-    line.push('}')?;
+    let opened = repeated(alloc, '[', arrays)?;
+    let closed = repeated(alloc, ']', arrays)?;
+    let nested = joined(alloc, opened.as_str(), "1", closed.as_str())?;
+    let line = joined(alloc, MERGE, nested.as_str(), "}")?;
     Ok(fault_of(alloc, line.as_bytes()))
 }
 
@@ -355,10 +360,14 @@ static TOLD: [(&str, &str); 19] = [
     ),
 ];
 
-#[test]
-fn a_line_is_read_as_the_request_that_it_asks_for(rt: HostRuntime) -> Result<(), Fail> {
-    for (line, wanted) in &TOLD {
-        assert_eq!(rt; told(rt.alloc(), line)?.as_str(), *wanted, "{line}");
+fn expect_told(rt: &impl Abort, alloc: Global, rows: &[(&str, &str)]) -> Result<(), Fail> {
+    for (line, wanted) in rows {
+        assert_eq!(rt; told(alloc, line)?.as_str(), *wanted, "{line}");
     }
     Ok(())
+}
+
+#[test]
+fn a_line_is_read_as_the_request_that_it_asks_for(rt: HostRuntime) -> Result<(), Fail> {
+    expect_told(&rt, rt.alloc(), &TOLD)
 }

@@ -1,11 +1,18 @@
 //! The lines of answers.
+use std::process::Abort;
 use thes_base::fault::{Fault, FormFault, Refusal, Table};
 use thes_base::request::Answer;
 use thes_exchange::answer::{Reply, reply_line};
 
+fn expect_each(rt: &impl Abort, rows: &[(Reply, &str)]) {
+    for (reply, line) in rows {
+        assert_eq!(rt; reply_line(*reply).as_bytes(), line.as_bytes(), "at {line}");
+    }
+}
+
 #[test]
 fn lines(rt: HostRuntime) {
-    for (reply, line) in [
+    let rows = [
         (Reply::Answer(Answer::Number(1)), "{\"ok\":1}\n"),
         (Reply::Answer(Answer::Again(3)), "{\"again\":3}\n"),
         (Reply::Answer(Answer::Done), "{\"done\":true}\n"),
@@ -48,7 +55,6 @@ fn lines(rt: HostRuntime) {
             Reply::Fault(Fault::NewerStore),
             "{\"fault\":\"NewerStore\"}\n",
         ),
-    ] {
-        assert_eq!(rt; reply_line(reply).as_bytes(), line.as_bytes(), "at {line}");
-    }
+    ];
+    expect_each(&rt, &rows);
 }

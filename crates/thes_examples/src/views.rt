@@ -1,11 +1,23 @@
 //! The lines of views.
 use std::alloc::Global;
+use std::process::Abort;
 use std::test::Fail;
 use thes_base::data::{History, Label, LabelValue, LinkKind, Move, Moves, Totals, TypedKind};
 use thes_base::fault::Refusal;
 use thes_base::number::{MoveNo, PostNo, ResNo};
 use thes_base::text::{Key, Note, RecordName, Tag, Text};
 use thes_exchange::view::{ConceptView, PostingRows, View, view_line};
+
+// Compares the line of a view.
+fn expect(rt: &impl Abort, alloc: Global, view: &View, wanted: &str) -> Result<(), Fail> {
+    let line = view_line(alloc, view)?;
+    expect_line(rt, line.as_slice(), wanted);
+    Ok(())
+}
+
+fn expect_line(rt: &impl Abort, line: &[u8], wanted: &str) {
+    assert_eq!(rt; line, wanted.as_bytes());
+}
 
 fn res_no(number: u32) -> Result<ResNo, Fail> {
     Ok(ResNo::from_u32(number).ok_or("zero")?)
@@ -52,20 +64,14 @@ fn totals(rt: HostRuntime) -> Result<(), Fail> {
         withdrawn: 1,
         standing: 2,
     });
-    assert_eq!(rt;
-        view_line(rt.alloc(), &view)?.as_slice(),
-        b"{\"accepted\":3,\"standing\":2,\"withdrawn\":1}\n".as_slice()
-    );
+    expect(&rt, rt.alloc(), &view, "{\"accepted\":3,\"standing\":2,\"withdrawn\":1}\n")?;
     Ok(())
 }
 
 #[test]
 fn refusals(rt: HostRuntime) -> Result<(), Fail> {
     let view = View::No(Refusal::UnknownPosting);
-    assert_eq!(rt;
-        view_line(rt.alloc(), &view)?.as_slice(),
-        b"{\"no\":\"UnknownPosting\"}\n".as_slice()
-    );
+    expect(&rt, rt.alloc(), &view, "{\"no\":\"UnknownPosting\"}\n")?;
     Ok(())
 }
 
@@ -78,16 +84,10 @@ fn a_posting(rt: HostRuntime) -> Result<(), Fail> {
         source: res_no(2)?,
         target: res_no(3)?,
     })?;
-    assert_eq!(rt;
-        view_line(alloc, &View::Posting(&moved))?.as_slice(),
-        b"{\"first\":2,\"key\":\"k1\",\"moves\":[[1,2,3]],\"number\":1,\"place\":3,\"record\":\"r1\",\"withdrawn\":false}\n".as_slice()
-    );
+    expect(&rt, rt.alloc(), &View::Posting(&moved), "{\"first\":2,\"key\":\"k1\",\"moves\":[[1,2,3]],\"number\":1,\"place\":3,\"record\":\"r1\",\"withdrawn\":false}\n")?;
     let mut withdrawn = history(alloc, 7, "\"\\", "r/\u{e9}")?;
     withdrawn.withdrawn = true;
-    assert_eq!(rt;
-        view_line(alloc, &View::Posting(&withdrawn))?.as_slice(),
-        "{\"first\":2,\"key\":\"\\\"\\\\\",\"moves\":[],\"number\":7,\"place\":2,\"record\":\"r/\u{e9}\",\"withdrawn\":true}\n".as_bytes()
-    );
+    expect(&rt, rt.alloc(), &View::Posting(&withdrawn), "{\"first\":2,\"key\":\"\\\"\\\\\",\"moves\":[],\"number\":7,\"place\":2,\"record\":\"r/\u{e9}\",\"withdrawn\":true}\n")?;
     Ok(())
 }
 
@@ -97,19 +97,13 @@ fn postings(rt: HostRuntime) -> Result<(), Fail> {
     let none = View::Postings(PostingRows {
         rows: Vec::new(alloc),
     });
-    assert_eq!(rt;
-        view_line(alloc, &none)?.as_slice(),
-        b"{\"postings\":[]}\n".as_slice()
-    );
+    expect(&rt, rt.alloc(), &none, "{\"postings\":[]}\n")?;
     let first = history(alloc, 1, "k1", "r1")?;
     let second = history(alloc, 3, "k3", "r1")?;
     let both = View::Postings(PostingRows {
         rows: vec![in alloc; &first, &second]?,
     });
-    assert_eq!(rt;
-        view_line(alloc, &both)?.as_slice(),
-        b"{\"postings\":[[1,\"k1\",\"r1\"],[3,\"k3\",\"r1\"]]}\n".as_slice()
-    );
+    expect(&rt, rt.alloc(), &both, "{\"postings\":[[1,\"k1\",\"r1\"],[3,\"k3\",\"r1\"]]}\n")?;
     Ok(())
 }
 
@@ -146,10 +140,7 @@ fn a_concept(rt: HostRuntime) -> Result<(), Fail> {
     let pref = english(alloc, LabelValue::Pref(text_label(alloc, "Mammals")?))?;
     let alt = english(alloc, LabelValue::Alt(text_label(alloc, "Cats")?))?;
     let line = unlinked(alloc, &pref, &alt)?;
-    assert_eq!(rt;
-        line.as_slice(),
-        b"{\"alt\":[[\"en\",\"Cats\"]],\"broader\":[],\"collections\":[],\"hidden\":[],\"live\":true,\"mappings\":[],\"narrower\":[],\"number\":3,\"postings\":1,\"pref\":[[\"en\",\"Mammals\"]],\"related\":[],\"replaced\":null,\"scheme\":1,\"scope\":[],\"top\":true,\"typed\":[]}\n".as_slice()
-    );
+    expect_line(&rt, line.as_slice(), "{\"alt\":[[\"en\",\"Cats\"]],\"broader\":[],\"collections\":[],\"hidden\":[],\"live\":true,\"mappings\":[],\"narrower\":[],\"number\":3,\"postings\":1,\"pref\":[[\"en\",\"Mammals\"]],\"related\":[],\"replaced\":null,\"scheme\":1,\"scope\":[],\"top\":true,\"typed\":[]}\n");
     Ok(())
 }
 
@@ -207,9 +198,6 @@ fn a_full_concept(rt: HostRuntime) -> Result<(), Fail> {
     let hidden = english(alloc, LabelValue::Hidden(text_label(alloc, "Katz")?))?;
     let scope = english(alloc, LabelValue::Scope(Note::read(alloc, "Of any age.")?))?;
     let line = full(alloc, &pref, &hidden, &scope)?;
-    assert_eq!(rt;
-        line.as_slice(),
-        b"{\"alt\":[],\"broader\":[3,4],\"collections\":[5],\"hidden\":[[\"en\",\"Katz\"]],\"live\":false,\"mappings\":[[\"broad\",6],[\"relMatch\",7]],\"narrower\":[8],\"number\":2,\"postings\":0,\"pref\":[[\"en\",\"a \\\"b\\\\c\"]],\"related\":[9],\"replaced\":3,\"scheme\":1,\"scope\":[[\"en\",\"Of any age.\"]],\"top\":false,\"typed\":[[\"broaderGeneric\",4],[\"narrowerPartitive\",8]]}\n".as_slice()
-    );
+    expect_line(&rt, line.as_slice(), "{\"alt\":[],\"broader\":[3,4],\"collections\":[5],\"hidden\":[[\"en\",\"Katz\"]],\"live\":false,\"mappings\":[[\"broad\",6],[\"relMatch\",7]],\"narrower\":[8],\"number\":2,\"postings\":0,\"pref\":[[\"en\",\"a \\\"b\\\\c\"]],\"related\":[9],\"replaced\":3,\"scheme\":1,\"scope\":[[\"en\",\"Of any age.\"]],\"top\":false,\"typed\":[[\"broaderGeneric\",4],[\"narrowerPartitive\",8]]}\n");
     Ok(())
 }
