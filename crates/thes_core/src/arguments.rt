@@ -50,10 +50,10 @@ pub fn judge_forwarded(vocab: &Vocab, concept: ResNo, place: ResNo) -> Option<Re
     requires { place ≡ end_of concept (replacements vocab.now.resources concept) }
     ensures { unless_forwarded vocab.now.resources concept accepted result }
 {
-    let Some(resource) = vocab.resource(concept).copied() else {
+    let Some(named) = vocab.resource(concept).copied() else {
         return Some(Refusal::UnknownResource);
     };
-    if resource.kind != ResourceKind::Concept {
+    if named.kind != ResourceKind::Concept {
         return Some(Refusal::WrongKind);
     }
     if !vocab.is_live(place) {

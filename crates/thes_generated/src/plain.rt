@@ -149,6 +149,11 @@ impl Plain {
         at(self.items.as_slice(), number).is_some_and(|item| item.live)
     }
 
+    // What replaces a resource, or 0.
+    fn replacement(&self, number: u32) -> u32 {
+        at(self.items.as_slice(), number).map_or(0, |item| item.replaced)
+    }
+
     fn scheme_of(&self, number: u32) -> u32 {
         at(self.items.as_slice(), number).map_or(0, |item| item.scheme)
     }

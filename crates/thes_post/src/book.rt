@@ -11,8 +11,9 @@ ghost use Rattle.thes_post.specs.Known.{IsKnownAs};
 ghost use Rattle.thes_post.specs.Rising.{RisesFrom};
 ghost use Rattle.thes_post.specs.Standing.{StandsAt, ListsStanding};
 
-use crate::histories::{history_at, judge_moving, judge_standing, moves_of, place_of, push_moves_in};
+use crate::histories::{history_at, judge_moving, judge_standing, place_of, push_moves_in};
 use crate::rising::{difference, is_rising, joined, sorted};
+use crate::way::moves_of;
 use std::alloc::{AllocError, Global};
 use std::collections::BTreeMap;
 use std::marker::Model;

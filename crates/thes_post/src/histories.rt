@@ -1,8 +1,8 @@
 //! What is read and changed in a list of histories.
-ghost use Rattle.std.specs.Prelude.{◌≡◌, ◌≤◌, ◌+◌, ◌^◌, length, IfOk, OnOk, OnErr};
+ghost use Rattle.std.specs.Prelude.{◌≡◌, ◌≤◌, ◌+◌, ◌^◌, length, OnOk, OnErr};
 ghost use Rattle.std.specs.Option.{option_copied};
 ghost use Rattle.thes_base.specs.Resources.{numbered};
-ghost use Rattle.thes_base.specs.Postings.{place, moved_those, moves_along};
+ghost use Rattle.thes_base.specs.Postings.{place, moved_those};
 ghost use Rattle.thes_base.specs.Changes.{is_listed};
 ghost use Rattle.thes_base.specs.Rows.{accepted};
 ghost use Rattle.thes_base.specs.Refusals.{EachOnce, EachListed, unless_standing, unless_listed};
@@ -10,8 +10,8 @@ ghost use Rattle.thes_post.specs.Indexed.{AreNumberedFrom};
 ghost use Rattle.thes_post.specs.Moved.{unmoved_those};
 ghost use Rattle.thes_post.specs.Rising.{RisesFrom};
 
-use std::alloc::{AllocError, Global};
-use thes_base::data::{History, Move, Moves};
+use std::alloc::AllocError;
+use thes_base::data::{History, Move};
 use thes_base::fault::Refusal;
 use thes_base::number::{MoveNo, PostNo, ResNo};
 
@@ -30,31 +30,6 @@ pub fn place_of(history: &History) -> ResNo
         Some(step) => step.target,
         None => history.first,
     }
-}
-
-/// One move for each step of a way, with numbers from this one on.
-pub fn moves_of(
-    alloc: Global,
-    from: ResNo,
-    way: &[ResNo],
-    first: u64,
-) -> Result<Moves, AllocError>
-    requires least { 1 ≤ first }
-    requires room { first + length way.now ≤ 2 ^ 32 }
-    ensures { IfOk result (λ moves. moves ≡ moves_along first from way.now) }
-{
-    let mut moves = Moves::new(alloc);
-    let mut source = from;
-    for i in 0..way.len() {
-        let target = way[i];
-        moves.push(Move {
-            number: MoveNo::new((first + i as u64) as u32),
-            source,
-            target,
-        })?;
-        source = target;
-    }
-    Ok(moves)
 }
 
 /// Why a posting can't be withdrawn.

@@ -36,6 +36,9 @@ impl<'a> Stored<'a> {
         } else if let Some(number) = line.strip_prefix("! postings ") {
             self.limits.postings = number.parse().unwrap_or(0);
             Ok(())
+        } else if let Some(number) = line.strip_prefix("! moves ") {
+            self.limits.moves = number.parse().unwrap_or(0);
+            Ok(())
         } else if line.is_empty() || line.starts_with('#') {
             Ok(())
         } else {

@@ -45,6 +45,27 @@ impl Plain {
         }
     }
 
+    // What a post at the concept is refused for.
+    fn first_refused(&self, number: u32) -> Option<&'static str> {
+        match self.kind_of(number) {
+            None => Some(UNKNOWN),
+            Some(ResourceKind::Concept) if self.is_live(self.first_live(number)) => None,
+            Some(ResourceKind::Concept) => Some(NOT_LIVE),
+            Some(_) => Some(WRONG_KIND),
+        }
+    }
+
+    // The first live concept of a concept, its replacement, the replacement of that and so on; or 0.
+    fn first_live(&self, concept: u32) -> u32 {
+        let mut place = concept;
+        for _ in 1..=self.resources() {
+            if !self.is_live(place) {
+                place = self.replacement(place);
+            }
+        }
+        place
+    }
+
     // What refuses a number as an owner of labels.
     fn owner_refused(&self, number: u32) -> Option<&'static str> {
         match self.kind_of(number) {
@@ -238,7 +259,7 @@ impl Plain {
                 refused => refused,
             },
             Order::Post(key, rec, concept) => match self.known(*key, *rec, *concept) {
-                None => self.concept_refused(*concept),
+                None => self.first_refused(*concept),
                 known => return known,
             },
             Order::Withdraw(number) => match at(self.postings.as_slice(), *number) {
@@ -384,6 +405,7 @@ impl Plain {
         Ok(Reply::Parted(made, moved))
     }
 
+    // Adds a posting, and moves it from concept to replacement until it stands at a live one.
     fn post(&mut self, key: u32, rec: u32, first: u32) -> Result<Reply, AllocError> {
         self.postings.push(Posting {
             key,
@@ -391,7 +413,20 @@ impl Plain {
             first,
             withdrawn: false,
         })?;
-        Ok(Reply::Number(self.accepted()))
+        let posting = self.accepted();
+        let mut source = first;
+        for _ in 1..=self.resources() {
+            if !self.is_live(source) {
+                let target = self.replacement(source);
+                self.steps.push(Step {
+                    posting,
+                    source,
+                    target,
+                })?;
+                source = target;
+            }
+        }
+        Ok(Reply::Number(posting))
     }
 
     fn withdraw(&mut self, number: u32) {
