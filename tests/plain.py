@@ -62,6 +62,11 @@ class Plain:
         """Where a posting stands: at the target of its last move, or else at its first concept."""
         return [at(self.postings, number)["first"], *(target for posting, _, target in self.moves if posting == number)][-1]
 
+    def replacements(self, number):
+        """What a resource was replaced by, and what that was, up to the first that nothing replaces."""
+        replaced = (at(self.resources, number) or {}).get("replaced")
+        return [replaced, *self.replacements(replaced)] if replaced else []
+
     def standing_at(self, concept):
         """The postings that are not withdrawn and stand at a concept."""
         return [n for n, it in enumerate(self.postings, 1) if not it["withdrawn"] and self.place(n) == concept]
@@ -151,7 +156,7 @@ class Plain:
         if word == "split":
             return self.refuses_concept(it["source"]) or self.refuses_list(it["source"], it["postings"])
         if word == "post":
-            return self.refuses_concept(it["concept"])
+            return self.refuses_concept([it["concept"], *self.replacements(it["concept"])][-1])
         if word == "withdraw":
             posting = at(self.postings, it["posting"])
             return "UnknownPosting" if posting is None else "Withdrawn" if posting["withdrawn"] else None
@@ -240,6 +245,8 @@ class Plain:
             return {"moved": moved}
         elif word == "post":
             self.postings.append({"key": it["key"], "record": it["record"], "first": it["concept"], "withdrawn": False})
+            way = [it["concept"], *self.replacements(it["concept"])]
+            self.moves += [(len(self.postings), source, target) for source, target in zip(way, way[1:])]
             return {"ok": len(self.postings)}
         elif word == "withdraw":
             self.postings[it["posting"] - 1]["withdrawn"] = True

@@ -1,5 +1,5 @@
 -- Sets that change element by element.
-use Rattle.std.proofs.Common.{◌≡◌, ◌⊎◌, List, [], ◌∷◌, ◌++◌, refl, sym, ap, ◌∙◌, subst, inl, inr, Bool, true, false, not, ◌&&◌, cond, append_assoc}
+use Rattle.std.proofs.Common.{◌≡◌, ◌⊎◌, List, [], ◌∷◌, ◌++◌, map, refl, sym, ap, ◌∙◌, subst, inl, inr, Bool, true, false, not, ◌&&◌, cond, append_assoc}
 use Rattle.std.proofs.lemmas.Bool.{cases_Bool, or_cases, or_left, or_right, not-true, not_from_false}
 use Rattle.std.proofs.lemmas.List.{append-nil}
 use Rattle.std.specs.Prelude.{filter}
@@ -60,6 +60,16 @@ append_left x (y ∷ xs) ys (inr h) = inr (append_left x xs ys h)
 pub append_right : {A : Type 0} (x : A) (xs ys : List A) → IsIn x ys → IsIn x (xs ++ ys)
 append_right x [] ys h = h
 append_right x (y ∷ xs) ys h = inr (append_right x xs ys h)
+
+pub in_map : {A B : Type 0} (f : A → B) (y : B) (xs : List A) → IsIn y (map f xs) → (x : A) × IsIn x xs × (y ≡ f x)
+in_map f y [] h = absurd h
+in_map f y (x ∷ xs) (inl e) = (x, inl refl, e)
+in_map f y (x ∷ xs) (inr h) = let later = in_map f y xs h in (later.0, inr later.1, later.2)
+
+pub map_in : {A B : Type 0} (f : A → B) (x : A) (xs : List A) → IsIn x xs → IsIn (f x) (map f xs)
+map_in f x [] h = absurd h
+map_in f x (y ∷ xs) (inl e) = inl (ap f e)
+map_in f x (y ∷ xs) (inr h) = inr (map_in f x xs h)
 
 once_filter : {A : Type 0} (test : A → Bool) (xs : List A) → Once xs → Once (filter test xs)
 once_filter test [] once = tt
