@@ -1,5 +1,6 @@
-//! The core as a library: requests in a list.
-use crate::run::{Store, command};
+//! The core as a library: requests in a list. Each is decided by `Core::decide`, and an accepted one applied by
+//! `Core::apply`, in a step of `Core::step`.
+use crate::run::{Store, push_command};
 use Answer::{Again, Done, No, Number};
 use std::alloc::Global;
 use std::process::Abort;
@@ -34,7 +35,7 @@ fn expect_run(rt: &impl Abort, alloc: Global, steps: &[(&str, Answer)]) -> Resul
     let mut commands: Vec<Command> = Vec::new(alloc);
     let mut wanted: Vec<Answer> = Vec::new(alloc);
     for (line, answer) in steps {
-        commands.push(command(alloc, line)?)?;
+        push_command(alloc, &mut commands, line)?;
         wanted.push(*answer)?;
     }
     let mut store = Store::new(alloc)?;
