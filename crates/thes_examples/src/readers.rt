@@ -7,8 +7,8 @@ use std::test::Fail;
 use thes_base::data::{Label, LabelKind, Link, LinkKind};
 use thes_base::number::{PostNo, ResNo};
 use thes_base::text::{Iri, Tag, Text};
-use thes_core::reading::Sizes;
 use thes_core::Core;
+use thes_core::reading::Sizes;
 
 // A store that running out of memory has closed has no core to look into.
 impl Store {

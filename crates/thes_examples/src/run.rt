@@ -110,14 +110,18 @@ impl Store {
     }
 }
 
-/// Fills a new store by the start and further requests, of which none is refused.
-pub fn fill(alloc: Global, store: &mut Store, requests: &str) -> Result<(), Fail> {
-    for script in [START, requests] {
-        if store.answer(alloc, script, SOUND)?.ended != DONE {
-            return Err(Fail::new("a request was refused"));
-        }
+// Runs a script of which no request is refused.
+fn perform(alloc: Global, store: &mut Store, script: &str) -> Result<(), Fail> {
+    if store.answer(alloc, script, SOUND)?.ended != DONE {
+        return Err(Fail::new("a request was refused"));
     }
     Ok(())
+}
+
+/// Fills a new store by the start and further requests, of which none is refused.
+pub fn fill(alloc: Global, store: &mut Store, requests: &str) -> Result<(), Fail> {
+    perform(alloc, store, START)?;
+    perform(alloc, store, requests)
 }
 
 /// Adds the command that a line asks for to a list.

@@ -46,12 +46,7 @@ fn outsides(rt: &impl Abort, desk: &mut Desk, rows: &[(&str, Answer)]) -> Result
 // A label by its owner, kind, language and text, and an answer.
 type Row<'a> = (u32, LabelKind, &'a str, &'a str, Answer);
 
-fn change_each(
-    rt: &impl Abort,
-    desk: &mut Desk,
-    change: Change,
-    rows: &[Row],
-) -> Result<(), Fail> {
+fn change_each(rt: &impl Abort, desk: &mut Desk, change: Change, rows: &[Row]) -> Result<(), Fail> {
     for (owner, kind, tag, text, wanted) in rows {
         assert_eq!(rt;
             desk.change_label(change, *owner, *kind, tag, text)?,
