@@ -1,5 +1,5 @@
-"""The plain program: it does what the rules say in words, over plain lists, with no index and no cleverness. A request is judged by
-making the whole next state and looking at all of it. Requests and answers are values as they are written as JSON."""
+"""The plain program: it does what the rules say in words, over plain lists, with no index and no cleverness. A request
+is judged by making the whole next state and looking at all of it. Requests and answers are values written as JSON."""
 from collections import Counter
 
 BASE = "https://thesaurus.example/id/"
@@ -60,7 +60,8 @@ class Plain:
 
     def place(self, number):
         """Where a posting stands: at the target of its last move, or else at its first concept."""
-        return [at(self.postings, number)["first"], *(target for posting, _, target in self.moves if posting == number)][-1]
+        targets = [target for posting, _, target in self.moves if posting == number]
+        return targets[-1] if targets else at(self.postings, number)["first"]
 
     def replacements(self, number):
         """What a resource was replaced by, and what that was, up to the first that nothing replaces."""
@@ -141,10 +142,12 @@ class Plain:
             return "WrongKind" if it["iri"].startswith(BASE) else None
         if word in ("addLabel", "dropLabel"):
             label = (it["owner"], it["kind"], it["tag"], it["text"])
-            rest = self.refuses_drop(it["owner"], label) if word == "dropLabel" else "LabelThere" if label in self.labels else None
+            is_there = "LabelThere" if label in self.labels else None
+            rest = self.refuses_drop(it["owner"], label) if word == "dropLabel" else is_there
             return self.refuses_owner(it["owner"]) or rest
         if word == "relabel":
-            return self.refuses_owner(it["owner"]) or (None if self.preferred(it["owner"], it["tag"]) else "NoSuchLabel")
+            rest = None if self.preferred(it["owner"], it["tag"]) else "NoSuchLabel"
+            return self.refuses_owner(it["owner"]) or rest
         if word in ("link", "unlink"):
             is_held = self.norm(it["kind"], it["a"], it["b"]) in self.links
             rest = ("LinkThere" if is_held else None) if word == "link" else None if is_held else "NoSuchLink"
@@ -258,7 +261,8 @@ class Plain:
         """The first of the conditions on labels that is broken, or None."""
         names = [(owner, tag, text) for owner, kind, tag, text in self.labels if kind != "scope"]
         preferred = [(owner, tag, text) for owner, kind, tag, text in self.labels if kind == "pref"]
-        live = [(self.scheme(it[0]), *it[1:]) for it in preferred if self.kind(it[0]) == "concept" and self.is_live(it[0])]
+        is_live = lambda owner: self.kind(owner) == "concept" and self.is_live(owner)
+        live = [(self.scheme(owner), tag, text) for owner, tag, text in preferred if is_live(owner)]
         if stands_twice(names):
             return "S13"
         if stands_twice((owner, tag) for owner, tag, _ in preferred):
@@ -294,7 +298,11 @@ class Plain:
             return self, {"no": refusal}
         after = self.copy()
         answer = after.change(word, request)
-        broken = after.broken_by_labels() if word in CHECKED_LABELS else after.broken_by_links() if word in CHECKED_LINKS else None
+        broken = None
+        if word in CHECKED_LABELS:
+            broken = after.broken_by_labels()
+        if word in CHECKED_LINKS:
+            broken = after.broken_by_links()
         if not broken and after.is_too_much(self):
             broken = "TooMany"
         return (self, {"no": broken}) if broken else (after, answer)
@@ -308,7 +316,8 @@ class Plain:
             return {"no": "WrongKind" if self.kind(number) else "UnknownResource"}
         if word == "posting" and at(self.postings, number) is None:
             return {"no": "UnknownPosting"}
-        return {"concept": self.concept, "postings": self.standing, "posting": self.posting, "totals": self.totals}[word](number)
+        views = {"concept": self.concept, "postings": self.standing, "posting": self.posting, "totals": self.totals}
+        return views[word](number)
 
     def totals(self, _):
         withdrawn = sum(it["withdrawn"] for it in self.postings)
@@ -324,9 +333,9 @@ class Plain:
 
     def concept(self, number):
         held = at(self.resources, number)
-        ends = lambda kinds, own, other: {link[other] for link in self.links if link[0] in kinds and link[own] == number}
+        ends = lambda kinds, own, other: {it[other] for it in self.links if it[0] in kinds and it[own] == number}
         both = lambda kind, opposite: sorted(ends((kind,), 1, 2) | ends((opposite,), 2, 1))
-        labels = lambda kind: sorted([tag, text] for owner, held, tag, text in self.labels if (owner, held) == (number, kind))
+        labels = lambda kind: sorted(list(it[2:]) for it in self.labels if it[:2] == (number, kind))
         typed = [[kind, n] for kind in BROADER[1:] for n in ends((kind,), 1, 2)]
         typed += [[kind.replace("broader", "narrower"), n] for kind in BROADER[1:] for n in ends((kind,), 2, 1)]
         broader = sorted(ends(BROADER, 1, 2))

@@ -2,7 +2,7 @@
 use std::alloc::Global;
 use std::io;
 use std::io::{ErrorKind, Read, Write};
-use std::test::Fail;
+use std::process::Abort;
 use thes_base::pipe::{Budget, Pipe, Stop};
 use thes_devices::{Filling, Halting};
 
@@ -46,13 +46,20 @@ static READINGS: [Reading; 3] = [
     (b"abc", 0, Err(Stop::Failed), [0; 4], Noted::Failed),
 ];
 
-#[test]
-fn what_a_reader_does_is_noted(rt: HostRuntime) -> Result<(), Fail> {
-    for (bytes, calls, result, buffer, noted) in READINGS {
-        let read = read_from(&mut Budget::new(), Halting { bytes, calls });
-        assert_eq!(rt; read, (result, buffer, noted), "{bytes:?} {calls}");
+fn expect_readings(rt: &impl Abort, rows: &[Reading]) {
+    for (bytes, calls, result, buffer, noted) in rows {
+        let device = Halting {
+            bytes,
+            calls: *calls,
+        };
+        let read = read_from(&mut Budget::new(), device);
+        assert_eq!(rt; read, (*result, *buffer, *noted), "{bytes:?} {calls}");
     }
-    Ok(())
+}
+
+#[test]
+fn what_a_reader_does_is_noted(rt: HostRuntime) {
+    expect_readings(&rt, &READINGS);
 }
 
 // Writes texts to a device: the last result, and what is noted.
@@ -92,18 +99,18 @@ static WRITINGS: [Writing; 2] = [
     (&[b"abc"], 4, b"ab", Err(Stop::Failed), Noted::Failed),
 ];
 
-#[test]
-fn what_a_writer_does_is_noted(rt: HostRuntime) -> Result<(), Fail> {
-    for (texts, calls, written, result, noted) in WRITINGS {
-        let mut pipe = filling(rt.alloc(), calls);
-        assert_eq!(rt;
-            write_to(&mut Budget::new(), &mut pipe, texts),
-            (result, noted),
-            "{texts:?}"
-        );
-        assert_eq!(rt; pipe.into_device().bytes.as_slice(), written);
+fn expect_writings(rt: &impl Abort, alloc: Global, rows: &[Writing]) {
+    for (texts, calls, written, result, noted) in rows {
+        let mut pipe = filling(alloc, *calls);
+        let wrote = write_to(&mut Budget::new(), &mut pipe, texts);
+        assert_eq!(rt; wrote, (*result, *noted), "{texts:?}");
+        assert_eq!(rt; pipe.into_device().bytes.as_slice(), *written);
     }
-    Ok(())
+}
+
+#[test]
+fn what_a_writer_does_is_noted(rt: HostRuntime) {
+    expect_writings(&rt, rt.alloc(), &WRITINGS);
 }
 
 // A reader that is interrupted at each call.
@@ -118,7 +125,7 @@ impl Read for Interrupted {
 
 // A reader that is interrupted for ever uses the budget up, and a writer then has none left.
 #[test]
-fn a_budget_used_up_is_noted(rt: HostRuntime) -> Result<(), Fail> {
+fn a_budget_used_up_is_noted(rt: HostRuntime) {
     let mut budget = Budget::new();
     let read = read_from(&mut budget, Interrupted);
     assert_eq!(rt; read, (Err(Stop::TooLong), [0; 4], Noted::Denied));
@@ -126,5 +133,4 @@ fn a_budget_used_up_is_noted(rt: HostRuntime) -> Result<(), Fail> {
     let written = write_to(&mut budget, &mut pipe, &[b"a"]);
     assert_eq!(rt; written, (Err(Stop::TooLong), Noted::Denied));
     assert!(rt; pipe.into_device().bytes.is_empty());
-    Ok(())
 }

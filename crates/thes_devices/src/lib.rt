@@ -1,5 +1,6 @@
 //! Readers and writers for tests: they give or take few bytes a call, are interrupted, and fail.
 #![tactic(auto)]
+
 ghost use Rattle.std.specs.Prelude.{Some};
 
 use std::io;

@@ -1,5 +1,6 @@
-//! The core as a library: requests in a list.
-use crate::run::{Store, command};
+//! The core as a library: requests in a list. Each is decided by `Core::decide`, and an accepted one applied by
+//! `Core::apply`, in a step of `Core::step`.
+use crate::run::{Store, push_command};
 use Answer::{Again, Done, No, Number};
 use std::alloc::Global;
 use std::process::Abort;
@@ -11,22 +12,46 @@ use thes_core::{Answer, Command};
 // request is answered.
 static STEPS: [(&str, Answer); 15] = [
     (r#"{"do":"scheme","tag":"en","text":"Animals"}"#, Number(1)),
-    (r#"{"do":"concept","scheme":1,"tag":"en","text":"Cats"}"#, Number(2)),
-    (r#"{"do":"concept","scheme":1,"tag":"en","text":"Mammals"}"#, Number(3)),
-    (r#"{"do":"concept","scheme":1,"tag":"en","text":"Pets"}"#, Number(4)),
+    (
+        r#"{"do":"concept","scheme":1,"tag":"en","text":"Cats"}"#,
+        Number(2),
+    ),
+    (
+        r#"{"do":"concept","scheme":1,"tag":"en","text":"Mammals"}"#,
+        Number(3),
+    ),
+    (
+        r#"{"do":"concept","scheme":1,"tag":"en","text":"Pets"}"#,
+        Number(4),
+    ),
     (
         r#"{"do":"collection","scheme":1,"tag":"en","text":"House animals"}"#,
         Number(5),
     ),
-    (r#"{"do":"outside","iri":"http://example.org/x"}"#, Number(6)),
+    (
+        r#"{"do":"outside","iri":"http://example.org/x"}"#,
+        Number(6),
+    ),
     (r#"{"do":"link","kind":"broader","a":2,"b":3}"#, Done),
     (r#"{"do":"link","kind":"related","a":4,"b":2}"#, Done),
     (r#"{"do":"link","kind":"member","a":5,"b":2}"#, Done),
     (r#"{"do":"link","kind":"close","a":2,"b":6}"#, Done),
-    (r#"{"do":"link","kind":"broader","a":3,"b":2}"#, No(Refusal::Cycle)),
-    (r#"{"do":"post","key":"k1","record":"r1","concept":2}"#, Number(1)),
-    (r#"{"do":"post","key":"k2","record":"r1","concept":2}"#, Number(2)),
-    (r#"{"do":"post","key":"k2","record":"r1","concept":2}"#, Again(2)),
+    (
+        r#"{"do":"link","kind":"broader","a":3,"b":2}"#,
+        No(Refusal::Cycle),
+    ),
+    (
+        r#"{"do":"post","key":"k1","record":"r1","concept":2}"#,
+        Number(1),
+    ),
+    (
+        r#"{"do":"post","key":"k2","record":"r1","concept":2}"#,
+        Number(2),
+    ),
+    (
+        r#"{"do":"post","key":"k2","record":"r1","concept":2}"#,
+        Again(2),
+    ),
     (r#"{"do":"withdraw","posting":2}"#, Done),
 ];
 
@@ -34,7 +59,7 @@ fn expect_run(rt: &impl Abort, alloc: Global, steps: &[(&str, Answer)]) -> Resul
     let mut commands: Vec<Command> = Vec::new(alloc);
     let mut wanted: Vec<Answer> = Vec::new(alloc);
     for (line, answer) in steps {
-        commands.push(command(alloc, line)?)?;
+        push_command(alloc, &mut commands, line)?;
         wanted.push(*answer)?;
     }
     let mut store = Store::new(alloc)?;

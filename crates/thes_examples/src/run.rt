@@ -110,21 +110,24 @@ impl Store {
     }
 }
 
-/// A store after the start and further requests, of which none is refused.
-pub fn filled(alloc: Global, requests: &str) -> Result<Store, Fail> {
-    let mut store = Store::new(alloc)?;
-    for script in [START, requests] {
-        if store.answer(alloc, script, SOUND)?.ended != DONE {
-            return Err(Fail::new("a request was refused"));
-        }
+// Runs a script of which no request is refused.
+fn perform(alloc: Global, store: &mut Store, script: &str) -> Result<(), Fail> {
+    if store.answer(alloc, script, SOUND)?.ended != DONE {
+        return Err(Fail::new("a request was refused"));
     }
-    Ok(store)
+    Ok(())
 }
 
-/// The command that a line asks for.
-pub fn command(alloc: Global, line: &str) -> Result<Command, Fail> {
+/// Fills a new store by the start and further requests, of which none is refused.
+pub fn fill(alloc: Global, store: &mut Store, requests: &str) -> Result<(), Fail> {
+    perform(alloc, store, START)?;
+    perform(alloc, store, requests)
+}
+
+/// Adds the command that a line asks for to a list.
+pub fn push_command(alloc: Global, commands: &mut Vec<Command>, line: &str) -> Result<(), Fail> {
     match read_request(alloc, line.as_bytes())? {
-        Request::Do(command) => Ok(command),
+        Request::Do(command) => Ok(commands.push(command)?),
         Request::Get(_) => Err(Fail::new("a query is no command")),
     }
 }

@@ -167,8 +167,7 @@ fn expect_closed(rt: &impl Abort, alloc: Global, input: &[u8], text: &[u8]) {
     assert_eq!(rt; device.bytes.as_slice(), text);
 }
 
-const CLOSED: &[u8] =
-    b"{\"ok\":1}\n{\"bad\":\"NotJson\"}\n{}\n{\"fault\":\"OutOfMemory\"}\n";
+const CLOSED: &[u8] = b"{\"ok\":1}\n{\"bad\":\"NotJson\"}\n{}\n{\"fault\":\"OutOfMemory\"}\n";
 
 #[test]
 fn a_desk_that_closes_ends_the_script(rt: HostRuntime) {

@@ -64,7 +64,12 @@ fn totals(rt: HostRuntime) -> Result<(), Fail> {
         withdrawn: 1,
         standing: 2,
     });
-    expect(&rt, rt.alloc(), &view, "{\"accepted\":3,\"standing\":2,\"withdrawn\":1}\n")?;
+    expect(
+        &rt,
+        rt.alloc(),
+        &view,
+        "{\"accepted\":3,\"standing\":2,\"withdrawn\":1}\n",
+    )?;
     Ok(())
 }
 
@@ -84,10 +89,20 @@ fn a_posting(rt: HostRuntime) -> Result<(), Fail> {
         source: res_no(2)?,
         target: res_no(3)?,
     })?;
-    expect(&rt, rt.alloc(), &View::Posting(&moved), "{\"first\":2,\"key\":\"k1\",\"moves\":[[1,2,3]],\"number\":1,\"place\":3,\"record\":\"r1\",\"withdrawn\":false}\n")?;
+    expect(
+        &rt,
+        rt.alloc(),
+        &View::Posting(&moved),
+        "{\"first\":2,\"key\":\"k1\",\"moves\":[[1,2,3]],\"number\":1,\"place\":3,\"record\":\"r1\",\"withdrawn\":false}\n",
+    )?;
     let mut withdrawn = history(alloc, 7, "\"\\", "r/\u{e9}")?;
     withdrawn.withdrawn = true;
-    expect(&rt, rt.alloc(), &View::Posting(&withdrawn), "{\"first\":2,\"key\":\"\\\"\\\\\",\"moves\":[],\"number\":7,\"place\":2,\"record\":\"r/\u{e9}\",\"withdrawn\":true}\n")?;
+    expect(
+        &rt,
+        rt.alloc(),
+        &View::Posting(&withdrawn),
+        "{\"first\":2,\"key\":\"\\\"\\\\\",\"moves\":[],\"number\":7,\"place\":2,\"record\":\"r/\u{e9}\",\"withdrawn\":true}\n",
+    )?;
     Ok(())
 }
 
@@ -103,7 +118,12 @@ fn postings(rt: HostRuntime) -> Result<(), Fail> {
     let both = View::Postings(PostingRows {
         rows: vec![in alloc; &first, &second]?,
     });
-    expect(&rt, rt.alloc(), &both, "{\"postings\":[[1,\"k1\",\"r1\"],[3,\"k3\",\"r1\"]]}\n")?;
+    expect(
+        &rt,
+        rt.alloc(),
+        &both,
+        "{\"postings\":[[1,\"k1\",\"r1\"],[3,\"k3\",\"r1\"]]}\n",
+    )?;
     Ok(())
 }
 
@@ -140,7 +160,11 @@ fn a_concept(rt: HostRuntime) -> Result<(), Fail> {
     let pref = english(alloc, LabelValue::Pref(text_label(alloc, "Mammals")?))?;
     let alt = english(alloc, LabelValue::Alt(text_label(alloc, "Cats")?))?;
     let line = unlinked(alloc, &pref, &alt)?;
-    expect_line(&rt, line.as_slice(), "{\"alt\":[[\"en\",\"Cats\"]],\"broader\":[],\"collections\":[],\"hidden\":[],\"live\":true,\"mappings\":[],\"narrower\":[],\"number\":3,\"postings\":1,\"pref\":[[\"en\",\"Mammals\"]],\"related\":[],\"replaced\":null,\"scheme\":1,\"scope\":[],\"top\":true,\"typed\":[]}\n");
+    expect_line(
+        &rt,
+        line.as_slice(),
+        "{\"alt\":[[\"en\",\"Cats\"]],\"broader\":[],\"collections\":[],\"hidden\":[],\"live\":true,\"mappings\":[],\"narrower\":[],\"number\":3,\"postings\":1,\"pref\":[[\"en\",\"Mammals\"]],\"related\":[],\"replaced\":null,\"scheme\":1,\"scope\":[],\"top\":true,\"typed\":[]}\n",
+    );
     Ok(())
 }
 
@@ -198,6 +222,10 @@ fn a_full_concept(rt: HostRuntime) -> Result<(), Fail> {
     let hidden = english(alloc, LabelValue::Hidden(text_label(alloc, "Katz")?))?;
     let scope = english(alloc, LabelValue::Scope(Note::read(alloc, "Of any age.")?))?;
     let line = full(alloc, &pref, &hidden, &scope)?;
-    expect_line(&rt, line.as_slice(), "{\"alt\":[],\"broader\":[3,4],\"collections\":[5],\"hidden\":[[\"en\",\"Katz\"]],\"live\":false,\"mappings\":[[\"broad\",6],[\"relMatch\",7]],\"narrower\":[8],\"number\":2,\"postings\":0,\"pref\":[[\"en\",\"a \\\"b\\\\c\"]],\"related\":[9],\"replaced\":3,\"scheme\":1,\"scope\":[[\"en\",\"Of any age.\"]],\"top\":false,\"typed\":[[\"broaderGeneric\",4],[\"narrowerPartitive\",8]]}\n");
+    expect_line(
+        &rt,
+        line.as_slice(),
+        "{\"alt\":[],\"broader\":[3,4],\"collections\":[5],\"hidden\":[[\"en\",\"Katz\"]],\"live\":false,\"mappings\":[[\"broad\",6],[\"relMatch\",7]],\"narrower\":[8],\"number\":2,\"postings\":0,\"pref\":[[\"en\",\"a \\\"b\\\\c\"]],\"related\":[9],\"replaced\":3,\"scheme\":1,\"scope\":[[\"en\",\"Of any age.\"]],\"top\":false,\"typed\":[[\"broaderGeneric\",4],[\"narrowerPartitive\",8]]}\n",
+    );
     Ok(())
 }
