@@ -295,7 +295,8 @@ fn query_told(alloc: Global, query: Query) -> Result<String, AllocError> {
 
 // What a line asks for, in short.
 fn told(alloc: Global, line: &str) -> Result<String, Fail> {
-    Ok(match read_request(&mut Memory::new(alloc), line.as_bytes())? {
+    let mut memory = Memory::new(alloc);
+    Ok(match read_request(&mut memory, line.as_bytes())? {
         Request::Do(command) => command_told(alloc, &command)?,
         Request::Get(query) => query_told(alloc, query)?,
     })

@@ -67,12 +67,7 @@ fn is_skipped(line: &[u8], found: Found) -> bool
 }
 
 // What a line that is not blank is answered with. One that there was no memory for is not performed.
-fn outcome_for<D: Desk>(
-    memory: &mut Memory,
-    desk: &mut D,
-    line: &[u8],
-    found: Found,
-) -> Outcome
+fn outcome_for<D: Desk>(memory: &mut Memory, desk: &mut D, line: &[u8], found: Found) -> Outcome
     requires { D.is_open desk.old ≡ true }
     ensures held { found ≡ Found.Line →
         Serves D.performs D.shows desk.old line.now result desk.new }

@@ -111,11 +111,9 @@ impl<'a> Value<'a> {
     }
 }
 
-fn member<'v, 'a>(
-    members: &'v BTreeMap<&'a str, Value<'a>>,
-    name: &str,
-) -> Option<&'v Value<'a>>
-    ensures { option_map (λ v. view v.now) result ≡ get_member name.now (members_view members.now.entries) }
+fn member<'v, 'a>(members: &'v BTreeMap<&'a str, Value<'a>>, name: &str) -> Option<&'v Value<'a>>
+    ensures { option_map (λ v. view v.now) result
+        ≡ get_member name.now (members_view members.now.entries) }
 {
     members.get(name)
 }
@@ -123,11 +121,7 @@ fn member<'v, 'a>(
 // The next value of the reader. Arrays and objects may nest so deep.
 #[cycle(read)]
 #[inline(always)]
-fn read<'a>(
-    alloc: Global,
-    reader: &mut Reader<'a>,
-    depth: usize,
-) -> Result<Value<'a>, ReadStop>
+fn read<'a>(alloc: Global, reader: &mut Reader<'a>, depth: usize) -> Result<Value<'a>, ReadStop>
     ensures ok { IfOk result
         (λ v. converted of_json (value depth reader.old) ≡ Some (view v, reader.new)) }
     ensures shorter { OnOk result (length reader.new < length reader.old) }
