@@ -16,7 +16,7 @@ use Rattle.thes_base.specs.declared.request.Command.TheVariants as request
 use Rattle.thes_base.specs.Resources.{numbered, scheme_of, replacements, is_outside, CanOwn}
 use Rattle.thes_base.specs.Labels.{Label, Labels, label_cmp, preferred_in, HasLabel}
 use Rattle.thes_base.specs.Links.{Links, norm, without_node, contracted, HeldIn}
-use Rattle.thes_base.specs.Postings.{place, stands_at, move_count, withdraw}
+use Rattle.thes_base.specs.Postings.{stands_at, move_count, withdraw}
 use Rattle.thes_base.specs.State.{State}
 use Rattle.thes_base.specs.Legal.{Legal}
 use Rattle.thes_base.specs.Refusals.{Setting, IsOfKey}
