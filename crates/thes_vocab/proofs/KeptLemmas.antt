@@ -24,13 +24,14 @@ use Rattle.thes_base.specs.Machine.{owned}
 use Rattle.thes_base.specs.Rows.{accepted}
 use Rattle.thes_base.specs.Refusals.{unless_scheme, unless_unique, unless_label, unless_dropped, unless_relabelled}
 use Rattle.thes_base.proofs.RowLemmas.{passed_if, passed_unless}
-use Rattle.thes_base.proofs.LabelSets.{inserted_cases, inserted_kept, inserted_new}
-use Rattle.thes_base.proofs.LabelsKept.{labels_made, labels_push, labels_added, labels_dropped, labels_renamed, labels_dead, removed_cases, outside_owns_none}
+use Rattle.thes_base.proofs.LabelSets.{inserted_cases, inserted_kept, inserted_new, removed_cases}
+use Rattle.thes_base.proofs.Renamed.{renamed_cases, renamed_fresh, renamed_old}
+use Rattle.thes_base.proofs.LabelsKept.{labels_made, labels_push, labels_added, labels_dropped, labels_renamed, labels_dead, outside_owns_none}
 use Rattle.thes_base.proofs.ResourcesKept.{resources_push, resources_push_outside, resources_dead, outside_fit}
 use Rattle.thes_base.proofs.Uniqueness.{made_unique, taken_breaks, live_before}
 use Rattle.thes_base.proofs.NumberedLemmas.{numbered_bound}
 use Rattle.thes_base.proofs.ResourceLemmas.{same_or_not, one_resource, concept_of_live, live_of_live}
-use Rattle.thes_base.proofs.MergedLabels.{labels_merged}
+use Rattle.thes_base.proofs.MergedLabels.{labels_merged, preferred_before}
 use Rattle.thes_base.specs.Listing.{IsListing}
 use Rattle.std.proofs.lemmas.Option.{same_Some}
 use Rattle.thes_vocab.specs.declared.names.Names.{Names}
@@ -45,9 +46,8 @@ use Rattle.thes_vocab.specs.Requests.{IsNamed, IsFree}
 use Rattle.thes_vocab.specs.Kept.{IsKept}
 use Rattle.thes_vocab.proofs.NameLemmas.{same_or_not as same_key}
 use Rattle.thes_vocab.proofs.ListedLemmas.{scheme_at, concept_cases, listed_made, listed_dead}
-use Rattle.thes_vocab.proofs.TakenLemmas.{preferred_stays}
 use Rattle.thes_vocab.proofs.TableLemmas.{put_back}
-use Rattle.thes_vocab.proofs.JudgingLemmas.{owners_bound, relabelled_is, renamed_breaks_s13, renamed_cases, renamed_fresh, renamed_old}
+use Rattle.thes_vocab.proofs.JudgingLemmas.{owners_bound, relabelled_is, renamed_breaks_s13}
 
 -- what its parts are seen as
 abbrev vocabulary : List ℕ → List Resource → Iris → Labels → Vocabulary
@@ -506,8 +506,8 @@ module _ (base : List ℕ) (rs : List Resource) (iris : Iris) (labels : Labels) 
     can_own : CanOwn v.resources owner → CanOwn rs owner
     can_own = subst (λ (w : Vocabulary). CanOwn w.resources owner) (sym seen)
 
-    pub seen_label : (d : LabelData) → CanOwn v.resources owner → unless_label v.labels v.resources (set.insert v.labels (owned owner d)) (owned owner d) accepted None → IsLabelNoted old new o d (Some owner) → (after : Labels) → (after ≡ labels) ⊎ (after ≡ set.insert labels (owned owner d)) → IsKept base rs iris after new concepts
-    seen_label d can row noted after is = elim is [
+    pub seen_label : (d : LabelData) → CanOwn v.resources owner → unless_label v.labels v.resources (set.insert v.labels (owned owner d)) (owned owner d) accepted None → IsLabelNoted old new o d (Some owner) → (next : Labels) → (next ≡ labels) ⊎ (next ≡ set.insert labels (owned owner d)) → IsKept base rs iris next new concepts
+    seen_label d can row noted next is = elim is [
       | inl e ↦ subst (λ ls. IsKept base rs iris ls new concepts) (sym e) (kept_noted base rs iris labels old new concepts kept owner o at_owner d (can_own can) row_here noted)
       | inr e ↦ subst (λ ls. IsKept base rs iris ls new concepts) (sym e) (kept_added base rs iris labels old new concepts kept owner o at_owner d (can_own can) row_here noted)
     ]
@@ -552,7 +552,7 @@ pub kept_merged : (base : List ℕ) (rs : List Resource) (iris : Iris) (labels :
 kept_merged base rs iris labels names concepts source target kept live = record {
   legal = kept.legal;
   named = labels_merged rs labels source target kept.named (inr (inl (concept_of_live rs target live)));
-  found = λ s n t x h. kept.found s n t x (h.0, preferred_stays labels source target n t x h.1);
+  found = λ s n t x h. kept.found s n t x (h.0, preferred_before rs labels source target n t x h.1);
   listed = kept.listed;
 }
 
