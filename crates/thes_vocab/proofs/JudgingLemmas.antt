@@ -1,16 +1,10 @@
 -- When a label more, one less, or another name breaks a condition on labels.
-use Rattle.std.proofs.Common.{◌≡◌, ◌≢◌, ◌⊎◌, ◌≤◌, inl, inr, ℕ, ◌+◌, length, List, [], ◌∷◌, ◌++◌, refl, sym, ap, ◌∙◌, subst, Bool, true, false, ◌||◌, eqb-true, eq-eqb, Bor}
-use Rattle.std.specs.Prelude.{Option, None, Some, find, option_map, if◌then◌else◌, ◌==◌}
+use Rattle.std.proofs.Common.{◌≡◌, ◌≢◌, ◌⊎◌, ◌≤◌, inl, inr, ℕ, ◌+◌, length, List, [], ◌∷◌, ◌++◌, refl, sym, ap, ◌∙◌, subst, Bool, true, false, Bor}
+use Rattle.std.specs.Prelude.{Option, None, Some}
 use Rattle.std.specs.Option.{MatchOption, is_some}
 use Rattle.std.specs.Bool.{MatchBool}
-use Rattle.std.specs.Ordering.{nat_cmp, eq_by_cmp, is_eq}
-use Rattle.std.specs.Cmp.{tied_itself, Equal-is}
-use Rattle.std.specs.Cmp.Lexicographic.{slice_cmp}
-use Rattle.std.specs.List.{list_any}
 use Rattle.std.specs.FinSet as set
-use Rattle.std.proofs.lemmas.Cmp.{nat_list_cmp_total}
-use Rattle.std.proofs.lemmas.Map.Lookups.{exact_bytes}
-use Rattle.std.proofs.lemmas.Bool.{or_cases, or_left, or_right, true≢false, and_from}
+use Rattle.std.proofs.lemmas.Bool.{or_cases, true≢false}
 use Rattle.thes_base.specs.declared.data.Resource.{Resource}
 use Rattle.thes_base.specs.declared.data.LabelKind.{LabelKind}
 use Rattle.thes_base.specs.declared.data.LabelKind.TheVariants.{Pref, Alt, Hidden, Scope}
@@ -18,7 +12,7 @@ use Rattle.thes_base.specs.declared.data.LabelValue.{LabelValue}
 use Rattle.thes_base.specs.declared.data.LabelValue.TheVariants as values
 use Rattle.thes_base.specs.Data.{kind_of}
 use Rattle.thes_base.specs.Resources.{IsLiveConcept, IsScheme, Exists, scheme_of}
-use Rattle.thes_base.specs.Labels.{Label, Labels, label_cmp, label_kind_no, HasLabel, is_name, is_preferred_in, preferred_in, S13, S14, UniquePreferred, IsTaken}
+use Rattle.thes_base.specs.Labels.{Label, Labels, HasLabel, is_name, preferred_in, S13, S14, UniquePreferred, IsTaken}
 use Rattle.thes_base.specs.declared.fault.Refusal.{Refusal}
 use Rattle.thes_base.specs.declared.fault.Refusal.TheVariants as no
 use Rattle.thes_base.specs.Rows.{accepted}
@@ -32,7 +26,7 @@ use Rattle.thes_base.proofs.Renamed.{IsOfRenamed, renamed_cases, renamed_fresh, 
 use Rattle.thes_base.proofs.Uniqueness.{made_unique, taken_breaks}
 use Rattle.thes_base.proofs.ConditionLemmas.{owner_exists}
 use Rattle.thes_base.proofs.NumberedLemmas.{numbered_bound}
-use Rattle.thes_base.proofs.ResourceLemmas.{same_or_not, left_true, right_true}
+use Rattle.thes_base.proofs.ResourceLemmas.{same_or_not}
 use Rattle.std.proofs.lemmas.Option.{same_Some}
 use Rattle.thes_vocab.specs.Vocabulary.{IsHolder}
 use Rattle.thes_vocab.specs.Rivals.{HasRival, HasTwoPreferred, Clashes}

@@ -506,8 +506,8 @@ module _ (base : List ℕ) (rs : List Resource) (iris : Iris) (labels : Labels) 
     can_own : CanOwn v.resources owner → CanOwn rs owner
     can_own = subst (λ (w : Vocabulary). CanOwn w.resources owner) (sym seen)
 
-    pub seen_label : (d : LabelData) → CanOwn v.resources owner → unless_label v.labels v.resources (set.insert v.labels (owned owner d)) (owned owner d) accepted None → IsLabelNoted old new o d (Some owner) → (next : Labels) → (next ≡ labels) ⊎ (next ≡ set.insert labels (owned owner d)) → IsKept base rs iris next new concepts
-    seen_label d can row noted next is = elim is [
+    pub seen_label : (d : LabelData) → CanOwn v.resources owner → unless_label v.labels v.resources (set.insert v.labels (owned owner d)) (owned owner d) accepted None → IsLabelNoted old new o d (Some owner) → (now : Labels) → (now ≡ labels) ⊎ (now ≡ set.insert labels (owned owner d)) → IsKept base rs iris now new concepts
+    seen_label d can row noted now is = elim is [
       | inl e ↦ subst (λ ls. IsKept base rs iris ls new concepts) (sym e) (kept_noted base rs iris labels old new concepts kept owner o at_owner d (can_own can) row_here noted)
       | inr e ↦ subst (λ ls. IsKept base rs iris ls new concepts) (sym e) (kept_added base rs iris labels old new concepts kept owner o at_owner d (can_own can) row_here noted)
     ]
