@@ -17,7 +17,7 @@ use Rattle.thes_base.specs.State.{State, IsWithin, Fits}
 use Rattle.thes_base.specs.Changes.{label, made, outside_made, label_added, labels_relabelled, relabelled, renamed, next_number, link_added, merged, taken_labels, split_off, is_listed, posted, marked_dead, dead}
 use Rattle.thes_base.specs.Legal.{Legal, LegalLabels}
 use Rattle.thes_base.proofs.LabelSets.{len_inserted, labels_total, inserted_cases}
-use Rattle.thes_base.proofs.LabelsKept.{removed_cases}
+use Rattle.thes_base.proofs.LabelSets.{removed_cases}
 use Rattle.thes_base.proofs.PreferredLemmas.{preferred_found, preferred_of_label}
 use Rattle.thes_base.proofs.ResourceLemmas.{marked_dead_at, length_set}
 use Rattle.std.proofs.lemmas.Bool.{false_from_ne_true}
