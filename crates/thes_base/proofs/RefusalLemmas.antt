@@ -28,7 +28,7 @@ use Rattle.thes_base.proofs.RowLemmas.{passed_if, passed_unless}
 use Rattle.thes_base.proofs.RowParts.{scheme_part, owner_part, ends_part, pair_part, live_concept_part, listed_part}
 use Rattle.thes_base.proofs.NumberedLemmas.{push_old, push_new}
 use Rattle.thes_base.proofs.LabelSets.{inserted_cases}
-use Rattle.thes_base.proofs.LabelsKept.{renamed_cases}
+use Rattle.thes_base.proofs.Renamed.{renamed_cases}
 use Rattle.thes_base.proofs.ResourceLemmas.{marked_dead_at, exists_dead}
 use Rattle.thes_base.proofs.ResourcesKept.{IsFit, concept_fit, own_scheme, each_pushed, iris_push, resources_merged}
 use Rattle.thes_base.proofs.ConditionLemmas.{owner_exists, ends_exist}
@@ -155,9 +155,9 @@ module _ (base : List ℕ) (s : State) (legal : Legal base s) where
 
   renamed_owner : (owner : ℕ) (tag text : List ℕ) (keep : Bool) → Exists s.resources owner → (o : Option (List ℕ)) (q : Label) → contains (elim o [ None ↦ s.labels | Some old ↦ renamed owner tag text keep old s.labels ]) q ≡ true → Exists s.resources q.owner
   renamed_owner owner tag text keep known None q held = owner_known q held
-  renamed_owner owner tag text keep known (Some old) q held = elim (renamed_cases s.resources s.labels owner tag text keep old q held) [
+  renamed_owner owner tag text keep known (Some old) q held = elim (renamed_cases s.labels owner tag text old keep q held) [
     | inl is ↦ subst (λ (x : Label). Exists s.resources x.owner) (sym is) known
-    | inr (inl is) ↦ subst (λ (x : Label). Exists s.resources x.owner) (sym is) known
+    | inr (inl (_, is)) ↦ subst (λ (x : Label). Exists s.resources x.owner) (sym is) known
     | inr (inr before) ↦ owner_known q before.1
   ]
 

@@ -22,8 +22,8 @@ use Rattle.thes_base.specs.Refusals.{Setting}
 use Rattle.thes_base.specs.Machine.{Step, next_state, owned}
 use Rattle.thes_base.proofs.NumberedLemmas.{numbered_bound, push_cases, set_cases}
 use Rattle.thes_base.proofs.MoveLemmas.{Moved, numbered_moved}
-use Rattle.thes_base.proofs.LabelSets.{inserted_cases}
-use Rattle.thes_base.proofs.LabelsKept.{removed_cases, renamed_cases}
+use Rattle.thes_base.proofs.LabelSets.{inserted_cases, removed_cases}
+use Rattle.thes_base.proofs.Renamed.{renamed_cases}
 use Rattle.thes_base.proofs.MergedLabels.{union_cases, given}
 use Rattle.thes_base.proofs.PreferredLemmas.{preferred_found}
 use Rattle.thes_base.proofs.ResourcesKept.{iri_cases}
@@ -50,9 +50,9 @@ alternative tag text form = record { tag_form = form.tag_form; text_form = form.
 formed_renamed : (labels : Labels) (owner : ℕ) (tag text : List ℕ) (keep : Bool) → IsLabelForm Pref tag text → AreFormed labels → (o : Option (List ℕ)) → preferred_in labels owner tag ≡ o
     → AreFormed (elim o [ None ↦ labels | Some old ↦ renamed owner tag text keep old labels ])
 formed_renamed labels owner tag text keep form each None none = each
-formed_renamed labels owner tag text keep form each (Some old) is = λ q held. elim (renamed_cases [] labels owner tag text keep old q held) [
+formed_renamed labels owner tag text keep form each (Some old) is = λ q held. elim (renamed_cases labels owner tag text old keep q held) [
   | inl new ↦ subst IsFormed (sym new) form
-  | inr (inl kept) ↦ subst IsFormed (sym kept) (alternative tag old (each (label owner Pref tag old) (preferred_found labels owner tag old is)))
+  | inr (inl (_, kept)) ↦ subst IsFormed (sym kept) (alternative tag old (each (label owner Pref tag old) (preferred_found labels owner tag old is)))
   | inr (inr before) ↦ each q before.1
 ]
 

@@ -1,16 +1,16 @@
 -- What refuses each request: one row a request, each check over all arguments of the request before the next. The
 -- requests stand in the order of docs/REQUESTS.md. A Post of a known key is answered before its row is asked (Machine).
-use Rattle.std.specs.Prelude.{◌≡◌, ℕ, List, [], ◌∷◌, true, Some}
+use Rattle.std.specs.Prelude.{◌≡◌, ℕ, List, [], ◌∷◌, Some}
 use Rattle.std.specs.FinMap as dict
 use Rattle.thes_base.specs.declared.data.LabelKind.TheVariants.{Pref}
 use Rattle.thes_base.specs.declared.fault.Refusal.TheVariants as no
 use Rattle.thes_base.specs.declared.request.Command.{Command}
 use Rattle.thes_base.specs.declared.request.Command.TheVariants as request
 use Rattle.thes_base.specs.Rows.{Check, ◌when◌, ◌unless◌, ◌for_some◌}
-use Rattle.thes_base.specs.Resources.{Exists, IsScheme, IsConcept, IsLive, CanOwn, BeginsWith, scheme_of, is_outside}
+use Rattle.thes_base.specs.Resources.{Exists, IsScheme, IsConcept, IsLive, CanOwn, BeginsWith, scheme_of, is_outside, replacements}
 use Rattle.thes_base.specs.Labels.{HasLabel, S13, S14, UniquePreferred}
 use Rattle.thes_base.specs.Links.{HeldIn, NoCycle, S27, S46, form_of, norm}
-use Rattle.thes_base.specs.Postings.{standing_count}
+use Rattle.thes_base.specs.Postings.{standing_count, end_of}
 use Rattle.thes_base.specs.State.{State, IsWithin}
 use Rattle.thes_base.specs.Changes.{owned, link}
 use Rattle.thes_base.specs.Refusals.{Setting, LeavesPreferred, AreEnds, HaveSchemes, EachOnce, EachListed, IsKnownPosting, IsStanding, IsPlacedAt}
@@ -113,7 +113,7 @@ checks_of setting s after (request.Split source tag text postings) =
 checks_of setting s after (request.Post key rec concept) =
     no.UnknownResource unless Exists s.resources concept
     ∷ no.WrongKind unless IsConcept s.resources concept
-    ∷ no.NotLive unless IsLive s.resources concept
+    ∷ no.NotLive unless IsLive s.resources (end_of concept (replacements s.resources concept))
     ∷ no.TooMany unless IsWithin setting.limits s after
     ∷ []
 checks_of setting s after (request.Withdraw posting) =

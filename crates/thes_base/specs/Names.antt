@@ -5,9 +5,9 @@ use Rattle.thes_base.specs.declared.fault.Refusal.TheVariants.{UnknownResource, 
 use Rattle.thes_base.specs.declared.fault.FormFault.{FormFault}
 use Rattle.thes_base.specs.declared.fault.FormFault.TheVariants.{BadTag, BadText, BadIri, BadKey, BadRecord, BadNumber, NotJson, BadShape}
 use Rattle.thes_base.specs.declared.fault.Table.{Table}
-use Rattle.thes_base.specs.declared.fault.Table.TheVariants.{Meta, Resource, Outside, Label, Link, Posting, Move}
+use Rattle.thes_base.specs.declared.fault.Table.TheVariants.{Meta, Resource, Outside, Label, Link, Hier, Posting, Move}
 use Rattle.thes_base.specs.declared.fault.Fault as outer
-use Rattle.thes_base.specs.declared.fault.Fault.TheVariants.{OutOfMemory, Store, BadStore, NewerStore}
+use Rattle.thes_base.specs.declared.fault.Fault.TheVariants.{OutOfMemory, Store, BadStore, NewerStore, OlderStore}
 use Rattle.thes_base.specs.declared.fault.ReadStop.{ReadStop}
 use Rattle.thes_base.specs.declared.fault.ReadStop.TheVariants as stops
 use Rattle.thes_base.specs.declared.fault.PipeFault.{PipeFault}
@@ -58,6 +58,7 @@ fault_code OutOfMemory = record { number = 40; name = codes "OutOfMemory" }
 fault_code Store = record { number = 41; name = codes "Store" }
 fault_code (BadStore table) = record { number = 42; name = codes "BadStore" }
 fault_code NewerStore = record { number = 43; name = codes "NewerStore" }
+fault_code OlderStore = record { number = 44; name = codes "OlderStore" }
 
 abbrev pub pipe_code : PipeFault → Code
 pipe_code Read = record { number = 50; name = codes "Read" }
@@ -71,6 +72,7 @@ table_name Resource = codes "resource"
 table_name Outside = codes "outside"
 table_name Label = codes "label"
 table_name Link = codes "link"
+table_name Hier = codes "hier"
 table_name Posting = codes "posting"
 table_name Move = codes "move"
 
@@ -80,6 +82,7 @@ fault_text OutOfMemory = (fault_code OutOfMemory).name
 fault_text Store = (fault_code Store).name
 fault_text (BadStore table) = codes "BadStore " ++ table_name table
 fault_text NewerStore = (fault_code NewerStore).name
+fault_text OlderStore = (fault_code OlderStore).name
 
 -- why a text was not read, as it is printed
 abbrev pub stop_text : ReadStop → List ℕ

@@ -1,49 +1,74 @@
 //! The names and numbers of refusals and faults, how they are printed, and the words for kinds of links.
 use std::alloc::{AllocError, Global};
 use std::fmt::Display;
+use std::process::Abort;
 use std::test::Fail;
 use thes_base::data::{LinkKind, TypedKind};
 use thes_base::fault::{Fault, FormFault, PipeFault, ReadStop, Refusal, Table};
 
+fn expect_forms(rt: &impl Abort, rows: &[(FormFault, u32, &str)]) {
+    for (fault, number, name) in rows {
+        assert_eq!(rt; (fault.number(), fault.name()), (*number, *name));
+    }
+}
+
+fn expect_refusals(rt: &impl Abort, rows: &[(Refusal, u32, &str)]) {
+    for (refusal, number, name) in rows {
+        assert_eq!(rt; (refusal.number(), refusal.name()), (*number, *name));
+    }
+}
+
+fn expect_faults(rt: &impl Abort, rows: &[(PipeFault, u32, &str)]) {
+    for (fault, number, name) in rows {
+        assert_eq!(rt; (fault.number(), fault.name()), (*number, *name));
+    }
+}
+
+static FORMS: [(FormFault, u32, &str); 2] = [
+    (FormFault::BadTag, 1, "BadTag"),
+    (FormFault::BadShape, 8, "BadShape"),
+];
+
+static REFUSALS: [(Refusal, u32, &str); 5] = [
+    (Refusal::UnknownResource, 10, "UnknownResource"),
+    (Refusal::PreferredTaken, 20, "PreferredTaken"),
+    (Refusal::ListedTwice, 30, "ListedTwice"),
+    (Refusal::OutsideKnown(5), 32, "OutsideKnown"),
+    (Refusal::TooMany, 33, "TooMany"),
+];
+
+static FAULTS: [(PipeFault, u32, &str); 4] = [
+    (PipeFault::Fault(Fault::OutOfMemory), 40, "OutOfMemory"),
+    (
+        PipeFault::Fault(Fault::BadStore(Table::Link)),
+        42,
+        "BadStore",
+    ),
+    (PipeFault::Fault(Fault::NewerStore), 43, "NewerStore"),
+    (PipeFault::TooLong, 52, "TooLong"),
+];
+
 #[test]
 fn refusals_and_faults_have_names_and_numbers(rt: HostRuntime) {
-    for (fault, number, name) in [
-        (FormFault::BadTag, 1, "BadTag"),
-        (FormFault::BadShape, 8, "BadShape"),
-    ] {
-        assert_eq!(rt; (fault.number(), fault.name()), (number, name));
-    }
-    for (refusal, number, name) in [
-        (Refusal::UnknownResource, 10, "UnknownResource"),
-        (Refusal::PreferredTaken, 20, "PreferredTaken"),
-        (Refusal::ListedTwice, 30, "ListedTwice"),
-        (Refusal::OutsideKnown(5), 32, "OutsideKnown"),
-        (Refusal::TooMany, 33, "TooMany"),
-    ] {
-        assert_eq!(rt; (refusal.number(), refusal.name()), (number, name));
-    }
-    for (fault, number, name) in [
-        (PipeFault::Fault(Fault::OutOfMemory), 40, "OutOfMemory"),
-        (
-            PipeFault::Fault(Fault::BadStore(Table::Link)),
-            42,
-            "BadStore",
-        ),
-        (PipeFault::Fault(Fault::NewerStore), 43, "NewerStore"),
-        (PipeFault::TooLong, 52, "TooLong"),
-    ] {
-        assert_eq!(rt; (fault.number(), fault.name()), (number, name));
-    }
+    expect_forms(&rt, &FORMS);
+    expect_refusals(&rt, &REFUSALS);
+    expect_faults(&rt, &FAULTS);
 }
 
 fn printed(alloc: Global, fault: impl Display + Drop) -> Result<String, AllocError> {
     format!(in alloc; "{}", fault)
 }
 
+fn expect_texts(rt: &impl Abort, rows: &[(String, &str)]) {
+    for (text, wanted) in rows {
+        assert_eq!(rt; text.as_str(), *wanted);
+    }
+}
+
 #[test]
 fn refusals_and_faults_are_printed_by_their_names(rt: HostRuntime) -> Result<(), Fail> {
     let alloc = rt.alloc();
-    for (text, wanted) in [
+    let rows = [
         (printed(alloc, ReadStop::Form(FormFault::BadIri))?, "BadIri"),
         (printed(alloc, ReadStop::OutOfMemory)?, "OutOfMemory"),
         (printed(alloc, Refusal::S13)?, "S13"),
@@ -53,9 +78,8 @@ fn refusals_and_faults_are_printed_by_their_names(rt: HostRuntime) -> Result<(),
             "BadStore move",
         ),
         (printed(alloc, PipeFault::Read)?, "Read"),
-    ] {
-        assert_eq!(rt; text.as_str(), wanted);
-    }
+    ];
+    expect_texts(&rt, &rows);
     Ok(())
 }
 

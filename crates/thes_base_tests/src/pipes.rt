@@ -1,9 +1,10 @@
 //! What a pipe notes of its device.
-use crate::devices::{Filling, Halting, Interrupted};
 use std::alloc::Global;
-use std::io::{Read, Write};
-use std::test::Fail;
+use std::io;
+use std::io::{ErrorKind, Read, Write};
+use std::process::Abort;
 use thes_base::pipe::{Budget, Pipe, Stop};
+use thes_devices::{Filling, Halting};
 
 // What a pipe notes.
 #[derive(Clone, Copy, Debug, PartialEq, Eq)]
@@ -40,18 +41,25 @@ fn read_from<R: Read + Drop>(
 type Reading = (&'static [u8], u32, Result<usize, Stop>, [u8; 4], Noted);
 
 static READINGS: [Reading; 3] = [
-    (b"abc", 20, Ok(2), *b"ab\0\0", Noted::Nothing),
+    (b"abcd", 20, Ok(3), *b"abc\0", Noted::Nothing),
     (b"", 20, Ok(0), [0; 4], Noted::Ended),
     (b"abc", 0, Err(Stop::Failed), [0; 4], Noted::Failed),
 ];
 
-#[test]
-fn what_a_reader_does_is_noted(rt: HostRuntime) -> Result<(), Fail> {
-    for (bytes, calls, result, buffer, noted) in READINGS {
-        let read = read_from(&mut Budget::new(), Halting { bytes, calls });
-        assert_eq!(rt; read, (result, buffer, noted), "{bytes:?} {calls}");
+fn expect_readings(rt: &impl Abort, rows: &[Reading]) {
+    for (bytes, calls, result, buffer, noted) in rows {
+        let device = Halting {
+            bytes,
+            calls: *calls,
+        };
+        let read = read_from(&mut Budget::new(), device);
+        assert_eq!(rt; read, (*result, *buffer, *noted), "{bytes:?} {calls}");
     }
-    Ok(())
+}
+
+#[test]
+fn what_a_reader_does_is_noted(rt: HostRuntime) {
+    expect_readings(&rt, &READINGS);
 }
 
 // Writes texts to a device: the last result, and what is noted.
@@ -69,51 +77,60 @@ fn write_to<W: Write>(
     (result, notes_of(pipe))
 }
 
-fn filling(alloc: Global, room: usize) -> Pipe<Filling> {
+fn filling(alloc: Global, calls: u32) -> Pipe<Filling> {
     Pipe::new(Filling {
         bytes: Vec::new(alloc),
-        room,
-        is_interrupted: false,
+        calls,
+        is_full: true,
     })
 }
 
-// Texts, how much room the writer has, and what it holds and is noted in the end.
+// Texts, after how many calls the writer is full, and what it holds and is noted in the end.
 type Writing = (
     &'static [&'static [u8]],
-    usize,
+    u32,
     &'static [u8],
     Result<(), Stop>,
     Noted,
 );
 
 static WRITINGS: [Writing; 2] = [
-    (&[b"abc", b"", b"de"], 9, b"abcde", Ok(()), Noted::Nothing),
-    (&[b"abc"], 2, b"ab", Err(Stop::Failed), Noted::Failed),
+    (&[b"abc", b"", b"de"], 20, b"abcde", Ok(()), Noted::Nothing),
+    (&[b"abc"], 4, b"ab", Err(Stop::Failed), Noted::Failed),
 ];
 
-#[test]
-fn what_a_writer_does_is_noted(rt: HostRuntime) -> Result<(), Fail> {
-    for (texts, room, written, result, noted) in WRITINGS {
-        let mut pipe = filling(rt.alloc(), room);
-        assert_eq!(rt;
-            write_to(&mut Budget::new(), &mut pipe, texts),
-            (result, noted),
-            "{texts:?}"
-        );
-        assert_eq!(rt; pipe.into_device().bytes.as_slice(), written);
+fn expect_writings(rt: &impl Abort, alloc: Global, rows: &[Writing]) {
+    for (texts, calls, written, result, noted) in rows {
+        let mut pipe = filling(alloc, *calls);
+        let wrote = write_to(&mut Budget::new(), &mut pipe, texts);
+        assert_eq!(rt; wrote, (*result, *noted), "{texts:?}");
+        assert_eq!(rt; pipe.into_device().bytes.as_slice(), *written);
     }
-    Ok(())
+}
+
+#[test]
+fn what_a_writer_does_is_noted(rt: HostRuntime) {
+    expect_writings(&rt, rt.alloc(), &WRITINGS);
+}
+
+// A reader that is interrupted at each call.
+#[derive(Drop)]
+struct Interrupted;
+
+impl Read for Interrupted {
+    fn read(&mut self, _buf: &mut [u8]) -> io::Result<usize> {
+        Err(io::Error::from(ErrorKind::Interrupted))
+    }
 }
 
 // A reader that is interrupted for ever uses the budget up, and a writer then has none left.
 #[test]
-fn a_budget_used_up_is_noted(rt: HostRuntime) -> Result<(), Fail> {
+fn a_budget_used_up_is_noted(rt: HostRuntime) {
     let mut budget = Budget::new();
     let read = read_from(&mut budget, Interrupted);
     assert_eq!(rt; read, (Err(Stop::TooLong), [0; 4], Noted::Denied));
-    let mut pipe = filling(rt.alloc(), 9);
+    let mut pipe = filling(rt.alloc(), 20);
     let written = write_to(&mut budget, &mut pipe, &[b"a"]);
     assert_eq!(rt; written, (Err(Stop::TooLong), Noted::Denied));
     assert!(rt; pipe.into_device().bytes.is_empty());
-    Ok(())
 }

@@ -7,13 +7,22 @@ use thes_base::number::{MoveNo, PostNo, ResNo};
 use thes_base::request::{Command, PostNos};
 use thes_base::text::{Key, Note, RecordName, Tag, Text};
 
+// A label's value that is no note.
+fn name(kind: LabelKind, text: Text) -> LabelValue {
+    match kind {
+        LabelKind::Pref => LabelValue::Pref(text),
+        LabelKind::Alt => LabelValue::Alt(text),
+        _ => LabelValue::Hidden(text),
+    }
+}
+
 fn value(alloc: Global, kind: LabelKind, text: &str) -> Result<LabelValue, ReadStop> {
-    Ok(match kind {
-        LabelKind::Pref => LabelValue::Pref(Text::read(alloc, text)?),
-        LabelKind::Alt => LabelValue::Alt(Text::read(alloc, text)?),
-        LabelKind::Hidden => LabelValue::Hidden(Text::read(alloc, text)?),
-        LabelKind::Scope => LabelValue::Scope(Note::read(alloc, text)?),
-    })
+    if kind == LabelKind::Scope {
+        let note = Note::read(alloc, text)?;
+        return Ok(LabelValue::Scope(note));
+    }
+    let text = Text::read(alloc, text)?;
+    Ok(name(kind, text))
 }
 
 // Whether a label of this kind shows its kind and its text, and is equal to its clone.
@@ -39,15 +48,21 @@ fn a_label_shows_its_kind_and_its_text(rt: HostRuntime) -> Result<(), Fail> {
     Ok(())
 }
 
-fn history(alloc: Global) -> Result<History, ReadStop> {
-    Ok(History {
+fn history_of(alloc: Global, key: Key, rec: RecordName) -> History {
+    History {
         number: PostNo::new(1),
-        key: Key::read(alloc, "k1")?,
-        rec: RecordName::read(alloc, "r1")?,
+        key,
+        rec,
         first: ResNo::new(2),
         moves: Moves::new(alloc),
         withdrawn: false,
-    })
+    }
+}
+
+fn history(alloc: Global) -> Result<History, ReadStop> {
+    let key = Key::read(alloc, "k1")?;
+    let rec = RecordName::read(alloc, "r1")?;
+    Ok(history_of(alloc, key, rec))
 }
 
 #[test]
@@ -78,8 +93,13 @@ fn the_usual_limits(rt: HostRuntime) {
     assert_eq!(rt; counts, [20_000, 200_000, 200_000, 100_000, 1_000_000]);
 }
 
+fn is_same_resource(new: &NewResource, clone: &NewResource) -> bool {
+    *new == *clone
+}
+
 fn is_copied(alloc: Global, new: &NewResource) -> Result<bool, AllocError> {
-    Ok(*new == new.try_clone(alloc)?)
+    let clone = new.try_clone(alloc)?;
+    Ok(is_same_resource(new, &clone))
 }
 
 #[test]
@@ -96,8 +116,13 @@ fn a_new_resource_is_equal_to_its_clone(rt: HostRuntime) -> Result<(), Fail> {
     Ok(())
 }
 
+fn is_same_command(command: &Command, clone: &Command) -> bool {
+    *command == *clone
+}
+
 fn is_repeated(alloc: Global, command: &Command) -> Result<bool, AllocError> {
-    Ok(*command == command.try_clone(alloc)?)
+    let clone = command.try_clone(alloc)?;
+    Ok(is_same_command(command, &clone))
 }
 
 #[test]
@@ -107,11 +132,16 @@ fn a_merge_is_equal_to_its_clone(rt: HostRuntime) -> Result<(), Fail> {
     Ok(())
 }
 
+fn post(alloc: Global) -> Result<Command, ReadStop> {
+    let key = Key::read(alloc, "k1")?;
+    let rec = RecordName::read(alloc, "r1")?;
+    Ok(Command::Post(key, rec, ResNo::new(2)))
+}
+
 #[test]
 fn a_post_is_equal_to_its_clone(rt: HostRuntime) -> Result<(), Fail> {
-    let alloc = rt.alloc();
-    let (key, rec) = (Key::read(alloc, "k1")?, RecordName::read(alloc, "r1")?);
-    assert!(rt; is_repeated(alloc, &Command::Post(key, rec, ResNo::new(2)))?);
+    let post = post(rt.alloc())?;
+    assert!(rt; is_repeated(rt.alloc(), &post)?);
     Ok(())
 }
 

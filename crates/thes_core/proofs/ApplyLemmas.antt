@@ -9,7 +9,7 @@ use Rattle.thes_base.specs.declared.data.History.{History}
 use Rattle.thes_base.specs.declared.request.Command.{Command}
 use Rattle.thes_base.specs.declared.request.Command.TheVariants as request
 use Rattle.thes_base.specs.Rows.{accepted}
-use Rattle.thes_base.specs.Resources.{IsConcept, scheme_of, is_outside}
+use Rattle.thes_base.specs.Resources.{IsConcept, scheme_of, replacements, is_outside}
 use Rattle.thes_base.specs.Postings.{stands_at, standing_count, move_count}
 use Rattle.thes_base.specs.State.{State}
 use Rattle.thes_base.specs.Changes.{histories_split, scheme_resource, collection_resource, concept_resource, split_off, is_listed, next_number}
@@ -18,6 +18,7 @@ use Rattle.thes_base.specs.Legal.{Legal}
 use Rattle.thes_base.specs.Texts.{HasForms}
 use Rattle.thes_base.specs.Machine.{next_state}
 use Rattle.thes_base.specs.Refusals.{Setting, IsSetting, unless_unique, unless_listed}
+use Rattle.thes_base.proofs.Forwarding.{count_posted}
 use Rattle.thes_base.proofs.ListedLemmas.{listed_count}
 use Rattle.thes_base.proofs.MachineLemmas.{legal_empty, legal_is_in_order}
 use Rattle.thes_base.proofs.MoveLemmas.{count_moved}
@@ -61,6 +62,13 @@ pub merge_fits : (t : Thesaurus) (source target : ℕ) → Allows t (request.Mer
 merge_fits t source target ok =
     let few = (sound_after t (request.Merge source target) ok).postings.few_moves in
     let count = count_moved (stands_at source) target (move_count t.book + 1) t.book in
+    omega (arith, few, count)
+
+-- The numbers of a posting's moves fit.
+pub post_fits : (t : Thesaurus) (key rec : List ℕ) (concept : ℕ) → Allows t (request.Post key rec concept) → move_count t.book + length (replacements t.vocab.resources concept) < 2 ^ 32
+post_fits t key rec concept ok =
+    let few = (sound_after t (request.Post key rec concept) ok).postings.few_moves in
+    let count = count_posted key rec concept (replacements t.vocab.resources concept) t.book in
     omega (arith, few, count)
 
 -- A new resource.

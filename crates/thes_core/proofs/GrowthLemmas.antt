@@ -7,7 +7,7 @@ use Rattle.thes_base.specs.declared.data.LabelKind.TheVariants.{Pref, Alt}
 use Rattle.thes_base.specs.declared.data.Link.{Link}
 use Rattle.thes_base.specs.declared.data.History.{History}
 use Rattle.thes_base.specs.declared.data.Limits.{Limits}
-use Rattle.thes_base.specs.Resources.{CanOwn, numbered, is_outside, set_numbered}
+use Rattle.thes_base.specs.Resources.{CanOwn, numbered, is_outside, set_numbered, replacements}
 use Rattle.thes_base.specs.Links.{HeldIn, norm, contracted}
 use Rattle.thes_base.proofs.LinkSets.{links_total, links_exact}
 use Rattle.thes_base.proofs.SetMembers as sets
@@ -17,12 +17,11 @@ use Rattle.thes_base.specs.State.{State, IsWithin, Fits}
 use Rattle.thes_base.specs.Changes.{label, made, outside_made, label_added, labels_relabelled, relabelled, renamed, next_number, link_added, merged, taken_labels, split_off, is_listed, posted, marked_dead, dead}
 use Rattle.thes_base.specs.Legal.{Legal, LegalLabels}
 use Rattle.thes_base.proofs.LabelSets.{len_inserted, labels_total, inserted_cases}
-use Rattle.thes_base.proofs.LabelsKept.{removed_cases}
+use Rattle.thes_base.proofs.LabelSets.{removed_cases}
 use Rattle.thes_base.proofs.PreferredLemmas.{preferred_found, preferred_of_label}
 use Rattle.thes_base.proofs.ResourceLemmas.{marked_dead_at, length_set}
 use Rattle.std.proofs.lemmas.Bool.{false_from_ne_true}
-use Rattle.std.proofs.lemmas.List.Sums.{sum_by-append, sum_by-cons}
-use Rattle.thes_base.specs.declared.data.Move.{Move}
+use Rattle.thes_base.proofs.Forwarding.{count_posted}
 use Rattle.thes_base.proofs.MoveLemmas.{count_moved, length_moved}
 use Rattle.thes_base.proofs.NumberedLemmas.{numbered_bound}
 use Rattle.thes_core.specs.declared.room.Growth.{Growth}
@@ -195,18 +194,11 @@ split_grows s source tag text postings legal listed = record {
   moves = inl (count_moved (is_listed postings) (next_number s) (move_count s.histories + 1) s.histories ∙ ap (λ n. move_count s.histories + n) listed);
 }
 
-move_count_push : (hs : List History) (h : History) → h.moves ≡ [] → move_count (hs ++ h ∷ []) ≡ move_count hs
-move_count_push hs h none =
-    let a = sum_by-append (λ (x : History). length x.moves) hs (h ∷ []) in
-    let b = sum_by-cons (λ (x : History). length x.moves) h [] in
-    let c = ap (length {A = Move}) none in
-    omega (arith, a, b, c)
-
-pub posted_grows : (s : State) (key rec : List ℕ) (concept : ℕ) → Grows s (posted key rec concept s) (growth_of 0 0 0 1 0)
+pub posted_grows : (s : State) (key rec : List ℕ) (concept : ℕ) → Grows s (posted key rec concept s) (growth_of 0 0 0 1 (length (replacements s.resources concept)))
 posted_grows s key rec concept = record {
   resources = same _;
   labels = same _;
   links = same _;
   postings = one_more History s.histories _;
-  moves = inl (move_count_push s.histories _ refl ∙ (let z : move_count s.histories ≡ move_count s.histories + 0 = omega arith in z));
+  moves = inl (count_posted key rec concept (replacements s.resources concept) s.histories);
 }

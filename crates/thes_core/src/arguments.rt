@@ -3,9 +3,10 @@
 ghost use Rattle.std.specs.Prelude.{◌≡◌, ◌↔◌, ℕ, List, Some, IsTrue};
 ghost use Rattle.thes_base.specs.declared.data.Resource.{Resource};
 ghost use Rattle.thes_base.specs.Rows.{accepted};
-ghost use Rattle.thes_base.specs.Resources.{numbered};
+ghost use Rattle.thes_base.specs.Resources.{numbered, replacements};
 ghost use Rattle.thes_base.specs.Links.{form_of};
-ghost use Rattle.thes_base.specs.Refusals.{AreEnds, HaveSchemes, unless_owner, unless_live_concept, unless_ends, unless_pair};
+ghost use Rattle.thes_base.specs.Postings.{end_of};
+ghost use Rattle.thes_base.specs.Refusals.{AreEnds, HaveSchemes, unless_owner, unless_live_concept, unless_forwarded, unless_ends, unless_pair};
 
 use thes_base::data::{Link, LinkForm, LinkKind, Resource, ResourceKind};
 use thes_base::fault::Refusal;
@@ -39,6 +40,23 @@ pub fn judge_live_concept(vocab: &Vocab, concept: ResNo) -> Option<Refusal>
         return Some(Refusal::WrongKind);
     }
     if !resource.live {
+        return Some(Refusal::NotLive);
+    }
+    None
+}
+
+/// Whether this is a concept whose replacements lead to a live one, here `place`.
+pub fn judge_forwarded(vocab: &Vocab, concept: ResNo, place: ResNo) -> Option<Refusal>
+    requires { place ≡ end_of concept (replacements vocab.now.resources concept) }
+    ensures { unless_forwarded vocab.now.resources concept accepted result }
+{
+    let Some(named) = vocab.resource(concept).copied() else {
+        return Some(Refusal::UnknownResource);
+    };
+    if named.kind != ResourceKind::Concept {
+        return Some(Refusal::WrongKind);
+    }
+    if !vocab.is_live(place) {
         return Some(Refusal::NotLive);
     }
     None

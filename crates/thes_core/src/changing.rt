@@ -165,12 +165,13 @@ impl Thesaurus {
         Ok(Answer::Parted(concept.get(), moved))
     }
 
-    // Accepts a posting of a new key.
+    // Accepts a posting of a new key, and forwards it along the replacements of its concept.
     fn post(&mut self, key: &Key, rec: &RecordName, concept: ResNo) -> Result<Answer, AllocError>
         requires { Allows self.old (request.Post key.now rec.now concept) }
         ensures { IfOk result (ChangesBy (request.Post key.now rec.now concept) self.old self.new) }
     {
-        let number = self.book.post(key, rec, concept)?;
+        let way = self.vocab.replacements(self.alloc, concept)?;
+        let number = self.book.post(key, rec, concept, way.as_slice())?;
         Ok(Answer::Number(number.get()))
     }
 

@@ -1,12 +1,9 @@
 //! Readers and writers that fail in mid-stream, at each of their calls in turn.
-ghost use Rattle.std.specs.Prelude.{Some};
-
-use crate::run::{Store, outcome};
-use std::alloc::Global;
-use std::io;
-use std::io::{ErrorKind, Read, Write};
+use crate::run::{Devices, SOUND, Store};
+use Failing::{FullWriter, Reader, Writer};
+use std::alloc::{AllocError, Global};
+use std::process::Abort;
 use std::test::Fail;
-use thes_base::data::Limits;
 use thes_base::fault::PipeFault;
 
 // Requests of which each changes what the views below show.
@@ -29,152 +26,113 @@ static VIEWS: &str = r#"{"get":"totals"}
 {"get":"posting","number":2}
 "#;
 
-// It gives at most seven bytes at every other call, is interrupted at the calls between, and breaks after so many calls.
-#[derive(Drop)]
-struct Breaking<'a> {
-    bytes: &'a [u8],
-    calls: u32,
+// The device that fails: a reader that breaks, a writer that breaks, or one that is full.
+#[derive(Clone, Copy, Debug, PartialEq, Eq)]
+enum Failing {
+    Reader,
+    Writer,
+    FullWriter,
 }
 
-impl<'a> Read for Breaking<'a> {
-    ghost remaining = { λ r. Some r.bytes.now };
+impl Failing {
+    fn devices(self, calls: u32) -> Devices {
+        match self {
+            Reader => Devices {
+                reads: calls,
+                writes: u32::MAX,
+                is_full: false,
+            },
+            _ => Devices {
+                reads: u32::MAX,
+                writes: calls,
+                is_full: self == FullWriter,
+            },
+        }
+    }
 
-    fn read(&mut self, buf: &mut [u8]) -> io::Result<usize> {
-        if self.calls == 0 {
-            return Err(io::Error::from(ErrorKind::BrokenPipe));
+    fn fault(self) -> PipeFault {
+        if self == Reader {
+            PipeFault::Read
+        } else {
+            PipeFault::Write
         }
-        self.calls -= 1;
-        if self.calls % 2 == 1 {
-            return Err(io::Error::from(ErrorKind::Interrupted));
-        }
-        if buf.len() > 7 {
-            return self.bytes.read(&mut buf[..7]);
-        }
-        self.bytes.read(buf)
+    }
+
+    // How many requests were performed: those that are answered, and the one whose answer a writer failed to take.
+    fn performed(self, written: &str) -> usize {
+        let answered = written.matches('\n').count();
+        answered.saturating_add(usize::from(self != Reader))
     }
 }
 
-// It takes at most five bytes at every other call, is interrupted at the calls between, and breaks after so many calls,
-// or is then full and takes no byte.
-#[derive(Drop)]
-struct Filling {
-    bytes: Vec<u8>,
-    calls: u32,
-    is_full: bool,
+fn views_of(alloc: Global, store: &mut Store) -> Result<String, Fail> {
+    Ok(store.answer(alloc, VIEWS, SOUND)?.written)
 }
 
-impl Write for Filling {
-    ghost contents = { λ w. Some w.bytes.items };
-
-    fn write(&mut self, bytes: &[u8]) -> io::Result<usize> {
-        if self.calls == 0 && self.is_full {
-            return Ok(0);
-        }
-        if self.calls == 0 {
-            return Err(io::Error::from(ErrorKind::BrokenPipe));
-        }
-        self.calls -= 1;
-        if self.calls % 2 == 1 {
-            return Err(io::Error::from(ErrorKind::Interrupted));
-        }
-        if bytes.len() > 5 {
-            return self.bytes.write(&bytes[..5]);
-        }
-        self.bytes.write(bytes)
+// The first so many lines of a text.
+fn first(alloc: Global, text: &str, count: usize) -> Result<String, AllocError> {
+    let mut lines = String::new(alloc);
+    for line in text.lines().take(count) {
+        lines.push_str(line)?;
+        lines.push('\n')?;
     }
-
-    fn flush(&mut self) -> io::Result<()> {
-        Ok(())
-    }
+    Ok(lines)
 }
 
 // What the views show after the first so many requests.
 fn views_after(alloc: Global, count: usize) -> Result<String, Fail> {
-    let mut store = Store::new(alloc, Limits::default())?;
-    let mut requests = String::new(alloc);
-    for line in REQUESTS.lines().take(count) {
-        requests.push_str(line)?;
-        requests.push('\n')?;
-    }
-    let _ = outcome(alloc, &mut store, requests.as_bytes())?;
+    let mut store = Store::new(alloc)?;
+    let requests = first(alloc, REQUESTS, count)?;
+    let _ = store.answer(alloc, requests.as_str(), SOUND)?;
     views_of(alloc, &mut store)
 }
 
-fn views_of(alloc: Global, store: &mut Store) -> Result<String, Fail> {
-    let (views, _) = outcome(alloc, store, VIEWS.as_bytes())?;
-    Ok(views)
+// Runs the script over a device that fails after so many calls, and says whether it was served to its end. What was
+// written is a front of the whole text, and no other requests were performed than those told.
+fn is_served(
+    rt: &impl Abort,
+    alloc: Global,
+    whole: &str,
+    failing: Failing,
+    calls: u32,
+) -> Result<bool, Fail> {
+    let mut store = Store::new(alloc)?;
+    let run = store.answer(alloc, REQUESTS, failing.devices(calls))?;
+    let written = run.written.as_str();
+    assert!(rt; whole.starts_with(written), "{failing:?} {calls}");
+    if run.ended.is_ok() {
+        assert_eq!(rt; written, whole, "{failing:?} {calls}");
+        return Ok(true);
+    }
+    assert_eq!(rt; run.ended, Err(failing.fault()), "{failing:?} {calls}");
+    let wanted = views_after(alloc, failing.performed(written))?;
+    let views = views_of(alloc, &mut store)?;
+    assert_eq!(rt; views.as_str(), wanted.as_str(), "{failing:?} {calls}");
+    Ok(false)
 }
 
-// The lines before the break are answered, and no other request is performed.
-#[test]
-fn a_reader_may_break_at_each_call(rt: HostRuntime) -> Result<(), Fail> {
-    let alloc = rt.alloc();
-    let mut store = Store::new(alloc, Limits::default())?;
-    let (whole, _) = outcome(alloc, &mut store, REQUESTS.as_bytes())?;
-    let mut is_whole = false;
+// Whether a device that fails after enough calls has the script served to its end.
+fn is_ever_served(
+    rt: &impl Abort,
+    alloc: Global,
+    whole: &str,
+    failing: Failing,
+) -> Result<bool, Fail> {
     for calls in 0..1000 {
-        let mut store = Store::new(alloc, Limits::default())?;
-        let device = Breaking {
-            bytes: REQUESTS.as_bytes(),
-            calls,
-        };
-        let (written, ended) = outcome(alloc, &mut store, device)?;
-        assert!(rt; whole.as_str().starts_with(written.as_str()), "{calls}");
-        let views = views_of(alloc, &mut store)?;
-        let answered = written.as_str().lines().count();
-        assert_eq!(rt;
-            views.as_str(),
-            views_after(alloc, answered)?.as_str(),
-            "{calls}"
-        );
-        if ended.is_ok() {
-            assert_eq!(rt; written.as_str(), whole.as_str());
-            is_whole = true;
-            break;
+        if is_served(rt, alloc, whole, failing, calls)? {
+            return Ok(true);
         }
-        assert_eq!(rt; ended, Err(PipeFault::Read), "{calls}");
     }
-    assert!(rt; is_whole);
-    Ok(())
+    Ok(false)
 }
 
-// What was written is a front of the whole text, and a request was performed just where its answer was begun.
 #[test]
-fn a_writer_may_break_at_each_call(rt: HostRuntime) -> Result<(), Fail> {
+fn a_device_may_fail_at_each_call(rt: HostRuntime) -> Result<(), Fail> {
     let alloc = rt.alloc();
-    let mut store = Store::new(alloc, Limits::default())?;
-    let (whole, _) = outcome(alloc, &mut store, REQUESTS.as_bytes())?;
-    let mut is_whole = false;
-    for calls in 0..1000 {
-        let mut store = Store::new(alloc, Limits::default())?;
-        let device = Filling {
-            bytes: Vec::new(alloc),
-            calls,
-            is_full: calls % 4 < 2,
-        };
-        let (device, ended) = store.answer(alloc, REQUESTS.as_bytes(), device);
-        let written = String::from_utf8(device.bytes)?;
-        assert!(rt; whole.as_str().starts_with(written.as_str()), "{calls}");
-        if ended.is_ok() {
-            assert_eq!(rt; written.as_str(), whole.as_str());
-            is_whole = true;
-            break;
-        }
-        assert_eq!(rt; ended, Err(PipeFault::Write), "{calls}");
-        let answered = whole.as_str().lines().count();
-        let begun = written.as_str().matches('\n').count();
-        let performed = if begun < answered {
-            begun.saturating_add(1)
-        } else {
-            answered
-        };
-        let views = views_of(alloc, &mut store)?;
-        assert_eq!(rt;
-            views.as_str(),
-            views_after(alloc, performed)?.as_str(),
-            "{calls}"
-        );
+    let whole = Store::new(alloc)?.answer(alloc, REQUESTS, SOUND)?.written;
+    for failing in [Reader, Writer, FullWriter] {
+        let is_whole = is_ever_served(&rt, alloc, whole.as_str(), failing)?;
+        assert!(rt; is_whole, "{failing:?}");
     }
-    assert!(rt; is_whole);
     Ok(())
 }

@@ -1,87 +1,75 @@
-//! The core as a library: requests in a list.
-use crate::run::Store;
+//! The core as a library: requests in a list. Each is decided by `Core::decide`, and an accepted one applied by
+//! `Core::apply`, in a step of `Core::step`.
+use crate::run::{Store, push_command};
+use Answer::{Again, Done, No, Number};
 use std::alloc::Global;
+use std::process::Abort;
 use std::test::Fail;
-use thes_base::data::{Limits, LinkKind};
 use thes_base::fault::Refusal;
-use thes_base::number::{PostNo, ResNo};
-use thes_base::text::{Iri, Key, RecordName, Tag, Text};
 use thes_core::{Answer, Command};
 
-const IRI: &str = "http://example.org/x";
+// A scheme 1, its concepts 2 to 4 and its collection 5, and an outside concept 6, with links and postings; and what each
+// request is answered.
+static STEPS: [(&str, Answer); 15] = [
+    (r#"{"do":"scheme","tag":"en","text":"Animals"}"#, Number(1)),
+    (
+        r#"{"do":"concept","scheme":1,"tag":"en","text":"Cats"}"#,
+        Number(2),
+    ),
+    (
+        r#"{"do":"concept","scheme":1,"tag":"en","text":"Mammals"}"#,
+        Number(3),
+    ),
+    (
+        r#"{"do":"concept","scheme":1,"tag":"en","text":"Pets"}"#,
+        Number(4),
+    ),
+    (
+        r#"{"do":"collection","scheme":1,"tag":"en","text":"House animals"}"#,
+        Number(5),
+    ),
+    (
+        r#"{"do":"outside","iri":"http://example.org/x"}"#,
+        Number(6),
+    ),
+    (r#"{"do":"link","kind":"broader","a":2,"b":3}"#, Done),
+    (r#"{"do":"link","kind":"related","a":4,"b":2}"#, Done),
+    (r#"{"do":"link","kind":"member","a":5,"b":2}"#, Done),
+    (r#"{"do":"link","kind":"close","a":2,"b":6}"#, Done),
+    (
+        r#"{"do":"link","kind":"broader","a":3,"b":2}"#,
+        No(Refusal::Cycle),
+    ),
+    (
+        r#"{"do":"post","key":"k1","record":"r1","concept":2}"#,
+        Number(1),
+    ),
+    (
+        r#"{"do":"post","key":"k2","record":"r1","concept":2}"#,
+        Number(2),
+    ),
+    (
+        r#"{"do":"post","key":"k2","record":"r1","concept":2}"#,
+        Again(2),
+    ),
+    (r#"{"do":"withdraw","posting":2}"#, Done),
+];
 
-fn resource(text: &str) -> Result<ResNo, Fail> {
-    Ok(ResNo::read(text)?)
-}
-
-fn tag(alloc: Global) -> Result<Tag, Fail> {
-    Ok(Tag::read(alloc, "en")?)
-}
-
-fn text(alloc: Global, text: &str) -> Result<Text, Fail> {
-    Ok(Text::read(alloc, text)?)
-}
-
-fn post(alloc: Global, key: &str, concept: &str) -> Result<Command, Fail> {
-    Ok(Command::Post(
-        Key::read(alloc, key)?,
-        RecordName::read(alloc, "r1")?,
-        resource(concept)?,
-    ))
-}
-
-fn concept(alloc: Global, name: &str) -> Result<Command, Fail> {
-    Ok(Command::Concept(resource("1")?, tag(alloc)?, text(alloc, name)?))
-}
-
-// A scheme 1, its concepts 2 to 4 and its collection 5, and an outside concept 6, with links and postings.
-fn requests(alloc: Global) -> Result<Vec<Command>, Fail> {
-    let mut commands = Vec::new(alloc);
-    commands.push(Command::Scheme(tag(alloc)?, text(alloc, "Animals")?))?;
-    commands.push(concept(alloc, "Cats")?)?;
-    commands.push(concept(alloc, "Mammals")?)?;
-    commands.push(concept(alloc, "Pets")?)?;
-    commands.push(Command::Collection(resource("1")?, tag(alloc)?, text(alloc, "House animals")?))?;
-    commands.push(Command::Outside(Iri::read(alloc, IRI)?))?;
-    for (kind, a, b) in [
-        (LinkKind::Broader, "2", "3"),
-        (LinkKind::Related, "4", "2"),
-        (LinkKind::Member, "5", "2"),
-        (LinkKind::Close, "2", "6"),
-        (LinkKind::Broader, "3", "2"),
-    ] {
-        commands.push(Command::Link(kind, resource(a)?, resource(b)?))?;
+fn expect_run(rt: &impl Abort, alloc: Global, steps: &[(&str, Answer)]) -> Result<(), Fail> {
+    let mut commands: Vec<Command> = Vec::new(alloc);
+    let mut wanted: Vec<Answer> = Vec::new(alloc);
+    for (line, answer) in steps {
+        push_command(alloc, &mut commands, line)?;
+        wanted.push(*answer)?;
     }
-    commands.push(post(alloc, "k1", "2")?)?;
-    commands.push(post(alloc, "k2", "2")?)?;
-    commands.push(post(alloc, "k2", "2")?)?;
-    commands.push(Command::Withdraw(PostNo::read("2")?))?;
-    Ok(commands)
+    let mut store = Store::new(alloc)?;
+    let mut answers: Vec<Answer> = Vec::new(alloc);
+    store.run(commands.as_slice(), &mut answers)?;
+    assert_eq!(rt; answers.as_slice(), wanted.as_slice());
+    Ok(())
 }
 
 #[test]
 fn a_list_of_requests_is_run(rt: HostRuntime) -> Result<(), Fail> {
-    let alloc = rt.alloc();
-    let mut store = Store::new(alloc, Limits::default())?;
-    let mut answers: Vec<Answer> = Vec::new(alloc);
-    store.run(requests(alloc)?.as_slice(), &mut answers)?;
-    let wanted = [
-        Answer::Number(1),
-        Answer::Number(2),
-        Answer::Number(3),
-        Answer::Number(4),
-        Answer::Number(5),
-        Answer::Number(6),
-        Answer::Done,
-        Answer::Done,
-        Answer::Done,
-        Answer::Done,
-        Answer::No(Refusal::Cycle),
-        Answer::Number(1),
-        Answer::Number(2),
-        Answer::Again(2),
-        Answer::Done,
-    ];
-    assert_eq!(rt; answers.as_slice(), wanted.as_slice());
-    Ok(())
+    expect_run(&rt, rt.alloc(), &STEPS)
 }

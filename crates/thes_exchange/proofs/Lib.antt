@@ -1,4 +1,6 @@
 pub mod ServeLemmas
+pub mod GrammarLemmas
+pub mod TreeLemmas
 pub mod MemberLemmas
 pub mod ReadingLemmas
 pub mod FeedLemmas

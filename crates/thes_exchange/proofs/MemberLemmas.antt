@@ -12,8 +12,9 @@ use Rattle.std.proofs.lemmas.Str.{is_utf8-from_IsUtf8, IsUtf8-from_is_utf8}
 use Rattle.serde_json.specs.Data.{Data, Num}
 use Rattle.serde_json.specs.Read.{read}
 use Rattle.serde_json.specs.Find.{as_number}
-use Rattle.serde_json.specs.View.{view, items_of, items_view}
-use Rattle.serde_json.specs.declared.value.Value.{Value}
+use Rattle.serde_json.specs.View.{items_of}
+use Rattle.thes_exchange.specs.declared.tree.Value.{Value}
+use Rattle.thes_exchange.specs.Tree.{view, items_view}
 use Rattle.thes_exchange.specs.Members.{all_numbers}
 use Rattle.thes_exchange.specs.Requests.{json_in, whole, AreNumbers}
 

@@ -1,4 +1,5 @@
 pub mod Readings
+pub mod Tree
 pub mod Members
 pub mod Words
 pub mod Requests

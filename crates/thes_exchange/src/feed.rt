@@ -47,7 +47,7 @@ struct Run {
 
 const LINE_LIMIT: usize = 1_048_576;
 
-const BUFFER_SIZE: usize = 4096;
+const BUFFER_SIZE: usize = 65_536;
 
 impl Feed {
     /// An empty buffer.

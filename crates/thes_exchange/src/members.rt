@@ -1,13 +1,14 @@
 //! The members of a request's object. A member that is not there, or is of another kind, is no request's shape.
-ghost use Rattle.std.specs.Prelude.{◌≡◌, ◌⊎◌, map, true, false, Option, Some, None, option_map, option_and_then, OnOk, IfOk, IfErr};
-ghost use Rattle.serde_json.specs.View.{view, number_view, items_view};
-ghost use Rattle.serde_json.specs.Events.{members_len};
+ghost use Rattle.std.specs.Prelude.{◌≡◌, ◌⊎◌, map, true, false, Option, Some, None, option_and_then, OnOk, IfOk, IfErr};
+ghost use Rattle.serde_json.specs.View.{number_view};
 ghost use Rattle.serde_json.specs.Find.{as_object, as_str};
+ghost use Rattle.thes_exchange.specs.Tree.{view, items_view};
 ghost use Rattle.thes_exchange.specs.Words.{label_kind_named, link_kind_named, verb_named, noun_named};
 ghost use Rattle.thes_exchange.specs.Members.{has_count, members_of, number_in, text_in, truth_in, all_numbers, numbers_in};
 
+use crate::tree::Value;
 use crate::words::{Noun, Verb, label_kind_named, link_kind_named, noun_named, verb_named};
-use serde_json::{Number, Value};
+use serde_json::Number;
 use std::alloc::{AllocError, Global};
 use thes_base::data::{LabelKind, LinkKind};
 use thes_base::fault::{FormFault, ReadStop};
@@ -15,28 +16,20 @@ use thes_base::fault::{FormFault, ReadStop};
 /// What is no request.
 pub const BAD_SHAPE: ReadStop = ReadStop::Form(FormFault::BadShape);
 
-// How many members an object has.
-fn member_count(value: &Value) -> Option<usize>
-    ensures { result ≡ option_map members_len (as_object (view value.now)) }
-{
-    let members = value.as_object()?;
-    Some(members.len())
-}
-
 /// An object with this many members.
-pub fn has_members(count: usize, value: &Value) -> Result<(), ReadStop>
+pub fn has_members(count: usize, value: &Value<'_>) -> Result<(), ReadStop>
     ensures ok { OnOk result (has_count count (as_object (view value.now)) ≡ true) }
     ensures err { IfErr result (λ e. (e ≡ BAD_SHAPE)
         × (has_count count (as_object (view value.now)) ≡ false)) }
 {
-    match member_count(value) {
+    match value.member_count() {
         Some(held) if held == count => Ok(()),
         _ => Err(BAD_SHAPE),
     }
 }
 
 /// The member with this name, a number.
-pub fn number_in<'a>(name: &str, value: &'a Value) -> Result<&'a Number, ReadStop>
+pub fn number_in<'a>(name: &str, value: &'a Value<'_>) -> Result<&'a Number, ReadStop>
     ensures ok { IfOk result (λ n. number_in name.now (view value.now) ≡ Some (number_view n.now)) }
     ensures err { IfErr result (λ e. (e ≡ BAD_SHAPE)
         × (number_in name.now (view value.now) ≡ None)) }
@@ -45,7 +38,7 @@ pub fn number_in<'a>(name: &str, value: &'a Value) -> Result<&'a Number, ReadSto
 }
 
 /// The member with this name, a text.
-pub fn text_in<'a>(name: &str, value: &'a Value) -> Result<&'a str, ReadStop>
+pub fn text_in<'a>(name: &str, value: &'a Value<'_>) -> Result<&'a str, ReadStop>
     ensures ok { IfOk result (λ s. text_in name.now (view value.now) ≡ Some s.now) }
     ensures err { IfErr result (λ e. (e ≡ BAD_SHAPE) × (text_in name.now (view value.now) ≡ None)) }
 {
@@ -53,7 +46,7 @@ pub fn text_in<'a>(name: &str, value: &'a Value) -> Result<&'a str, ReadStop>
 }
 
 /// The member with this name, true or false.
-pub fn truth_in(name: &str, value: &Value) -> Result<bool, ReadStop>
+pub fn truth_in(name: &str, value: &Value<'_>) -> Result<bool, ReadStop>
     ensures ok { IfOk result (λ b. truth_in name.now (view value.now) ≡ Some b) }
     ensures err { IfErr result (λ e. (e ≡ BAD_SHAPE)
         × (truth_in name.now (view value.now) ≡ None)) }
@@ -62,7 +55,7 @@ pub fn truth_in(name: &str, value: &Value) -> Result<bool, ReadStop>
 }
 
 /// The member with this name, the word of a kind of label.
-pub fn label_kind_in(name: &str, value: &Value) -> Result<LabelKind, ReadStop>
+pub fn label_kind_in(name: &str, value: &Value<'_>) -> Result<LabelKind, ReadStop>
     ensures ok { IfOk result (λ k. option_and_then label_kind_named
         (text_in name.now (view value.now)) ≡ Some k) }
     ensures err { IfErr result (λ e. (e ≡ BAD_SHAPE)
@@ -72,7 +65,7 @@ pub fn label_kind_in(name: &str, value: &Value) -> Result<LabelKind, ReadStop>
 }
 
 /// The member with this name, the word of a kind of link.
-pub fn link_kind_in(name: &str, value: &Value) -> Result<LinkKind, ReadStop>
+pub fn link_kind_in(name: &str, value: &Value<'_>) -> Result<LinkKind, ReadStop>
     ensures ok { IfOk result (λ k. option_and_then link_kind_named
         (text_in name.now (view value.now)) ≡ Some k) }
     ensures err { IfErr result (λ e. (e ≡ BAD_SHAPE)
@@ -85,7 +78,7 @@ pub fn link_kind_in(name: &str, value: &Value) -> Result<LinkKind, ReadStop>
 pub fn numbers_in<'a>(
     alloc: Global,
     name: &str,
-    value: &'a Value,
+    value: &'a Value<'_>,
 ) -> Result<Vec<&'a Number>, ReadStop>
     ensures ok { IfOk result (λ v. numbers_in name.now (view value.now) ≡ Some
         (map (λ n. number_view n.now) v.items)) }
@@ -97,7 +90,7 @@ pub fn numbers_in<'a>(
 }
 
 // The values, if each is a number.
-fn all_numbers<'a>(alloc: Global, values: &'a [Value]) -> Result<Vec<&'a Number>, ReadStop>
+fn all_numbers<'a>(alloc: Global, values: &'a [Value<'_>]) -> Result<Vec<&'a Number>, ReadStop>
     ensures ok { IfOk result (λ v. all_numbers (items_view values.now) ≡ Some
         (map (λ n. number_view n.now) v.items)) }
     ensures err { IfErr result (λ e. (e ≡ ReadStop.OutOfMemory)
@@ -112,7 +105,7 @@ fn all_numbers<'a>(alloc: Global, values: &'a [Value]) -> Result<Vec<&'a Number>
 }
 
 /// A value that is the word of something to do.
-pub fn verb_at(word: &Value) -> Result<Verb, ReadStop>
+pub fn verb_at(word: &Value<'_>) -> Result<Verb, ReadStop>
     ensures ok { IfOk result (λ v. option_and_then verb_named (as_str (view word.now)) ≡ Some v) }
     ensures err { IfErr result (λ e. (e ≡ BAD_SHAPE)
         × (option_and_then verb_named (as_str (view word.now)) ≡ None)) }
@@ -121,7 +114,7 @@ pub fn verb_at(word: &Value) -> Result<Verb, ReadStop>
 }
 
 /// A value that is the word of something to see.
-pub fn noun_at(word: &Value) -> Result<Noun, ReadStop>
+pub fn noun_at(word: &Value<'_>) -> Result<Noun, ReadStop>
     ensures ok { IfOk result (λ n. option_and_then noun_named (as_str (view word.now)) ≡ Some n) }
     ensures err { IfErr result (λ e. (e ≡ BAD_SHAPE)
         × (option_and_then noun_named (as_str (view word.now)) ≡ None)) }

@@ -1,6 +1,6 @@
 //! What a request asks for.
 ghost use Rattle.std.specs.Prelude.{◌≡◌, map, ◌⊎◌, Some, None, IfOk, IfErr};
-ghost use Rattle.serde_json.specs.View.{view, number_view};
+ghost use Rattle.serde_json.specs.View.{number_view};
 ghost use Rattle.thes_base.specs.Forms.{IsNumber};
 ghost use Rattle.thes_base.specs.Reads.{Reads};
 ghost use Rattle.thes_base.specs.Texts.{IsLabelText};
@@ -8,14 +8,17 @@ ghost use Rattle.thes_base.specs.declared.fault.FormFault.TheVariants.{BadNumber
 ghost use Rattle.thes_base.specs.Data.{kind_of, text_of};
 ghost use Rattle.thes_exchange.specs.Readings.{Gives};
 ghost use Rattle.thes_exchange.specs.Requests.{whole, AreNumbers, label_line, link_line, made_of, command_of, query_of, request_in, json_in, request_of};
+ghost use Rattle.thes_exchange.specs.Tree.{view};
 ghost use Rattle.thes_exchange.specs.declared.request.Request.TheVariants.{Do, Get};
 
 use crate::members::{
     BAD_SHAPE, has_members, label_kind_in, link_kind_in, noun_at, number_in, numbers_in, text_in,
     truth_in, verb_at,
 };
+use crate::tree::{NOT_JSON, Value};
 use crate::words::{Noun, Verb};
-use serde_json::{Number, Value};
+use json::Scratch;
+use serde_json::Number;
 use std::alloc::Global;
 use thes_base::data::{Label, LabelKind, LabelValue, Link};
 use thes_base::fault::{FormFault, ReadStop};
@@ -79,7 +82,7 @@ fn post_nos(alloc: Global, numbers: &[&Number]) -> Result<PostNos, ReadStop>
 
 // A new scheme.
 #[tactic(auto, unfolding(crate::specs::Requests::line2))]
-fn scheme_in(alloc: Global, value: &Value) -> Result<Command, ReadStop>
+fn scheme_in(alloc: Global, value: &Value<'_>) -> Result<Command, ReadStop>
     ensures { Gives (command_of Verb.Scheme (view value.now)) result }
 {
     has_members(3, value)?;
@@ -90,7 +93,7 @@ fn scheme_in(alloc: Global, value: &Value) -> Result<Command, ReadStop>
 
 // A new concept.
 #[tactic(auto, unfolding(crate::specs::Requests::line3))]
-fn concept_in(alloc: Global, value: &Value) -> Result<Command, ReadStop>
+fn concept_in(alloc: Global, value: &Value<'_>) -> Result<Command, ReadStop>
     ensures { Gives (command_of Verb.Concept (view value.now)) result }
 {
     has_members(4, value)?;
@@ -106,7 +109,7 @@ fn concept_in(alloc: Global, value: &Value) -> Result<Command, ReadStop>
 
 // A new collection.
 #[tactic(auto, unfolding(crate::specs::Requests::line3))]
-fn collection_in(alloc: Global, value: &Value) -> Result<Command, ReadStop>
+fn collection_in(alloc: Global, value: &Value<'_>) -> Result<Command, ReadStop>
     ensures { Gives (command_of Verb.Collection (view value.now)) result }
 {
     has_members(4, value)?;
@@ -122,7 +125,7 @@ fn collection_in(alloc: Global, value: &Value) -> Result<Command, ReadStop>
 
 // A new outside concept.
 #[tactic(auto, unfolding(crate::specs::Requests::line1))]
-fn outside_in(alloc: Global, value: &Value) -> Result<Command, ReadStop>
+fn outside_in(alloc: Global, value: &Value<'_>) -> Result<Command, ReadStop>
     ensures { Gives (command_of Verb.Outside (view value.now)) result }
 {
     has_members(2, value)?;
@@ -145,7 +148,7 @@ fn value_of_kind(alloc: Global, kind: LabelKind, text: &str) -> Result<LabelValu
 
 // A label with its owner.
 #[tactic(auto, unfolding(crate::specs::Requests::label_line))]
-fn label_in(alloc: Global, value: &Value) -> Result<(ResNo, Label), ReadStop>
+fn label_in(alloc: Global, value: &Value<'_>) -> Result<(ResNo, Label), ReadStop>
     ensures { Gives (label_line (view value.now)) result }
 {
     has_members(5, value)?;
@@ -161,7 +164,7 @@ fn label_in(alloc: Global, value: &Value) -> Result<(ResNo, Label), ReadStop>
 
 // A label to be added.
 #[tactic(auto, using(crate::proofs::ReadingLemmas::stopped), unfolding(crate::specs::Requests::made_of))]
-fn add_label_in(alloc: Global, value: &Value) -> Result<Command, ReadStop>
+fn add_label_in(alloc: Global, value: &Value<'_>) -> Result<Command, ReadStop>
     ensures { Gives (command_of Verb.AddLabel (view value.now)) result }
 {
     let (owner, label) = label_in(alloc, value)?;
@@ -170,7 +173,7 @@ fn add_label_in(alloc: Global, value: &Value) -> Result<Command, ReadStop>
 
 // A label to be dropped.
 #[tactic(auto, using(crate::proofs::ReadingLemmas::stopped), unfolding(crate::specs::Requests::made_of))]
-fn drop_label_in(alloc: Global, value: &Value) -> Result<Command, ReadStop>
+fn drop_label_in(alloc: Global, value: &Value<'_>) -> Result<Command, ReadStop>
     ensures { Gives (command_of Verb.DropLabel (view value.now)) result }
 {
     let (owner, label) = label_in(alloc, value)?;
@@ -179,7 +182,7 @@ fn drop_label_in(alloc: Global, value: &Value) -> Result<Command, ReadStop>
 
 // A new preferred label.
 #[tactic(auto, unfolding(crate::specs::Requests::line4))]
-fn relabel_in(alloc: Global, value: &Value) -> Result<Command, ReadStop>
+fn relabel_in(alloc: Global, value: &Value<'_>) -> Result<Command, ReadStop>
     ensures { Gives (command_of Verb.Relabel (view value.now)) result }
 {
     has_members(5, value)?;
@@ -197,7 +200,7 @@ fn relabel_in(alloc: Global, value: &Value) -> Result<Command, ReadStop>
 
 // A link.
 #[tactic(auto, unfolding(crate::specs::Requests::line3))]
-fn link_in(value: &Value) -> Result<Link, ReadStop>
+fn link_in(value: &Value<'_>) -> Result<Link, ReadStop>
     ensures { Gives (link_line (view value.now)) result }
 {
     has_members(4, value)?;
@@ -213,7 +216,7 @@ fn link_in(value: &Value) -> Result<Link, ReadStop>
 
 // A link to be made.
 #[tactic(auto, using(crate::proofs::ReadingLemmas::stopped), unfolding(crate::specs::Requests::made_of))]
-fn add_link_in(value: &Value) -> Result<Command, ReadStop>
+fn add_link_in(value: &Value<'_>) -> Result<Command, ReadStop>
     ensures { Gives (command_of Verb.Link (view value.now)) result }
 {
     let link = link_in(value)?;
@@ -222,7 +225,7 @@ fn add_link_in(value: &Value) -> Result<Command, ReadStop>
 
 // A link to be undone.
 #[tactic(auto, using(crate::proofs::ReadingLemmas::stopped), unfolding(crate::specs::Requests::made_of))]
-fn unlink_in(value: &Value) -> Result<Command, ReadStop>
+fn unlink_in(value: &Value<'_>) -> Result<Command, ReadStop>
     ensures { Gives (command_of Verb.Unlink (view value.now)) result }
 {
     let link = link_in(value)?;
@@ -231,7 +234,7 @@ fn unlink_in(value: &Value) -> Result<Command, ReadStop>
 
 // A concept to be deprecated.
 #[tactic(auto, unfolding(crate::specs::Requests::line1))]
-fn deprecate_in(value: &Value) -> Result<Command, ReadStop>
+fn deprecate_in(value: &Value<'_>) -> Result<Command, ReadStop>
     ensures { Gives (command_of Verb.Deprecate (view value.now)) result }
 {
     has_members(2, value)?;
@@ -241,7 +244,7 @@ fn deprecate_in(value: &Value) -> Result<Command, ReadStop>
 
 // Two concepts to be merged.
 #[tactic(auto, unfolding(crate::specs::Requests::line2))]
-fn merge_in(value: &Value) -> Result<Command, ReadStop>
+fn merge_in(value: &Value<'_>) -> Result<Command, ReadStop>
     ensures { Gives (command_of Verb.Merge (view value.now)) result }
 {
     has_members(3, value)?;
@@ -252,7 +255,7 @@ fn merge_in(value: &Value) -> Result<Command, ReadStop>
 
 // A concept to be split.
 #[tactic(auto, unfolding(crate::specs::Requests::line4))]
-fn split_in(alloc: Global, value: &Value) -> Result<Command, ReadStop>
+fn split_in(alloc: Global, value: &Value<'_>) -> Result<Command, ReadStop>
     ensures { Gives (command_of Verb.Split (view value.now)) result }
 {
     has_members(5, value)?;
@@ -268,7 +271,7 @@ fn split_in(alloc: Global, value: &Value) -> Result<Command, ReadStop>
 
 // A new posting.
 #[tactic(auto, unfolding(crate::specs::Requests::line3))]
-fn post_in(alloc: Global, value: &Value) -> Result<Command, ReadStop>
+fn post_in(alloc: Global, value: &Value<'_>) -> Result<Command, ReadStop>
     ensures { Gives (command_of Verb.Post (view value.now)) result }
 {
     has_members(4, value)?;
@@ -284,7 +287,7 @@ fn post_in(alloc: Global, value: &Value) -> Result<Command, ReadStop>
 
 // A posting to be withdrawn.
 #[tactic(auto, unfolding(crate::specs::Requests::line1))]
-fn withdraw_in(value: &Value) -> Result<Command, ReadStop>
+fn withdraw_in(value: &Value<'_>) -> Result<Command, ReadStop>
     ensures { Gives (command_of Verb.Withdraw (view value.now)) result }
 {
     has_members(2, value)?;
@@ -293,7 +296,7 @@ fn withdraw_in(value: &Value) -> Result<Command, ReadStop>
 }
 
 // What a word at `do` asks for.
-fn command_in(alloc: Global, verb: Verb, value: &Value) -> Result<Command, ReadStop>
+fn command_in(alloc: Global, verb: Verb, value: &Value<'_>) -> Result<Command, ReadStop>
     ensures { Gives (command_of verb (view value.now)) result }
 {
     match verb {
@@ -316,7 +319,7 @@ fn command_in(alloc: Global, verb: Verb, value: &Value) -> Result<Command, ReadS
 
 // The totals.
 #[tactic(auto, unfolding(crate::specs::Requests::line0))]
-fn totals_in(value: &Value) -> Result<Query, ReadStop>
+fn totals_in(value: &Value<'_>) -> Result<Query, ReadStop>
     ensures { Gives (query_of Noun.Totals (view value.now)) result }
 {
     has_members(1, value)?;
@@ -325,7 +328,7 @@ fn totals_in(value: &Value) -> Result<Query, ReadStop>
 
 // A concept to be shown.
 #[tactic(auto, unfolding(crate::specs::Requests::line1))]
-fn shown_concept_in(value: &Value) -> Result<Query, ReadStop>
+fn shown_concept_in(value: &Value<'_>) -> Result<Query, ReadStop>
     ensures { Gives (query_of Noun.Concept (view value.now)) result }
 {
     has_members(2, value)?;
@@ -335,7 +338,7 @@ fn shown_concept_in(value: &Value) -> Result<Query, ReadStop>
 
 // A concept whose postings are to be shown.
 #[tactic(auto, unfolding(crate::specs::Requests::line1))]
-fn shown_postings_in(value: &Value) -> Result<Query, ReadStop>
+fn shown_postings_in(value: &Value<'_>) -> Result<Query, ReadStop>
     ensures { Gives (query_of Noun.Postings (view value.now)) result }
 {
     has_members(2, value)?;
@@ -345,7 +348,7 @@ fn shown_postings_in(value: &Value) -> Result<Query, ReadStop>
 
 // A posting to be shown.
 #[tactic(auto, unfolding(crate::specs::Requests::line1))]
-fn shown_posting_in(value: &Value) -> Result<Query, ReadStop>
+fn shown_posting_in(value: &Value<'_>) -> Result<Query, ReadStop>
     ensures { Gives (query_of Noun.Posting (view value.now)) result }
 {
     has_members(2, value)?;
@@ -354,7 +357,7 @@ fn shown_posting_in(value: &Value) -> Result<Query, ReadStop>
 }
 
 // What a word at `get` asks for.
-fn query_in(noun: Noun, value: &Value) -> Result<Query, ReadStop>
+fn query_in(noun: Noun, value: &Value<'_>) -> Result<Query, ReadStop>
     ensures { Gives (query_of noun (view value.now)) result }
 {
     match noun {
@@ -367,7 +370,7 @@ fn query_in(noun: Noun, value: &Value) -> Result<Query, ReadStop>
 
 // A request with this word at `do`.
 #[tactic(auto, using(crate::proofs::ReadingLemmas::stopped), unfolding(crate::specs::Requests::made_of))]
-fn do_in(alloc: Global, verb: Verb, value: &Value) -> Result<Request, ReadStop>
+fn do_in(alloc: Global, verb: Verb, value: &Value<'_>) -> Result<Request, ReadStop>
     ensures { Gives (made_of Do (command_of verb (view value.now))) result }
 {
     Ok(Request::Do(command_in(alloc, verb, value)?))
@@ -375,7 +378,7 @@ fn do_in(alloc: Global, verb: Verb, value: &Value) -> Result<Request, ReadStop>
 
 // A request with this word at `get`.
 #[tactic(auto, using(crate::proofs::ReadingLemmas::stopped), unfolding(crate::specs::Requests::made_of))]
-fn get_in(noun: Noun, value: &Value) -> Result<Request, ReadStop>
+fn get_in(noun: Noun, value: &Value<'_>) -> Result<Request, ReadStop>
     ensures { Gives (made_of Get (query_of noun (view value.now))) result }
 {
     Ok(Request::Get(query_in(noun, value)?))
@@ -383,7 +386,7 @@ fn get_in(noun: Noun, value: &Value) -> Result<Request, ReadStop>
 
 // The request that a value is.
 #[tactic(auto, unfolding(crate::specs::Requests::request_in))]
-fn request_in(alloc: Global, value: &Value) -> Result<Request, ReadStop>
+fn request_in(alloc: Global, value: &Value<'_>) -> Result<Request, ReadStop>
     ensures { Gives (request_in (view value.now)) result }
 {
     if let Some(word) = value.get("do") {
@@ -396,22 +399,44 @@ fn request_in(alloc: Global, value: &Value) -> Result<Request, ReadStop>
 }
 
 // What the bytes are as JSON.
-fn json_in(alloc: Global, bytes: &[u8]) -> Result<Value, ReadStop>
+fn json_in<'a>(
+    alloc: Global,
+    bytes: &'a [u8],
+    scratch: &'a mut Scratch,
+) -> Result<Value<'a>, ReadStop>
     ensures ok { IfOk result (λ v. json_in bytes.now ≡ Some (view v)) }
     ensures err { IfErr result (λ e. (e ≡ ReadStop.OutOfMemory)
         ⊎ ((e ≡ ReadStop.Form NotJson) × (json_in bytes.now ≡ None))) }
 {
-    match Value::from_slice(alloc, bytes) {
-        Ok(value) => Ok(value),
-        Err(e) if e.is_memory() => Err(ReadStop::OutOfMemory),
-        Err(_) => Err(ReadStop::Form(FormFault::NotJson)),
+    match str::from_utf8(bytes) {
+        Ok(text) => Value::read(alloc, text, scratch),
+        Err(_) => Err(NOT_JSON),
+    }
+}
+
+/// The memory that requests are read in, which is kept from line to line.
+#[derive(Drop)]
+pub struct Memory {
+    pub alloc: Global,
+    scratch: Scratch,
+}
+
+impl Memory {
+    /// Takes no memory yet.
+    pub fn new(alloc: Global) -> Memory
+        ensures { result.alloc ≡ alloc }
+    {
+        Memory {
+            alloc,
+            scratch: Scratch::new(alloc),
+        }
     }
 }
 
 /// What the bytes ask for.
-pub fn read_request(alloc: Global, bytes: &[u8]) -> Result<Request, ReadStop>
+pub fn read_request(memory: &mut Memory, bytes: &[u8]) -> Result<Request, ReadStop>
     ensures { Gives (request_of bytes.now) result }
 {
-    let value = json_in(alloc, bytes)?;
-    request_in(alloc, &value)
+    let value = json_in(memory.alloc, bytes, &mut memory.scratch)?;
+    request_in(memory.alloc, &value)
 }

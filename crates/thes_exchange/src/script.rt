@@ -9,6 +9,7 @@ use crate::answer::Reply;
 use crate::desk::Desk;
 use crate::feed::Found;
 use crate::lines::Lines;
+use crate::request::Memory;
 use crate::serve::{Outcome, serve};
 use std::alloc::Global;
 use std::io::{Read, Write};
@@ -66,7 +67,7 @@ fn is_skipped(line: &[u8], found: Found) -> bool
 }
 
 // What a line that is not blank is answered with. One that there was no memory for is not performed.
-fn outcome_for<D: Desk>(alloc: Global, desk: &mut D, line: &[u8], found: Found) -> Outcome
+fn outcome_for<D: Desk>(memory: &mut Memory, desk: &mut D, line: &[u8], found: Found) -> Outcome
     requires { D.is_open desk.old ≡ true }
     ensures held { found ≡ Found.Line →
         Serves D.performs D.shows desk.old line.now result desk.new }
@@ -74,14 +75,14 @@ fn outcome_for<D: Desk>(alloc: Global, desk: &mut D, line: &[u8], found: Found) 
         × (desk.new ≡ desk.old) }
 {
     match found {
-        Found::Line => serve(alloc, desk, line),
+        Found::Line => serve(memory, desk, line),
         Found::NoRoom | Found::End => Outcome::Told(Reply::Fault(Fault::OutOfMemory)),
     }
 }
 
 // Answers one line, if it isn't blank.
 fn serve_line<W: Write, D: Desk>(
-    alloc: Global,
+    memory: &mut Memory,
     writer: &mut Pipe<W>,
     budget: &mut Budget,
     desk: &mut D,
@@ -103,7 +104,7 @@ fn serve_line<W: Write, D: Desk>(
     if is_skipped(line, found) {
         return Ok(());
     }
-    let outcome = outcome_for(alloc, desk, line, found);
+    let outcome = outcome_for(memory, desk, line, found);
     ended.note(&outcome);
     if let Err(stop) = outcome.write(writer, budget) {
         return Err(stop.writing());
@@ -138,6 +139,7 @@ pub fn script<R: Read, W: Write, D: Desk>(
     ensures calls { KeepsToLimit reader.old reader.new writer.old writer.new }
 {
     let mut lines = Lines::new(alloc)?;
+    let mut memory = Memory::new(alloc);
     let mut budget = Budget::new();
     let mut ended = Ended::new();
     while !reader.ended() {
@@ -149,7 +151,7 @@ pub fn script<R: Read, W: Write, D: Desk>(
             return Ok(ended);
         }
         serve_line(
-            alloc,
+            &mut memory,
             writer,
             &mut budget,
             desk,

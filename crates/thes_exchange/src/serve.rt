@@ -9,7 +9,7 @@ ghost use Rattle.thes_exchange.specs.declared.request.Request.TheVariants.{Do, G
 
 use crate::answer::{Reply, reply_line};
 use crate::desk::{Desk, ViewLine, Viewed};
-use crate::request::{Query, Request, read_request};
+use crate::request::{Memory, Query, Request, read_request};
 use std::alloc::Global;
 use std::io::Write;
 use thes_base::fault::{Fault, ReadStop};
@@ -24,13 +24,13 @@ pub enum Outcome {
 }
 
 /// Reads a line, and performs its request or shows its view.
-pub fn serve<D: Desk>(alloc: Global, desk: &mut D, line: &[u8]) -> Outcome
+pub fn serve<D: Desk>(memory: &mut Memory, desk: &mut D, line: &[u8]) -> Outcome
     requires { D.is_open desk.old ≡ true }
     ensures { Serves D.performs D.shows desk.old line.now result desk.new }
 {
-    match read_request(alloc, line) {
+    match read_request(memory, line) {
         Ok(Request::Do(command)) => answer_command(desk, &command),
-        Ok(Request::Get(query)) => answer_query(alloc, desk, &query),
+        Ok(Request::Get(query)) => answer_query(memory.alloc, desk, &query),
         Err(ReadStop::Form(fault)) => Outcome::Told(Reply::Bad(fault)),
         Err(ReadStop::OutOfMemory) => Outcome::Told(Reply::Fault(Fault::OutOfMemory)),
     }

@@ -1,5 +1,5 @@
 //! For each number a rising list.
-ghost use Rattle.std.specs.Prelude.{◌≡◌, ◌≢◌, ◌<◌, ℕ, [], OnOk};
+ghost use Rattle.std.specs.Prelude.{◌≡◌, ◌≢◌, ◌<◌, ℕ, [], true, IfOk, OnOk};
 ghost use Rattle.std.specs.List.Sorted.{IsStrictlySortedBy};
 ghost use Rattle.std.specs.BTreeMap.{is_at};
 ghost use Rattle.std.specs.BTreeSet.{insert_key};
@@ -58,10 +58,27 @@ impl<T: Ord + Drop> Lists<T> {
         ensures rooms { KeepsRooms self.old self.new }
         ensures room { OnOk result (HasRoom self.new n) }
     {
+        if self.reserve_in(n)? {
+            return Ok(());
+        }
         self.open(n)?;
+        self.reserve_in(n)?;
+        Ok(())
+    }
+
+    // Makes room for one value more in the list of a number, and says whether it has one.
+    fn reserve_in(&mut self, n: ResNo) -> Result<bool, AllocError>
+        ensures same { AreSame self.old self.new }
+        ensures rooms { KeepsRooms self.old self.new }
+        ensures room { IfOk result (λ has. has ≡ true → HasRoom self.new n) }
+        ensures open { OnOk result (HasList self.old n → HasRoom self.new n) }
+    {
         match self.lists.get_mut(&n) {
-            Some(list) => list.reserve(1),
-            None => Ok(()),
+            Some(list) => {
+                list.reserve(1)?;
+                Ok(true)
+            }
+            None => Ok(false),
         }
     }
 

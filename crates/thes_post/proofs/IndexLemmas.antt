@@ -14,11 +14,12 @@ use Rattle.std.proofs.lemmas.List.{length-set, length-map}
 use Rattle.std.specs.List.Sorted.{IsPermutation}
 use Rattle.std.proofs.lemmas.List.Sorted.{list_any-IsPermutation}
 use Rattle.std.proofs.lemmas.Option.{same_Some, get_or_from_slice_get}
+use Rattle.thes_base.proofs.Forwarding.{count_posted}
 use Rattle.thes_base.proofs.PostingsKept.{count_set_numbered}
 use Rattle.thes_base.specs.declared.data.History.{History}
 use Rattle.thes_base.specs.Resources.{numbered, set_numbered}
 use Rattle.thes_base.specs.Postings.{place, stands_at, moved, moved_those, withdraw, move_count, withdrawn_count}
-use Rattle.thes_base.specs.Changes.{is_listed, histories_posted, histories_withdrawn, histories_split}
+use Rattle.thes_base.specs.Changes.{is_listed, new_history, histories_posted, histories_withdrawn, histories_split}
 use Rattle.thes_base.specs.Rows.{accepted}
 use Rattle.thes_base.specs.Refusals.{IsOfKey, EachListed, PostingPasses, unless_standing}
 use Rattle.thes_base.proofs.NumberedLemmas.{numbered_at, numbered_bound, push_old, push_new, push_cases, set_cases, set_other, set_same}
@@ -83,13 +84,13 @@ module _ (hs : List History) (posting_of : List ℕ → Option ℕ) (lists : Lis
   found_is key n found none = let f = indexed.found key n found in let t : Some f.0 ≡ None = sym f.1 ∙ none in absurd (cc)
 
 -- A posting is accepted.
-module _ (hs : List History) (posting_of : List ℕ → Option ℕ) (lists : Lists ℕ) (withdrawn_number moves_number : ℕ) (indexed : IsIndexed hs posting_of lists withdrawn_number moves_number) (key rec : List ℕ) (concept : ℕ) where
+module _ (hs : List History) (posting_of : List ℕ → Option ℕ) (lists : Lists ℕ) (withdrawn_number moves_number : ℕ) (indexed : IsIndexed hs posting_of lists withdrawn_number moves_number) (key rec : List ℕ) (concept : ℕ) (way : List ℕ) where
   abbrev entered : History
-  entered = record { number = length hs + 1; key = key; rec = rec; first = concept; moves = []; withdrawn = false }
+  entered = new_history key rec concept way hs
 
   pub indexed_posted : (find : List ℕ → Option ℕ) (new : Lists ℕ) → length hs + 1 < 2 ^ 32 → ((h : History) → IsOfKey key hs h → ⊥)
       → find key ≡ Some (length hs + 1) → ((q : List ℕ) → (key ≡ q → ⊥) → find q ≡ posting_of q)
-      → ChangesAt lists new concept (insert_key nat_cmp (listed_at lists concept) (length hs + 1)) → IsIndexed (histories_posted key rec concept hs) find new withdrawn_number moves_number
+      → ChangesAt lists new (place entered) (insert_key nat_cmp (listed_at lists (place entered)) (length hs + 1)) → IsIndexed (histories_posted key rec concept way hs) find new withdrawn_number (moves_number + length way)
   indexed_posted find new fits fresh here others changes = record {
     few = let l = length-append hs (entered ∷ []) in omega (arith, l, fits);
     numbers = numbered_push 1 hs entered indexed.numbers (let z : length hs + 1 ≡ 1 + length hs = omega arith in z);
@@ -97,7 +98,7 @@ module _ (hs : List History) (posting_of : List ℕ → Option ℕ) (lists : Lis
     known = λ n h e. known_at n h (push_cases hs entered h n e);
     standing = standing_posted hs entered refl lists new changes indexed.standing;
     withdrawn = indexed.withdrawn ∙ sym (let s = sum_by_push (λ (h : History). cond h.withdrawn 1 0) hs entered in omega (arith, s));
-    moves = indexed.moves ∙ sym (let s = sum_by_push (λ (h : History). length h.moves) hs entered in omega (arith, s));
+    moves = ap (λ n. n + length way) indexed.moves ∙ sym (count_posted key rec concept way hs);
   }
     where
       found_at : (q : List ℕ) (n : ℕ) → find q ≡ Some n → (key ≡ q) ⊎ (key ≡ q → ⊥) → (h : History) × (numbered (hs ++ entered ∷ []) n ≡ Some h) × (h.key ≡ q)

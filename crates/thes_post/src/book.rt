@@ -13,10 +13,11 @@ ghost use Rattle.thes_post.specs.Standing.{StandsAt, ListsStanding};
 
 use crate::histories::{history_at, judge_moving, judge_standing, place_of, push_moves_in};
 use crate::rising::{difference, is_rising, joined, sorted};
+use crate::way::moves_of;
 use std::alloc::{AllocError, Global};
 use std::collections::BTreeMap;
 use std::marker::Model;
-use thes_base::data::{History, Known, Moves, Totals};
+use thes_base::data::{History, Known, Totals};
 use thes_base::fault::Refusal;
 use thes_base::number::{PostNo, ResNo};
 use thes_base::text::{Key, RecordName};
@@ -97,17 +98,19 @@ impl Book {
         Ok(judge_moving(self.histories.as_slice(), source, postings))
     }
 
-    /// Accepts a posting of a new key.
+    /// Accepts a posting of a new key, and moves it along the way from its concept on.
     pub fn post(
         &mut self,
         key: &Key,
         rec: &RecordName,
         concept: ResNo,
+        way: &[ResNo],
     ) -> Result<PostNo, AllocError>
         requires fresh { (h : History) → ¬ IsOfKey key.now self.old h }
         requires fits { length self.old + 1 < 2 ^ 32 }
+        requires moves { move_count self.old + length way.now < 2 ^ 32 }
         ensures number { IfOk result (λ n. n ≡ length self.old + 1) }
-        ensures ok { OnOk result (self.new ≡ histories_posted key.now rec.now concept self.old) }
+        ensures ok { OnOk result (self.new ≡ histories_posted key.now rec.now concept way.now self.old) }
         ensures err { OnErr result (self.new ≡ self.old) }
     {
         let alloc = *self.histories.allocator();
@@ -117,13 +120,15 @@ impl Book {
             key: key.try_clone(alloc)?,
             rec: rec.try_clone(alloc)?,
             first: concept,
-            moves: Moves::new(alloc),
+            moves: moves_of(alloc, concept, way, u64::from(self.moves) + 1)?,
             withdrawn: false,
         };
+        let place = place_of(&history);
         self.histories.try_reserve(1)?;
-        self.standing.make_room(concept)?;
+        self.standing.make_room(place)?;
         self.numbers.insert(key.try_clone(alloc)?, number)?;
-        self.standing.insert(concept, number);
+        self.standing.insert(place, number);
+        self.moves += way.len() as u32;
         self.histories.push(history).unwrap();
         Ok(number)
     }

@@ -4,3 +4,4 @@
 pub mod book;
 mod histories;
 mod rising;
+mod way;

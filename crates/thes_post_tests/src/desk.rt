@@ -52,16 +52,27 @@ impl Desk {
 
     /// Posts a record at a concept under a key, unless the key is known.
     pub fn post(&mut self, key: &str, rec: &str, at: u32) -> Result<Answer, ReadStop> {
+        self.forward(key, rec, at, &[])
+    }
+
+    /// The same, with moves along the way from the concept on.
+    pub fn forward(
+        &mut self,
+        key: &str,
+        rec: &str,
+        at: u32,
+        way: &[ResNo],
+    ) -> Result<Answer, ReadStop> {
         let key = Key::read(self.alloc, key)?;
         let rec = RecordName::read(self.alloc, rec)?;
         let at = concept(at);
         if let Some(known) = self.book.judge_post(&key, &rec, at) {
             return Ok(told(known));
         }
-        if self.book.totals().accepted > 100 {
+        if self.book.totals().accepted > 100 || self.book.moves() > 100 || way.len() > 100 {
             return Ok(Answer::No(Refusal::TooMany));
         }
-        let number = self.book.post(&key, &rec, at)?;
+        let number = self.book.post(&key, &rec, at, way)?;
         Ok(Answer::Number(number.get()))
     }
 

@@ -92,6 +92,17 @@ fn a_merge_moves_what_stands(rt: HostRuntime) -> Result<(), Fail> {
     Ok(())
 }
 
+#[test]
+fn a_forwarded_posting_stands_at_the_end(rt: HostRuntime) -> Result<(), Fail> {
+    let mut desk = after(&rt, rt.alloc(), &MERGED)?;
+    let way = [concept(3), concept(4)];
+    assert_eq!(rt; desk.forward("k2", "r2", 2, &way)?, Number(2));
+    expect_moves(&rt, &desk, 2, &[(2, 2, 3), (3, 3, 4)]);
+    assert_eq!(rt; desk.moves(), 3);
+    assert_eq!(rt; desk.standing_at(4), [posting(2)].as_slice());
+    Ok(())
+}
+
 // Each fault is looked for in the whole list before the next.
 static LISTED: [(Step, Answer); 10] = [
     (Post("k1", "r1", 2), Number(1)),

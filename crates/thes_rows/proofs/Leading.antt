@@ -13,14 +13,14 @@ use Rattle.thes_base.specs.declared.data.Link.{Link}
 use Rattle.thes_base.specs.declared.data.LabelKind.TheVariants.{Pref, Alt}
 use Rattle.thes_base.specs.declared.request.Command.{Command}
 use Rattle.thes_base.specs.declared.request.Command.TheVariants as request
-use Rattle.thes_base.specs.Resources.{numbered, scheme_of, is_outside, CanOwn}
+use Rattle.thes_base.specs.Resources.{numbered, scheme_of, replacements, is_outside, CanOwn}
 use Rattle.thes_base.specs.Labels.{Label, Labels, label_cmp, preferred_in, HasLabel}
 use Rattle.thes_base.specs.Links.{Links, norm, without_node, contracted, HeldIn}
-use Rattle.thes_base.specs.Postings.{place, stands_at, move_count, withdraw}
+use Rattle.thes_base.specs.Postings.{stands_at, move_count, withdraw}
 use Rattle.thes_base.specs.State.{State}
 use Rattle.thes_base.specs.Legal.{Legal}
 use Rattle.thes_base.specs.Refusals.{Setting, IsOfKey}
-use Rattle.thes_base.specs.Changes.{label, made, outside_made, outside_resource, label_added, label_dropped, relabelled, renamed, deprecated, merged, split_off, posted, history_withdrawn, marked_dead, next_number, concept_resource, taken_labels, is_listed}
+use Rattle.thes_base.specs.Changes.{label, made, outside_made, outside_resource, label_added, label_dropped, relabelled, renamed, deprecated, merged, split_off, new_history, posted, history_withdrawn, marked_dead, next_number, concept_resource, taken_labels, is_listed}
 use Rattle.thes_base.specs.Machine.{HasNewKey, owned, link, next_state, row_of}
 use Rattle.thes_base.proofs.LabelSets.{labels_total, labels_exact}
 use Rattle.thes_base.proofs.LinkSets.{links_total}
@@ -33,9 +33,9 @@ use Rattle.thes_rows.specs.declared.rows.PostingRow.{PostingRow}
 use Rattle.thes_rows.specs.declared.rows.MoveRow.{MoveRow}
 use Rattle.thes_rows.specs.declared.change.Change.{Change}
 use Rattle.thes_rows.specs.declared.change.Change.TheVariants as change
-use Rattle.thes_rows.specs.Tables.{Tables, IsRowsOf, IsIn, Lists, IsLabelOf, AreIris, Ascends, posting_row}
+use Rattle.thes_rows.specs.Tables.{Tables, IsRowsOf, IsIn, Lists, IsLabelOf, AreIris, Ascends, Rises, posting_row}
 use Rattle.thes_rows.specs.Rows.{changed, all_changed, FitAll, without_row, with_posting, withdrawn_row, placed_row, moved_row}
-use Rattle.thes_rows.specs.Changes.{changes_of, changes_made, changes_relabelled, new_moves, add_link, drop_link, coming, links_changed}
+use Rattle.thes_rows.specs.Changes.{changes_of, changes_made, changes_relabelled, new_moves, move_row, add_link, drop_link, coming, links_changed}
 use Rattle.thes_rows.specs.Leads.{Leads}
 use Rattle.std.proofs.lemmas.List.{append-nil}
 use Rattle.std.proofs.lemmas.Bool.{cases_Bool}
@@ -43,7 +43,7 @@ use Rattle.thes_base.proofs.SetMembers.{inserted_cases, removed_cases}
 use Rattle.thes_rows.proofs.Sets.{in_append, clash, absent, inserted_union, coming_same, coming_absent, Absent, row_new, listed_push, listed_drop, listed_all}
 use Rattle.thes_rows.proofs.Steps.{all_append, fit_append}
 use Rattle.thes_rows.proofs.LinkRows.{LinkRows, links_of, relinked, added_only, dropped_only, link_in, link_out, link_fits, drop_fits, turned_only, turned_rows, turned_fit}
-use Rattle.thes_rows.proofs.MoveRows.{bounded, moves_more, moves_posted, moves_set, map_set, map_numbered, with_at, rows_moved, placed_all, NumberedFrom, numbered_from, rows_placed}
+use Rattle.thes_rows.proofs.MoveRows.{bounded, rises_new, rises_along, moves_more, moves_posted, moves_set, map_set, map_numbered, with_at, rows_moved, placed_all, NumberedFrom, numbered_from, rows_placed}
 
 -- Rows of outside.
 
@@ -88,19 +88,12 @@ fit_places [] t = tt
 fit_places (r ∷ rows) t = (tt, fit_places rows (record t { posting = with_posting (placed_row r.target) r.posting t.posting }))
 
 -- moves numbered onward from above those that are there
-fit_moves : (passes : History → Bool) (target number bound : ℕ) (hs : List History) (t : Tables) → ((row : MoveRow) → IsIn row t.move → row.number ≤ bound) → bound < number → FitAll (map change.AddMove (new_moves passes target number hs)) t
-fit_moves passes target number bound [] t below lt = tt
-fit_moves passes target number bound (h ∷ hs) t below lt = go (passes h) (λ u. fit_moves passes target (number + 1) number hs (record t { move = t.move ++ row ∷ [] }) more (omega arith)) (λ u. fit_moves passes target number bound hs t below lt)
+fit_moves : (bound : ℕ) (rows : List MoveRow) (t : Tables) → ((row : MoveRow) → IsIn row t.move → row.number ≤ bound) → Rises bound rows → FitAll (map change.AddMove rows) t
+fit_moves bound [] t below rises = tt
+fit_moves bound (row ∷ rows) t below rises = (λ other m. (let b = below other m in let lt = rises.0 in omega (arith, b, lt)), fit_moves row.number rows (record t { move = t.move ++ row ∷ [] }) more rises.1)
   where
-    row : MoveRow
-    row = record { number = number; posting = h.number; source = place h; target = target }
-
-    more : (other : MoveRow) → IsIn other (t.move ++ row ∷ []) → other.number ≤ number
-    more other m = elim (in_append other t.move (row ∷ []) m) [ inl old ↦ (let b = below other old in omega (arith, b, lt)) | inr new ↦ elim new [ inl e ↦ (let q = ap (λ (r : MoveRow). r.number) e in omega (arith, q)) | inr never ↦ absurd never ] ]
-
-    go : (b : Bool) → (Unit {0} → FitAll (map change.AddMove (new_moves passes target (number + 1) hs)) (record t { move = t.move ++ row ∷ [] })) → (Unit {0} → FitAll (map change.AddMove (new_moves passes target number hs)) t) → FitAll (map change.AddMove (cond b (row ∷ new_moves passes target (number + 1) hs) (new_moves passes target number hs))) t
-    go true a b = (λ other m. let c = below other m in omega (arith, c, lt), a tt)
-    go false a b = b tt
+    more : (other : MoveRow) → IsIn other (t.move ++ row ∷ []) → other.number ≤ row.number
+    more other m = elim (in_append other t.move (row ∷ []) m) [ inl old ↦ (let b = below other old in let lt = rises.0 in omega (arith, b, lt)) | inr new ↦ elim new [ inl e ↦ (let q = ap (λ (r : MoveRow). r.number) e in omega (arith, q)) | inr never ↦ absurd never ] ]
 
 -- Requests.
 
@@ -275,7 +268,7 @@ module _ (base : List ℕ) (s : State) (legal : Legal base s) where
         fit_append head tail t
         (fit_append (change.Replace source target ∷ adds) turns t (tt, fit_labels (coming s.labels taken) s.labels (dead t) is.label (coming_absent labels_total labels_exact taken s.labels))
         (subst (FitAll turns) (sym (labels_added_all (coming s.labels taken) (dead t))) (turned_fit s.links links_after (labelled t) (links_of (labelled_rows t is)))))
-        (subst (FitAll tail) (sym (head_done t)) (tt, fit_moves (stands_at source) target first_move (move_count s.histories) s.histories (record (linked t) { posting = map (moved_row source target) (linked t).posting }) (bounded s.resources s.histories legal.postings (linked t).move (linked_rows t is).move) (omega arith)));
+        (subst (FitAll tail) (sym (head_done t)) (tt, fit_moves (move_count s.histories) rows (record (linked t) { posting = map (moved_row source target) (linked t).posting }) (bounded s.resources s.histories legal.postings (linked t).move (linked_rows t is).move) (rises_new (stands_at source) target first_move (move_count s.histories) s.histories (omega arith))));
   }
     where
       taken : List Label
@@ -363,7 +356,7 @@ module _ (base : List ℕ) (s : State) (legal : Legal base s) where
     fit = λ t is.
         fit_append (makes ++ sets) moves t
         (fit_append makes sets t ((leads_made new tag text).fit t is) (fit_places rows (all_changed makes t)))
-        (subst (FitAll moves) (sym (places_set_all rows (with_new t))) (fit_moves (is_listed postings) (next_number s) first_move (move_count s.histories) s.histories (record (with_new t) { posting = placed_all rows t.posting }) (bounded s.resources s.histories legal.postings t.move is.move) (omega arith)));
+        (subst (FitAll moves) (sym (places_set_all rows (with_new t))) (fit_moves (move_count s.histories) rows (record (with_new t) { posting = placed_all rows t.posting }) (bounded s.resources s.histories legal.postings t.move is.move) (rises_new (is_listed postings) (next_number s) first_move (move_count s.histories) s.histories (omega arith))));
   }
     where
       new : Resource
@@ -397,7 +390,7 @@ module _ (base : List ℕ) (s : State) (legal : Legal base s) where
 
   pub leads_posted : (key rec : List ℕ) (concept : ℕ) → ((h : History) → ¬ IsOfKey key s.histories h) → Leads base (changes_of (request.Post key rec concept) s) s (posted key rec concept s)
   leads_posted key rec concept fresh = record {
-    rows = λ t is. record {
+    rows = λ t is. subst (IsRowsOf base (posted key rec concept s)) (sym (moves_added_all rows (entered t))) (record {
       base_is = is.base_is;
       resource = is.resource;
       outside = is.outside;
@@ -405,13 +398,25 @@ module _ (base : List ℕ) (s : State) (legal : Legal base s) where
       link = is.link;
       hier = is.hier;
       posting = ap (λ l. l ++ posting_row new ∷ []) is.posting ∙ sym (map-append posting_row s.histories (new ∷ []));
-      move = moves_posted s.histories new t.move refl is.move;
-    };
-    fit = λ t is. ((ap (λ n. n + 1) (sym (length_map s.histories)) ∙ ap (λ (l : List PostingRow). length l + 1) (sym is.posting), λ other m. key_free key fresh other (subst (IsIn other) is.posting m)), tt);
+      move = moves_posted s.resources s.histories legal.postings new refl t.move rising is.move;
+    });
+    fit = λ t is. (
+      (ap (λ n. n + 1) (sym (length_map s.histories)) ∙ ap (λ (l : List PostingRow). length l + 1) (sym is.posting), λ other m. key_free key fresh other (subst (IsIn other) is.posting m)),
+      fit_moves (move_count s.histories) rows (entered t) (bounded s.resources s.histories legal.postings t.move is.move) rising,
+    );
   }
     where
       new : History
-      new = record { number = length s.histories + 1; key = key; rec = rec; first = concept; moves = []; withdrawn = false }
+      new = new_history key rec concept (replacements s.resources concept) s.histories
+
+      rows : List MoveRow
+      rows = map (move_row new.number) new.moves
+
+      rising : Rises (move_count s.histories) rows
+      rising = rises_along new.number (move_count s.histories) first_move concept (replacements s.resources concept) (omega arith)
+
+      entered : Tables → Tables
+      entered t = record t { posting = t.posting ++ posting_row new ∷ [] }
 
       length_map : (hs : List History) → length (map posting_row hs) ≡ length hs
       length_map [] = refl

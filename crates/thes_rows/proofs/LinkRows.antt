@@ -25,7 +25,7 @@ use Rattle.thes_rows.proofs.Steps.{all_append, fit_append}
 
 -- Rows of hier and the links that they tell.
 
-type_back : (typ : HierType) → hier_type (hier_kind typ) ≡ Some typ
+pub type_back : (typ : HierType) → hier_type (hier_kind typ) ≡ Some typ
 type_back ht.Untyped = refl
 type_back ht.Generic = refl
 type_back ht.Partitive = refl
@@ -45,7 +45,7 @@ kind_back kinds.RelMatch typ e = absurd (cc)
 kind_back kinds.Member typ e = absurd (cc)
 
 -- the row of a hierarchical link tells it, and no other row does
-told : (l : Link) (typ : HierType) → hier_type l.kind ≡ Some typ → hier_link (hier_row typ l) ≡ l
+pub told : (l : Link) (typ : HierType) → hier_type l.kind ≡ Some typ → hier_link (hier_row typ l) ≡ l
 told l typ e = λ i. record { kind = kind_back l.kind typ e i; a = l.a; b = l.b }
 
 only_row : (l : Link) (typ : HierType) (row : HierRow) → hier_type l.kind ≡ Some typ → hier_link row ≡ l → row ≡ hier_row typ l

@@ -18,22 +18,22 @@ use Rattle.thes_rows.specs.declared.rows.MoveRow.{MoveRow}
 use Rattle.thes_rows.specs.Tables.{Tables}
 use Rattle.thes_rows.specs.Cells.{Raw, number_cell, flag_cell, optional_cell, resource_kind_no, resource_cells, resource_rows, outside_cells, label_cells, link_cells, hier_type_no, hier_cells, posting_cells, move_cells, listed}
 
-head_one : {A : Type 0} {x y : A} {xs ys : List A} → x ∷ xs ≡ y ∷ ys → x ≡ y
+pub head_one : {A : Type 0} {x y : A} {xs ys : List A} → x ∷ xs ≡ y ∷ ys → x ≡ y
 head_one e = cc
 
-tail_one : {A : Type 0} {x y : A} {xs ys : List A} → x ∷ xs ≡ y ∷ ys → xs ≡ ys
+pub tail_one : {A : Type 0} {x y : A} {xs ys : List A} → x ∷ xs ≡ y ∷ ys → xs ≡ ys
 tail_one e = cc
 
-map_one : {A B : Type 0} (f : A → B) → ((x y : A) → f x ≡ f y → x ≡ y) → (xs ys : List A) → map f xs ≡ map f ys → xs ≡ ys
+pub map_one : {A B : Type 0} (f : A → B) → ((x y : A) → f x ≡ f y → x ≡ y) → (xs ys : List A) → map f xs ≡ map f ys → xs ≡ ys
 map_one f one [] [] e = refl
 map_one f one [] (y ∷ ys) e = absurd (cc)
 map_one f one (x ∷ xs) [] e = absurd (cc)
 map_one f one (x ∷ xs) (y ∷ ys) e = λ i. one x y (head_one e) i ∷ map_one f one xs ys (tail_one e) i
 
-number_one : {m n : ℕ} → number_cell m ≡ number_cell n → m ≡ n
+pub number_one : {m n : ℕ} → number_cell m ≡ number_cell n → m ≡ n
 number_one e = cc
 
-text_one : {x y : List ℕ} → ◌≡◌ {A = Cell} (Text x) (Text y) → x ≡ y
+pub text_one : {x y : List ℕ} → ◌≡◌ {A = Cell} (Text x) (Text y) → x ≡ y
 text_one e = cc
 
 flag_one : (a b : Bool) → flag_cell a ≡ flag_cell b → a ≡ b
@@ -66,16 +66,16 @@ resource_one m n r q e =
     let replaced = optional_one r.replaced q.replaced (head_one (tail_one (tail_one (tail_one (tail_one e))))) in
     λ i. record { kind = kind i; scheme = scheme i; live = live i; replaced = replaced i }
 
-resources_one : (m n : ℕ) (rs qs : List Resource) → resource_rows m rs ≡ resource_rows n qs → rs ≡ qs
+pub resources_one : (m n : ℕ) (rs qs : List Resource) → resource_rows m rs ≡ resource_rows n qs → rs ≡ qs
 resources_one m n [] [] e = refl
 resources_one m n [] (q ∷ qs) e = absurd (cc)
 resources_one m n (r ∷ rs) [] e = absurd (cc)
 resources_one m n (r ∷ rs) (q ∷ qs) e = λ i. resource_one m n r q (head_one e) i ∷ resources_one (m + 1) (n + 1) rs qs (tail_one e) i
 
-outside_one : (x y : ℕ × List ℕ) → outside_cells x ≡ outside_cells y → x ≡ y
+pub outside_one : (x y : ℕ × List ℕ) → outside_cells x ≡ outside_cells y → x ≡ y
 outside_one x y e = λ i. (number_one (head_one e) i, text_one (head_one (tail_one e)) i)
 
-label_one : (x y : Label) → label_cells x ≡ label_cells y → x ≡ y
+pub label_one : (x y : Label) → label_cells x ≡ label_cells y → x ≡ y
 label_one x y e =
     let owner = number_one (head_one e) in
     let kind = labels.same_kind x.kind y.kind (number_one (head_one (tail_one e))) in
@@ -83,7 +83,7 @@ label_one x y e =
     let text = text_one (head_one (tail_one (tail_one (tail_one e)))) in
     λ i. record { owner = owner i; kind = kind i; tag = tag i; text = text i }
 
-link_one : (x y : Link) → link_cells x ≡ link_cells y → x ≡ y
+pub link_one : (x y : Link) → link_cells x ≡ link_cells y → x ≡ y
 link_one x y e =
     let kind = links.same_kind x.kind y.kind (number_one (head_one e)) in
     let a = number_one (head_one (tail_one e)) in
@@ -100,14 +100,14 @@ hier_typ_is ht.Generic = refl
 hier_typ_is ht.Partitive = refl
 hier_typ_is ht.Instantial = refl
 
-hier_one : (x y : HierRow) → hier_cells x ≡ hier_cells y → x ≡ y
+pub hier_one : (x y : HierRow) → hier_cells x ≡ hier_cells y → x ≡ y
 hier_one x y e =
     let a = number_one (head_one e) in
     let b = number_one (head_one (tail_one e)) in
     let typ = sym (hier_typ_is x.typ) ∙ ap hier_typ (number_one (head_one (tail_one (tail_one e)))) ∙ hier_typ_is y.typ in
     λ i. record { a = a i; b = b i; typ = typ i }
 
-posting_one : (x y : PostingRow) → posting_cells x ≡ posting_cells y → x ≡ y
+pub posting_one : (x y : PostingRow) → posting_cells x ≡ posting_cells y → x ≡ y
 posting_one x y e =
     let number = number_one (head_one e) in
     let key = text_one (head_one (tail_one e)) in
@@ -117,7 +117,7 @@ posting_one x y e =
     let withdrawn = flag_one x.withdrawn y.withdrawn (head_one (tail_one (tail_one (tail_one (tail_one (tail_one e)))))) in
     λ i. record { number = number i; key = key i; rec = rec i; first = first i; place = place i; withdrawn = withdrawn i }
 
-move_one : (x y : MoveRow) → move_cells x ≡ move_cells y → x ≡ y
+pub move_one : (x y : MoveRow) → move_cells x ≡ move_cells y → x ≡ y
 move_one x y e =
     let number = number_one (head_one e) in
     let posting = number_one (head_one (tail_one e)) in

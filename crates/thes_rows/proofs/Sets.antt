@@ -1,5 +1,5 @@
 -- Sets that change element by element.
-use Rattle.std.proofs.Common.{◌≡◌, ◌⊎◌, List, [], ◌∷◌, ◌++◌, refl, sym, ap, ◌∙◌, subst, inl, inr, Bool, true, false, not, ◌&&◌, cond, append_assoc}
+use Rattle.std.proofs.Common.{◌≡◌, ◌⊎◌, List, [], ◌∷◌, ◌++◌, map, refl, sym, ap, ◌∙◌, subst, inl, inr, Bool, true, false, not, ◌&&◌, cond, append_assoc}
 use Rattle.std.proofs.lemmas.Bool.{cases_Bool, or_cases, or_left, or_right, not-true, not_from_false}
 use Rattle.std.proofs.lemmas.List.{append-nil}
 use Rattle.std.specs.Prelude.{filter}
@@ -61,6 +61,16 @@ pub append_right : {A : Type 0} (x : A) (xs ys : List A) → IsIn x ys → IsIn 
 append_right x [] ys h = h
 append_right x (y ∷ xs) ys h = inr (append_right x xs ys h)
 
+pub in_map : {A B : Type 0} (f : A → B) (y : B) (xs : List A) → IsIn y (map f xs) → (x : A) × IsIn x xs × (y ≡ f x)
+in_map f y [] h = absurd h
+in_map f y (x ∷ xs) (inl e) = (x, inl refl, e)
+in_map f y (x ∷ xs) (inr h) = let later = in_map f y xs h in (later.0, inr later.1, later.2)
+
+pub map_in : {A B : Type 0} (f : A → B) (x : A) (xs : List A) → IsIn x xs → IsIn (f x) (map f xs)
+map_in f x [] h = absurd h
+map_in f x (y ∷ xs) (inl e) = inl (ap f e)
+map_in f x (y ∷ xs) (inr h) = inr (map_in f x xs h)
+
 once_filter : {A : Type 0} (test : A → Bool) (xs : List A) → Once xs → Once (filter test xs)
 once_filter test [] once = tt
 once_filter {A} test (x ∷ xs) once = go (once_filter test xs once.1) (test x)
@@ -103,11 +113,11 @@ module _ {K : Type 0} {R : K → K → Ordering} (o : IsTotalOrder R) (exact : I
   itself : (x : K) → eq_by_cmp R x x ≡ true
   itself x = ap is_eq (tied_itself o x)
 
-  in_any : (q : K) (ks : List K) → list_any (eq_by_cmp R q) ks ≡ true → IsIn q ks
+  pub in_any : (q : K) (ks : List K) → list_any (eq_by_cmp R q) ks ≡ true → IsIn q ks
   in_any q [] e = absurd (cc)
   in_any q (k ∷ ks) e = elim (or_cases _ _ e) [ inl same ↦ inl (tied q k same) | inr rest ↦ inr (in_any q ks rest) ]
 
-  any_in : (q : K) (ks : List K) → IsIn q ks → list_any (eq_by_cmp R q) ks ≡ true
+  pub any_in : (q : K) (ks : List K) → IsIn q ks → list_any (eq_by_cmp R q) ks ≡ true
   any_in q [] h = absurd h
   any_in q (k ∷ ks) (inl same) = or_left _ _ (ap (eq_by_cmp R q) (sym same) ∙ itself q)
   any_in q (k ∷ ks) (inr rest) = or_right _ _ (any_in q ks rest)

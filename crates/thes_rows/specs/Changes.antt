@@ -1,25 +1,26 @@
 -- The changes that each request makes.
-use Rattle.std.specs.Prelude.{ℕ, List, [], ◌∷◌, ◌+◌, ◌++◌, length, map, filter, Bool, not, Some, None, false, if◌then◌else◌}
+use Rattle.std.specs.Prelude.{ℕ, List, [], ◌∷◌, ◌+◌, ◌++◌, map, filter, Bool, not, Some, None, if◌then◌else◌}
 use Rattle.std.specs.declared.cmp.Ordering.{Ordering}
 use Rattle.std.specs.FinSet as set
 use Rattle.std.specs.FinSet.{FinSet}
 use Rattle.thes_base.specs.declared.data.Link.{Link}
 use Rattle.thes_base.specs.declared.data.Resource.{Resource}
 use Rattle.thes_base.specs.declared.data.History.{History}
+use Rattle.thes_base.specs.declared.data.Move.{Move}
 use Rattle.thes_base.specs.declared.data.LabelKind.TheVariants.{Pref, Alt}
 use Rattle.thes_base.specs.declared.request.Command.{Command}
 use Rattle.thes_base.specs.declared.request.Command.TheVariants as request
-use Rattle.thes_base.specs.Resources.{scheme_of, is_outside}
+use Rattle.thes_base.specs.Resources.{scheme_of, is_outside, replacements}
 use Rattle.thes_base.specs.Labels.{Labels, preferred_in}
 use Rattle.thes_base.specs.Links.{Links, norm, without_node, contracted}
 use Rattle.thes_base.specs.Postings.{place, stands_at, move_count}
 use Rattle.thes_base.specs.State.{State}
-use Rattle.thes_base.specs.Changes.{label, next_number, scheme_resource, concept_resource, collection_resource, outside_resource, taken_labels, is_listed}
+use Rattle.thes_base.specs.Changes.{label, next_number, scheme_resource, concept_resource, collection_resource, outside_resource, taken_labels, is_listed, new_history}
 use Rattle.thes_base.specs.Machine.{owned, link}
 use Rattle.thes_rows.specs.declared.rows.HierRow.{HierRow}
 use Rattle.thes_rows.specs.declared.rows.HierType.{HierType}
 use Rattle.thes_rows.specs.declared.rows.MoveRow.{MoveRow}
-use Rattle.thes_rows.specs.Tables.{hier_type}
+use Rattle.thes_rows.specs.Tables.{hier_type, posting_row}
 use Rattle.thes_rows.specs.declared.change.Change.{Change}
 use Rattle.thes_rows.specs.declared.change.Change.TheVariants as change
 
@@ -28,6 +29,10 @@ abbrev pub new_moves : (History → Bool) → ℕ → ℕ → List History → L
 new_moves passes target number [] = []
 new_moves passes target number (h ∷ hs) =
     if passes h then record { number = number; posting = h.number; source = place h; target = target } ∷ new_moves passes target (number + 1) hs else new_moves passes target number hs
+
+-- the row of a posting's move
+abbrev pub move_row : ℕ → Move → MoveRow
+move_row posting m = record { number = m.number; posting = posting; source = m.source; target = m.target }
 
 -- a resource with its preferred label
 abbrev pub changes_made : Resource → List ℕ → List ℕ → State → List Change
@@ -84,5 +89,7 @@ changes_of (request.Merge source target) s =
 changes_of (request.Split source tag text postings) s =
     let moves = new_moves (is_listed postings) (next_number s) (move_count s.histories + 1) s.histories in
     changes_made (concept_resource (scheme_of s.resources source)) tag text s ++ map (λ (m : MoveRow). change.SetPlace m.posting m.target) moves ++ map change.AddMove moves
-changes_of (request.Post key rec concept) s = change.AddPosting (record { number = length s.histories + 1; key = key; rec = rec; first = concept; place = concept; withdrawn = false }) ∷ []
+changes_of (request.Post key rec concept) s =
+    let h = new_history key rec concept (replacements s.resources concept) s.histories in
+    change.AddPosting (posting_row h) ∷ map change.AddMove (map (move_row h.number) h.moves)
 changes_of (request.Withdraw posting) s = change.Withdraw posting ∷ []

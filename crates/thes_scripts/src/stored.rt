@@ -33,14 +33,29 @@ impl<'a> Stored<'a> {
     fn take(&mut self, line: &str) -> Result<(), AllocError> {
         if let Some(request) = line.strip_prefix("> ") {
             push_line(&mut self.requests, request)
-        } else if let Some(number) = line.strip_prefix("! postings ") {
-            self.limits.postings = number.parse().unwrap_or(0);
-            Ok(())
-        } else if line.is_empty() || line.starts_with('#') {
+        } else if line.is_empty() || line.starts_with('#') || self.take_limit(line) {
             Ok(())
         } else {
             push_line(&mut self.answers, line)
         }
+    }
+
+    // Takes a line that names a limit and its number, and says whether it is one.
+    fn take_limit(&mut self, line: &str) -> bool {
+        let Some(words) = line.strip_prefix("! ") else {
+            return false;
+        };
+        let (name, number) = words.split_once(' ').unwrap_or((words, ""));
+        let number = number.parse().unwrap_or(0);
+        match name {
+            "resources" => self.limits.resources = number,
+            "labels" => self.limits.labels = number,
+            "links" => self.limits.links = number,
+            "postings" => self.limits.postings = number,
+            "moves" => self.limits.moves = number,
+            _ => return false,
+        }
+        true
     }
 }
 

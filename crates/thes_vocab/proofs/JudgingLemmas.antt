@@ -1,16 +1,10 @@
 -- When a label more, one less, or another name breaks a condition on labels.
-use Rattle.std.proofs.Common.{◌≡◌, ◌≢◌, ◌⊎◌, ◌≤◌, inl, inr, ℕ, ◌+◌, length, List, [], ◌∷◌, ◌++◌, refl, sym, ap, ◌∙◌, subst, Bool, true, false, ◌||◌, eqb-true, eq-eqb, Bor}
-use Rattle.std.specs.Prelude.{Option, None, Some, find, option_map, if◌then◌else◌, ◌==◌}
+use Rattle.std.proofs.Common.{◌≡◌, ◌≢◌, ◌⊎◌, ◌≤◌, inl, inr, ℕ, ◌+◌, length, List, [], ◌∷◌, ◌++◌, refl, sym, ap, ◌∙◌, subst, Bool, true, false, Bor}
+use Rattle.std.specs.Prelude.{Option, None, Some}
 use Rattle.std.specs.Option.{MatchOption, is_some}
 use Rattle.std.specs.Bool.{MatchBool}
-use Rattle.std.specs.Ordering.{nat_cmp, eq_by_cmp, is_eq}
-use Rattle.std.specs.Cmp.{tied_itself, Equal-is}
-use Rattle.std.specs.Cmp.Lexicographic.{slice_cmp}
-use Rattle.std.specs.List.{list_any}
 use Rattle.std.specs.FinSet as set
-use Rattle.std.proofs.lemmas.Cmp.{nat_list_cmp_total}
-use Rattle.std.proofs.lemmas.Map.Lookups.{exact_bytes}
-use Rattle.std.proofs.lemmas.Bool.{or_cases, or_left, or_right, true≢false, and_from}
+use Rattle.std.proofs.lemmas.Bool.{or_cases, true≢false}
 use Rattle.thes_base.specs.declared.data.Resource.{Resource}
 use Rattle.thes_base.specs.declared.data.LabelKind.{LabelKind}
 use Rattle.thes_base.specs.declared.data.LabelKind.TheVariants.{Pref, Alt, Hidden, Scope}
@@ -18,104 +12,37 @@ use Rattle.thes_base.specs.declared.data.LabelValue.{LabelValue}
 use Rattle.thes_base.specs.declared.data.LabelValue.TheVariants as values
 use Rattle.thes_base.specs.Data.{kind_of}
 use Rattle.thes_base.specs.Resources.{IsLiveConcept, IsScheme, Exists, scheme_of}
-use Rattle.thes_base.specs.Labels.{Label, Labels, label_cmp, label_kind_no, HasLabel, is_name, is_preferred_in, preferred_in, S13, S14, UniquePreferred, IsTaken}
+use Rattle.thes_base.specs.Labels.{Label, Labels, HasLabel, is_name, preferred_in, S13, S14, UniquePreferred, IsTaken}
 use Rattle.thes_base.specs.declared.fault.Refusal.{Refusal}
 use Rattle.thes_base.specs.declared.fault.Refusal.TheVariants as no
 use Rattle.thes_base.specs.Rows.{accepted}
 use Rattle.thes_base.specs.Legal.{LegalLabels}
 use Rattle.thes_base.specs.Changes.{label, concept_resource, has_name, renamed, labels_relabelled}
 use Rattle.thes_base.specs.Refusals.{LeavesPreferred, unless_relabelled, unless_scheme, unless_unique}
-use Rattle.thes_base.proofs.LabelSets.{labels_total, labels_exact, inserted_cases, inserted_kept, inserted_new}
+use Rattle.thes_base.proofs.LabelSets.{inserted_cases, inserted_kept, inserted_new, same_or_not as same_label_or_not}
+use Rattle.thes_base.proofs.MergedLabels.{name_of}
+use Rattle.thes_base.proofs.PreferredLemmas.{preferred_found, preferred_of_label}
+use Rattle.thes_base.proofs.Renamed.{IsOfRenamed, renamed_cases, renamed_fresh, renamed_old, renamed_kept}
 use Rattle.thes_base.proofs.Uniqueness.{made_unique, taken_breaks}
 use Rattle.thes_base.proofs.ConditionLemmas.{owner_exists}
 use Rattle.thes_base.proofs.NumberedLemmas.{numbered_bound}
-use Rattle.thes_base.proofs.LabelsKept.{removed_cases, removed_kept}
-use Rattle.thes_base.proofs.ResourceLemmas.{same_or_not, left_true, right_true}
+use Rattle.thes_base.proofs.ResourceLemmas.{same_or_not}
 use Rattle.std.proofs.lemmas.Option.{same_Some}
 use Rattle.thes_vocab.specs.Vocabulary.{IsHolder}
 use Rattle.thes_vocab.specs.Rivals.{HasRival, HasTwoPreferred, Clashes}
 
-tied : (x y : Label) → eq_by_cmp label_cmp x y ≡ true → x ≡ y
-tied x y e = labels_exact x y ((Equal-is (label_cmp x y)).0 e)
-
-ties : (x y : Label) → x ≡ y → eq_by_cmp label_cmp x y ≡ true
-ties x y e = ap (λ z. eq_by_cmp label_cmp x z) (sym e) ∙ ap is_eq (tied_itself labels_total x)
-
-pub same_label : (x y : Label) → (x ≡ y) ⊎ (x ≢ y)
-same_label x y = go (eq_by_cmp label_cmp x y) refl
+-- what a look-up answers is the preferred label
+pub preferred_is : (labels : Labels) (owner : ℕ) (tag : List ℕ) → S14 labels → (o : Option (List ℕ)) → MatchOption o ((text : List ℕ) → HasLabel labels owner Pref tag text → ⊥) (HasLabel labels owner Pref tag) → o ≡ preferred_in labels owner tag
+preferred_is labels owner tag s14 o h = go (preferred_in labels owner tag) refl o h
   where
-    go : (b : Bool) → eq_by_cmp label_cmp x y ≡ b → (x ≡ y) ⊎ (x ≢ y)
-    go true e = inl (tied x y e)
-    go false e = inr (λ same. true≢false (sym (ties x y same) ∙ e))
+    never : {x : List ℕ} → preferred_in labels owner tag ≡ None → preferred_in labels owner tag ≡ Some x → ⊥
+    never {x} e f = let g = sym e ∙ f in cc
 
--- The preferred label in a language.
-
-find_step : (p : Label → Bool) (l : Label) (ls : List Label) (b : Bool) → p l ≡ b → find p (l ∷ ls) ≡ (if b then Some l else find p ls)
-find_step p l ls b e = ap (λ c. if c then Some l else find p ls) e
-
-none_step : (p : Label → Bool) (l : Label) (ls : List Label) → find p (l ∷ ls) ≡ None → (p l ≡ false) × (find p ls ≡ None)
-none_step p l ls e = go (p l) refl
-  where
-    go : (b : Bool) → p l ≡ b → (p l ≡ false) × (find p ls ≡ None)
-    go true hit = absurd (never (sym (find_step p l ls true hit) ∙ e))
-      where
-        never : Some l ≡ None → ⊥
-        never f = cc
-    go false miss = (miss, sym (find_step p l ls false miss) ∙ e)
-
-find_none : (p : Label → Bool) (ls : List Label) → find p ls ≡ None → (q : Label) → p q ≡ true → list_any (eq_by_cmp label_cmp q) ls ≡ true → ⊥
-find_none p [] e q hit held = cc
-find_none p (l ∷ ls) e q hit held = elim (or_cases _ _ held) [
-  | inl same ↦ true≢false (sym (ap p (sym (tied q l same)) ∙ hit) ∙ (none_step p l ls e).0)
-  | inr later ↦ find_none p ls (none_step p l ls e).1 q hit later
-]
-
-find_some : (p : Label → Bool) (ls : List Label) (f : Label) → find p ls ≡ Some f → (p f ≡ true) × (list_any (eq_by_cmp label_cmp f) ls ≡ true)
-find_some p [] f e = absurd (cc)
-find_some p (l ∷ ls) f e = go (find_some p ls f) (p l) refl
-  where
-    go : (find p ls ≡ Some f → (p f ≡ true) × (list_any (eq_by_cmp label_cmp f) ls ≡ true)) → (b : Bool) → p l ≡ b → (p f ≡ true) × (list_any (eq_by_cmp label_cmp f) (l ∷ ls) ≡ true)
-    go later true hit = let same = same_Some _ _ (sym (find_step p l ls true hit) ∙ e) in (ap p (sym same) ∙ hit, or_left _ _ (ties f l (sym same)))
-    go later false miss = let found = later (sym (find_step p l ls false miss) ∙ e) in (found.0, or_right (eq_by_cmp label_cmp f l) _ found.1)
-
-is_pref : (k : LabelKind) → (label_kind_no k == 1) ≡ true → k ≡ Pref
-is_pref Pref e = refl
-is_pref Alt e = absurd (cc)
-is_pref Hidden e = absurd (cc)
-is_pref Scope e = absurd (cc)
-
-preferred_test : (owner : ℕ) (tag text : List ℕ) → is_preferred_in owner tag (label owner Pref tag text) ≡ true
-preferred_test owner tag text = and_from (owner == owner) _ (eq-eqb owner owner refl) (ap is_eq (tied_itself nat_list_cmp_total tag))
-
-tested_preferred : (owner : ℕ) (tag : List ℕ) (l : Label) → is_preferred_in owner tag l ≡ true → l ≡ label owner Pref tag l.text
-tested_preferred owner tag l e =
-    let o = eqb-true l.owner owner (left_true (l.owner == owner) _ e) in
-    let rest = right_true (l.owner == owner) _ e in
-    let k = is_pref l.kind (left_true (label_kind_no l.kind == 1) _ rest) in
-    let t = exact_bytes l.tag tag ((Equal-is (slice_cmp nat_cmp l.tag tag)).0 (right_true (label_kind_no l.kind == 1) _ rest)) in
-    λ i. label (o i) (k i) (t i) l.text
-
-module _ (labels : Labels) (owner : ℕ) (tag : List ℕ) where
-  pub preferred_has : (text : List ℕ) → preferred_in labels owner tag ≡ Some text → HasLabel labels owner Pref tag text
-  preferred_has text e = go (find (is_preferred_in owner tag) (set.items labels)) refl e
-    where
-      go : (o : Option Label) → find (is_preferred_in owner tag) (set.items labels) ≡ o → option_map (λ (l : Label). l.text) o ≡ Some text → HasLabel labels owner Pref tag text
-      go None is f = absurd (cc)
-      go (Some l) is f =
-          let found = find_some (is_preferred_in owner tag) (set.items labels) l is in
-          let held = set.contains-items labels l ∙ found.1 in
-          let same = tested_preferred owner tag l found.0 in
-          subst (λ (x : Label). set.contains labels x ≡ true) (same ∙ ap (label owner Pref tag) (same_Some _ _ f)) held
-
-  -- what a look-up answers is the preferred label
-  pub preferred_is : S14 labels → (o : Option (List ℕ)) → MatchOption o ((text : List ℕ) → HasLabel labels owner Pref tag text → ⊥) (HasLabel labels owner Pref tag) → o ≡ preferred_in labels owner tag
-  preferred_is s14 o h = go (find (is_preferred_in owner tag) (set.items labels)) refl o h
-    where
-      go : (f : Option Label) → find (is_preferred_in owner tag) (set.items labels) ≡ f → (o : Option (List ℕ)) → MatchOption o ((text : List ℕ) → HasLabel labels owner Pref tag text → ⊥) (HasLabel labels owner Pref tag) → o ≡ option_map (λ (l : Label). l.text) f
-      go None is None h = refl
-      go None is (Some text) h = absurd (find_none (is_preferred_in owner tag) (set.items labels) is (label owner Pref tag text) (preferred_test owner tag text) (sym (set.contains-items labels (label owner Pref tag text)) ∙ h))
-      go (Some l) is None h = absurd (h l.text (preferred_has l.text (ap (option_map (λ (x : Label). x.text)) is)))
-      go (Some l) is (Some text) h = ap Some (s14 owner tag text l.text h (preferred_has l.text (ap (option_map (λ (x : Label). x.text)) is)))
+    go : (p : Option (List ℕ)) → preferred_in labels owner tag ≡ p → (o : Option (List ℕ)) → MatchOption o ((text : List ℕ) → HasLabel labels owner Pref tag text → ⊥) (HasLabel labels owner Pref tag) → o ≡ p
+    go None is None h = refl
+    go None is (Some text) h = absurd (never is (preferred_of_label labels owner tag text h).1)
+    go (Some x) is None h = absurd (h x (preferred_found labels owner tag x is))
+    go (Some x) is (Some text) h = ap Some (s14 owner tag text x h (preferred_found labels owner tag x is))
 
 -- Owners are numbers of resources.
 pub owners_bound : (rs : List Resource) (labels : Labels) → LegalLabels rs labels → (l : Label) → set.contains labels l ≡ true → (1 ≤ l.owner) × (l.owner ≤ length rs)
@@ -128,12 +55,6 @@ named_by labels owner tag text e = elim (or_cases _ _ e) [
   | inl first ↦ elim (or_cases _ _ first) [ inl pref ↦ (Pref, refl, pref) | inr alt ↦ (Alt, refl, alt) ]
   | inr hidden ↦ (Hidden, refl, hidden)
 ]
-
-pub name_of : (labels : Labels) (owner : ℕ) (k : LabelKind) (tag text : List ℕ) → is_name k ≡ true → HasLabel labels owner k tag text → has_name labels owner tag text ≡ true
-name_of labels owner Pref tag text n h = or_left _ _ (or_left _ _ h)
-name_of labels owner Alt tag text n h = or_left _ _ (or_right (set.contains labels (label owner Pref tag text)) _ h)
-name_of labels owner Hidden tag text n h = or_right (set.contains labels (label owner Pref tag text) || set.contains labels (label owner Alt tag text)) _ h
-name_of labels owner Scope tag text n h = absurd (cc)
 
 -- One label more.
 
@@ -203,7 +124,7 @@ module _ (labels : Labels) (l : Label) where
 -- One label less.
 
 pub leaves_of_two : (labels : Labels) (l : Label) → HasTwoPreferred labels l.owner → LeavesPreferred labels l
-leaves_of_two labels l two = elim (same_label (label l.owner Pref two.first_tag two.first_text) l) [
+leaves_of_two labels l two = elim (same_label_or_not (label l.owner Pref two.first_tag two.first_text) l) [
   | inl same ↦ inr (two.second_tag, two.second_text, two.second, λ e. two.apart (same ∙ sym e))
   | inr apart ↦ inr (two.first_tag, two.first_text, two.first, apart)
 ]
@@ -211,47 +132,14 @@ leaves_of_two labels l two = elim (same_label (label l.owner Pref two.first_tag 
 -- Another name in place of the old one.
 
 module _ (labels : Labels) (owner : ℕ) (tag text old : List ℕ) (keep : Bool) where
-  abbrev was : Label
-  was = label owner Pref tag old
-
-  abbrev fresh : Label
-  fresh = label owner Pref tag text
-
-  abbrev kept : Label
-  kept = label owner Alt tag old
-
   abbrev after : Labels
   after = renamed owner tag text keep old labels
 
-  pub renamed_cases : (q : Label) → set.contains after q ≡ true → (q ≡ fresh) ⊎ ((keep ≡ true) × (q ≡ kept)) ⊎ ((q ≢ was) × (set.contains labels q ≡ true))
-  renamed_cases q = go keep
-    where
-      base_cases : (b : Bool) → set.contains (set.insert (set.remove labels was) fresh) q ≡ true → (q ≡ fresh) ⊎ ((b ≡ true) × (q ≡ kept)) ⊎ ((q ≢ was) × (set.contains labels q ≡ true))
-      base_cases b e = elim (inserted_cases (set.remove labels was) fresh q e) [ inl is ↦ inl is | inr before ↦ inr (inr (removed_cases labels was q before)) ]
+  at_fresh : set.contains after (label owner Pref tag text) ≡ true
+  at_fresh = renamed_fresh labels owner tag text old keep
 
-      go : (b : Bool) → set.contains (if b then set.insert (set.insert (set.remove labels was) fresh) kept else set.insert (set.remove labels was) fresh) q ≡ true → (q ≡ fresh) ⊎ ((b ≡ true) × (q ≡ kept)) ⊎ ((q ≢ was) × (set.contains labels q ≡ true))
-      go true e = elim (inserted_cases (set.insert (set.remove labels was) fresh) kept q e) [ inl is ↦ inr (inl (refl, is)) | inr before ↦ base_cases true before ]
-      go false e = base_cases false e
-
-  renamed_has : (q : Label) → set.contains (set.insert (set.remove labels was) fresh) q ≡ true → set.contains after q ≡ true
-  renamed_has q h = go keep
-    where
-      go : (b : Bool) → set.contains (if b then set.insert (set.insert (set.remove labels was) fresh) kept else set.insert (set.remove labels was) fresh) q ≡ true
-      go true = inserted_kept (set.insert (set.remove labels was) fresh) kept q h
-      go false = h
-
-  pub renamed_fresh : set.contains after fresh ≡ true
-  renamed_fresh = renamed_has fresh (inserted_new (set.remove labels was) fresh)
-
-  pub renamed_old : (q : Label) → q ≢ was → set.contains labels q ≡ true → set.contains after q ≡ true
-  renamed_old q apart held = renamed_has q (inserted_kept (set.remove labels was) fresh q (removed_kept labels was q apart held))
-
-  renamed_kept : keep ≡ true → set.contains after kept ≡ true
-  renamed_kept e = go keep e
-    where
-      go : (b : Bool) → b ≡ true → set.contains (if b then set.insert (set.insert (set.remove labels was) fresh) kept else set.insert (set.remove labels was) fresh) kept ≡ true
-      go true e = inserted_new (set.insert (set.remove labels was) fresh) kept
-      go false e = absurd (cc)
+  stays : (q : Label) → q ≢ label owner Pref tag old → set.contains labels q ≡ true → set.contains after q ≡ true
+  stays = renamed_old labels owner tag text old keep
 
   abbrev Clashing : Type 0
   Clashing = Clashes labels owner tag text old keep
@@ -263,15 +151,15 @@ module _ (labels : Labels) (owner : ℕ) (tag text old : List ℕ) (keep : Bool)
   not_hidden e = cc
 
   pub renamed_breaks_s13 : Clashing → S13 after → ⊥
-  renamed_breaks_s13 (inl alt) s13 = not_alt (s13 owner Alt Pref tag text refl refl (renamed_old (label owner Alt tag text) (λ e. not_alt (ap (λ (l : Label). l.kind) e)) alt) renamed_fresh)
-  renamed_breaks_s13 (inr (inl hidden)) s13 = not_hidden (s13 owner Hidden Pref tag text refl refl (renamed_old (label owner Hidden tag text) (λ e. not_hidden (ap (λ (l : Label). l.kind) e)) hidden) renamed_fresh)
-  renamed_breaks_s13 (inr (inr (keeps, same))) s13 = not_alt (s13 owner Alt Pref tag text refl refl (subst (λ x. HasLabel after owner Alt tag x) same (renamed_kept keeps)) renamed_fresh)
+  renamed_breaks_s13 (inl alt) s13 = not_alt (s13 owner Alt Pref tag text refl refl (stays (label owner Alt tag text) (λ e. not_alt (ap (λ (l : Label). l.kind) e)) alt) at_fresh)
+  renamed_breaks_s13 (inr (inl hidden)) s13 = not_hidden (s13 owner Hidden Pref tag text refl refl (stays (label owner Hidden tag text) (λ e. not_hidden (ap (λ (l : Label). l.kind) e)) hidden) at_fresh)
+  renamed_breaks_s13 (inr (inr (keeps, same))) s13 = not_alt (s13 owner Alt Pref tag text refl refl (subst (λ x. HasLabel after owner Alt tag x) same (renamed_kept labels owner tag text old keep keeps)) at_fresh)
 
   abbrev Cases : Label → Type 0
-  Cases q = (q ≡ fresh) ⊎ ((keep ≡ true) × (q ≡ kept)) ⊎ ((q ≢ was) × (set.contains labels q ≡ true))
+  Cases = IsOfRenamed labels owner tag text old keep
 
   pub renamed_keeps_s13 : S13 labels → HasLabel labels owner Pref tag old → (Clashing → ⊥) → S13 after
-  renamed_keeps_s13 s13 has_old free n j k t x nj nk hj hk = go j k nj nk (renamed_cases _ hj) (renamed_cases _ hk)
+  renamed_keeps_s13 s13 has_old free n j k t x nj nk hj hk = go j k nj nk (renamed_cases labels owner tag text old keep _ hj) (renamed_cases labels owner tag text old keep _ hk)
     where
       -- the fresh name beside one that was there
       beside : (k : LabelKind) → is_name k ≡ true → n ≡ owner → t ≡ tag → x ≡ text → HasLabel labels n k t x → Pref ≡ k
@@ -284,13 +172,13 @@ module _ (labels : Labels) (owner : ℕ) (tag text old : List ℕ) (keep : Bool)
           at Scope nk held = absurd (cc)
 
       -- the kept name beside one that was there
-      beside_kept : (k : LabelKind) → is_name k ≡ true → n ≡ owner → t ≡ tag → x ≡ old → label n k t x ≢ was → HasLabel labels n k t x → ⊥
+      beside_kept : (k : LabelKind) → is_name k ≡ true → n ≡ owner → t ≡ tag → x ≡ old → label n k t x ≢ label owner Pref tag old → HasLabel labels n k t x → ⊥
       beside_kept k nk en et ex apart held =
           let here = subst (λ (p : ℕ × (List ℕ × List ℕ)). HasLabel labels p.0 k p.1.0 p.1.1) (λ i. (en i, (et i, ex i))) held in
           let same = s13 owner k Pref tag old nk refl here has_old in
           apart (λ i. label (en i) (same i) (et i) (ex i))
 
-      both_new : (j k : LabelKind) → label n j t x ≡ fresh → (keep ≡ true) × (label n k t x ≡ kept) → ⊥
+      both_new : (j k : LabelKind) → label n j t x ≡ label owner Pref tag text → (keep ≡ true) × (label n k t x ≡ label owner Alt tag old) → ⊥
       both_new j k a (keeps, b) = free (inr (inr (keeps, sym (ap (λ (l : Label). l.text) b) ∙ ap (λ (l : Label). l.text) a)))
 
       go : (j k : LabelKind) → is_name j ≡ true → is_name k ≡ true → Cases (label n j t x) → Cases (label n k t x) → j ≡ k
@@ -304,19 +192,19 @@ module _ (labels : Labels) (owner : ℕ) (tag text old : List ℕ) (keep : Bool)
       go j k nj nk (inr (inr (apart, a))) (inr (inl (_, b))) = absurd (beside_kept j nj (ap (λ (l : Label). l.owner) b) (ap (λ (l : Label). l.tag) b) (ap (λ (l : Label). l.text) b) apart a)
       go j k nj nk (inr (inr (_, a))) (inr (inr (_, b))) = s13 n j k t x nj nk a b
 
-  never_kept : (n : ℕ) (t x : List ℕ) → label n Pref t x ≡ kept → ⊥
+  never_kept : (n : ℕ) (t x : List ℕ) → label n Pref t x ≡ label owner Alt tag old → ⊥
   never_kept n t x e = let k = ap (λ (l : Label). l.kind) e in cc
 
   module _ (rs : List Resource) where
     pub renamed_breaks_unique : HasRival rs labels owner tag text → UniquePreferred rs after → ⊥
     renamed_breaks_unique rival p1 =
         rival.other (p1 rival.rival owner rival.scheme tag text rival.holder.0.0 rival.concept rival.holder.0.1 rival.within
-        (renamed_old (label rival.rival Pref tag text) (λ e. rival.other (ap (λ (l : Label). l.owner) e)) rival.holder.1) renamed_fresh)
+        (stays (label rival.rival Pref tag text) (λ e. rival.other (ap (λ (l : Label). l.owner) e)) rival.holder.1) at_fresh)
 
     pub renamed_keeps_unique : UniquePreferred rs labels → (HasRival rs labels owner tag text → ⊥) → UniquePreferred rs after
-    renamed_keeps_unique p1 none m n scheme t x lm ln sm sn hm hn = go (renamed_cases _ hm) (renamed_cases _ hn) (same_or_not n m)
+    renamed_keeps_unique p1 none m n scheme t x lm ln sm sn hm hn = go (renamed_cases labels owner tag text old keep _ hm) (renamed_cases labels owner tag text old keep _ hn) (same_or_not n m)
       where
-        rival_at : (m n : ℕ) → label m Pref t x ≡ fresh → HasLabel labels n Pref t x → n ≢ m → IsLiveConcept rs m → scheme_of rs m ≡ Some scheme → IsLiveConcept rs n → scheme_of rs n ≡ Some scheme → ⊥
+        rival_at : (m n : ℕ) → label m Pref t x ≡ label owner Pref tag text → HasLabel labels n Pref t x → n ≢ m → IsLiveConcept rs m → scheme_of rs m ≡ Some scheme → IsLiveConcept rs n → scheme_of rs n ≡ Some scheme → ⊥
         rival_at m n is held differ lm sm ln sn =
             none (subst (λ (q : Label). HasRival rs labels q.owner q.tag q.text) is (record { scheme = scheme; rival = n; concept = lm; within = sm; holder = ((ln, sn), held); other = differ }))
 

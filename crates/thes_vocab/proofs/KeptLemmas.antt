@@ -24,13 +24,14 @@ use Rattle.thes_base.specs.Machine.{owned}
 use Rattle.thes_base.specs.Rows.{accepted}
 use Rattle.thes_base.specs.Refusals.{unless_scheme, unless_unique, unless_label, unless_dropped, unless_relabelled}
 use Rattle.thes_base.proofs.RowLemmas.{passed_if, passed_unless}
-use Rattle.thes_base.proofs.LabelSets.{inserted_cases, inserted_kept, inserted_new}
-use Rattle.thes_base.proofs.LabelsKept.{labels_made, labels_push, labels_added, labels_dropped, labels_renamed, labels_dead, removed_cases, outside_owns_none}
+use Rattle.thes_base.proofs.LabelSets.{inserted_cases, inserted_kept, inserted_new, removed_cases}
+use Rattle.thes_base.proofs.Renamed.{renamed_cases, renamed_fresh, renamed_old}
+use Rattle.thes_base.proofs.LabelsKept.{labels_made, labels_push, labels_added, labels_dropped, labels_renamed, labels_dead, outside_owns_none}
 use Rattle.thes_base.proofs.ResourcesKept.{resources_push, resources_push_outside, resources_dead, outside_fit}
 use Rattle.thes_base.proofs.Uniqueness.{made_unique, taken_breaks, live_before}
 use Rattle.thes_base.proofs.NumberedLemmas.{numbered_bound}
 use Rattle.thes_base.proofs.ResourceLemmas.{same_or_not, one_resource, concept_of_live, live_of_live}
-use Rattle.thes_base.proofs.MergedLabels.{labels_merged}
+use Rattle.thes_base.proofs.MergedLabels.{labels_merged, preferred_before}
 use Rattle.thes_base.specs.Listing.{IsListing}
 use Rattle.std.proofs.lemmas.Option.{same_Some}
 use Rattle.thes_vocab.specs.declared.names.Names.{Names}
@@ -38,16 +39,19 @@ use Rattle.thes_lists.specs.declared.lists.Lists.{Lists}
 use Rattle.thes_lists.specs.Lists as lists
 use Rattle.thes_lists.specs.Lists.{listed_at, AreListings}
 use Rattle.thes_lists.proofs.ListingLemmas.{listing_none, listings_same}
-use Rattle.thes_vocab.specs.Vocabulary.{IsConceptIn, IsConceptOf, IsHolder, IsReplacement}
+use Rattle.thes_vocab.specs.Vocabulary.{Vocabulary, IsConceptIn, IsConceptOf, IsHolder, IsReplacement}
 use Rattle.thes_vocab.specs.Named.{holder_in, IsPut, AreSame, IsNoted, IsKindNoted, IsLabelNoted}
 use Rattle.thes_vocab.specs.Listed.{IsAdded, IsRemoved}
 use Rattle.thes_vocab.specs.Requests.{IsNamed, IsFree}
 use Rattle.thes_vocab.specs.Kept.{IsKept}
 use Rattle.thes_vocab.proofs.NameLemmas.{same_or_not as same_key}
 use Rattle.thes_vocab.proofs.ListedLemmas.{scheme_at, concept_cases, listed_made, listed_dead}
-use Rattle.thes_vocab.proofs.TakenLemmas.{preferred_stays}
 use Rattle.thes_vocab.proofs.TableLemmas.{put_back}
-use Rattle.thes_vocab.proofs.JudgingLemmas.{owners_bound, relabelled_is, renamed_breaks_s13, renamed_cases, renamed_fresh, renamed_old}
+use Rattle.thes_vocab.proofs.JudgingLemmas.{owners_bound, relabelled_is, renamed_breaks_s13}
+
+-- what its parts are seen as
+abbrev vocabulary : List ℕ → List Resource → Iris → Labels → Vocabulary
+vocabulary base rs iris labels = record { base = base; resources = rs; iris = iris; labels = labels }
 
 -- The index of names.
 
@@ -485,21 +489,72 @@ numbered_at {A = A} xs (suc n) x y e f = go xs n e (f ∙ ap (λ k. get_or xs k 
     go (z ∷ xs) zero e f = ap Some (sym f)
     go (z ∷ xs) (suc n) e f = go xs n e f
 
--- The target of a merge takes names.
-pub kept_merged : (base : List ℕ) (rs : List Resource) (iris : Iris) (labels : Labels) (names : Names) (concepts : Lists ℕ) (source target : ℕ) → IsKept base rs iris labels names concepts → IsLiveConcept rs target → IsKept base rs iris (set.union labels (taken_labels source target labels)) names concepts
-kept_merged base rs iris labels names concepts source target kept live = record {
-  legal = kept.legal;
-  named = labels_merged rs labels source target kept.named (inr (inl (concept_of_live rs target live)));
-  found = λ s n t x h. kept.found s n t x (h.0, preferred_stays labels source target n t x h.1);
-  listed = kept.listed;
-}
-
 -- a number has one scheme, or none
 pub one_scheme_of : (rs : List Resource) (n : ℕ) (o p : Option ℕ) → IsSchemeOf rs n o → IsSchemeOf rs n p → o ≡ p
 one_scheme_of rs n None None a b = refl
 one_scheme_of rs n None (Some t) a b = absurd (a t b)
 one_scheme_of rs n (Some s) None a b = absurd (b s a)
 one_scheme_of rs n (Some s) (Some t) a b = ap Some (one_scheme rs n t s b a.1)
+
+-- The same, where a call knows the vocabulary that its parts are seen as.
+
+module _ (base : List ℕ) (rs : List Resource) (iris : Iris) (labels : Labels) (old new : Names) (concepts : Lists ℕ) (kept : IsKept base rs iris labels old concepts) (v : Vocabulary) (seen : vocabulary base rs iris labels ≡ v) where
+  module _ (owner : ℕ) (o : Option ℕ) (xs : List Resource) (same : xs ≡ rs) (at : IsSchemeOf xs owner o) where
+    at_owner : IsSchemeOf rs owner o
+    at_owner = subst (λ ys. IsSchemeOf ys owner o) same at
+
+    can_own : CanOwn v.resources owner → CanOwn rs owner
+    can_own = subst (λ (w : Vocabulary). CanOwn w.resources owner) (sym seen)
+
+    pub seen_label : (d : LabelData) → CanOwn v.resources owner → unless_label v.labels v.resources (set.insert v.labels (owned owner d)) (owned owner d) accepted None → IsLabelNoted old new o d (Some owner) → (now : Labels) → (now ≡ labels) ⊎ (now ≡ set.insert labels (owned owner d)) → IsKept base rs iris now new concepts
+    seen_label d can row noted now is = elim is [
+      | inl e ↦ subst (λ ls. IsKept base rs iris ls new concepts) (sym e) (kept_noted base rs iris labels old new concepts kept owner o at_owner d (can_own can) row_here noted)
+      | inr e ↦ subst (λ ls. IsKept base rs iris ls new concepts) (sym e) (kept_added base rs iris labels old new concepts kept owner o at_owner d (can_own can) row_here noted)
+    ]
+      where
+        row_here : unless_label labels rs (set.insert labels (owned owner d)) (owned owner d) accepted None
+        row_here = subst (λ (w : Vocabulary). unless_label w.labels w.resources (set.insert w.labels (owned owner d)) (owned owner d) accepted None) (sym seen) row
+
+    module _ (tag text was : List ℕ) (keep : Bool) (has : HasLabel labels owner Pref tag was) (row : unless_relabelled v.labels v.resources (labels_relabelled owner tag text keep v.labels) owner tag accepted None) (noted : IsNoted old new o tag text (Some owner)) where
+      row_seen : unless_relabelled labels rs (labels_relabelled owner tag text keep labels) owner tag accepted None
+      row_seen = subst (λ (w : Vocabulary). unless_relabelled w.labels w.resources (labels_relabelled owner tag text keep w.labels) owner tag accepted None) (sym seen) row
+
+      pub seen_name_noted : IsKept base rs iris labels new concepts
+      seen_name_noted = kept_name_noted base rs iris labels old new concepts kept owner o at_owner tag text was keep has row_seen noted
+
+      pub seen_renamed : CanOwn v.resources owner → was ≢ text → (last : Names) → (p : Option ℕ) → IsSchemeOf xs owner p → IsNoted new last p tag was None → IsKept base rs iris (renamed owner tag text keep was labels) last concepts
+      seen_renamed can differ last p at' gone = kept_renamed base rs iris labels old new concepts kept owner o at_owner tag text was keep has row_seen noted (can_own can) differ last
+        (subst (λ q. IsNoted new last q tag was None) (one_scheme_of xs owner p o at' at) gone)
+
+  module _ (r : Resource) (tag text : List ℕ) (is : IsNamed v.resources r) (free : IsFree v.resources v.labels r tag text) (o : Option ℕ) (at : MatchOption o ((scheme : ℕ) → IsConceptIn scheme r → ⊥) (λ scheme. IsConceptIn scheme r)) (n : ℕ) (next : n ≡ length rs + 1) (noted : IsNoted old new o tag text (Some n)) (room : Lists ℕ) (roomy : lists.AreSame concepts room) where
+    reserved : IsKept base rs iris labels old room
+    reserved = kept_same base rs iris labels old old concepts room kept (λ s t x. refl) roomy
+
+    is_here : IsNamed rs r
+    is_here = subst (λ (w : Vocabulary). IsNamed w.resources r) (sym seen) is
+
+    free_here : IsFree rs labels r tag text
+    free_here = subst (λ (w : Vocabulary). IsFree w.resources w.labels r tag text) (sym seen) free
+
+    noted_here : IsNoted old new o tag text (Some (length rs + 1))
+    noted_here = subst (λ k. IsNoted old new o tag text (Some k)) next noted
+
+    pub seen_new_noted : IsKept base rs iris labels new room
+    seen_new_noted = kept_new_noted base rs iris labels old new room reserved r tag text is_here free_here o at noted_here
+
+    pub seen_new : length v.resources + 1 < 2 ^ 32 → (grown : Lists ℕ) → IsAdded room grown o n → IsKept base (rs ++ r ∷ []) iris (set.insert labels (label n Pref tag text)) new grown
+    seen_new few grown added = subst (λ k. IsKept base (rs ++ r ∷ []) iris (set.insert labels (label k Pref tag text)) new grown) (sym next)
+        (kept_new base rs iris labels old new room reserved r tag text is_here free_here o at noted_here
+        (subst (λ (w : Vocabulary). length w.resources + 1 < 2 ^ 32) (sym seen) few) grown (subst (IsAdded room grown o) next added))
+
+-- The target of a merge takes names.
+pub kept_merged : (base : List ℕ) (rs : List Resource) (iris : Iris) (labels : Labels) (names : Names) (concepts : Lists ℕ) (source target : ℕ) → IsKept base rs iris labels names concepts → IsLiveConcept rs target → IsKept base rs iris (set.union labels (taken_labels source target labels)) names concepts
+kept_merged base rs iris labels names concepts source target kept live = record {
+  legal = kept.legal;
+  named = labels_merged rs labels source target kept.named (inr (inl (concept_of_live rs target live)));
+  found = λ s n t x h. kept.found s n t x (h.0, preferred_before rs labels source target n t x h.1);
+  listed = kept.listed;
+}
 
 -- A preferred label in place of itself.
 pub unchanged : (rs : List Resource) (labels : Labels) (owner : ℕ) (tag text old : List ℕ) (keep : Bool) → LegalLabels rs labels → HasLabel labels owner Pref tag old → old ≡ text → unless_relabelled labels rs (labels_relabelled owner tag text keep labels) owner tag accepted None → labels ≡ labels_relabelled owner tag text keep labels

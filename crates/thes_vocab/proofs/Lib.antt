@@ -7,3 +7,4 @@ mod IriLemmas
 mod JudgingLemmas
 mod KeptLemmas
 mod TakenLemmas
+mod ForwardingLemmas

@@ -272,17 +272,11 @@ module _ (labels : Labels) (owner : ℕ) (tag text old : List ℕ) (differ : old
   abbrev was : Label
   was = label owner Pref tag old
 
-  abbrev fresh : Label
-  fresh = label owner Pref tag text
+  pub renamed_plain : set.remove (set.insert labels (label owner Pref tag text)) was ≡ renamed owner tag text false old labels
+  renamed_plain = swapped labels (label owner Pref tag text) was (λ e. differ (sym (ap (λ (l : Label). l.text) e)))
 
-  abbrev kept : Label
-  kept = label owner Alt tag old
-
-  pub renamed_plain : set.remove (set.insert labels fresh) was ≡ renamed owner tag text false old labels
-  renamed_plain = swapped labels fresh was (λ e. differ (sym (ap (λ (l : Label). l.text) e)))
-
-  pub renamed_keeping : set.remove (set.insert (set.insert labels fresh) kept) was ≡ renamed owner tag text true old labels
-  renamed_keeping = swapped (set.insert labels fresh) kept was other ∙ ap (λ (s : Labels). set.insert s kept) renamed_plain
+  pub renamed_keeping : set.remove (set.insert (set.insert labels (label owner Pref tag text)) (label owner Alt tag old)) was ≡ renamed owner tag text true old labels
+  renamed_keeping = swapped (set.insert labels (label owner Pref tag text)) (label owner Alt tag old) was other ∙ ap (λ (s : Labels). set.insert s (label owner Alt tag old)) renamed_plain
     where
-      other : kept ≢ was
+      other : (label owner Alt tag old) ≢ was
       other e = let k = ap (λ (l : Label). l.kind) e in cc

@@ -18,6 +18,7 @@ use Rattle.thes_base.specs.Labels.{Label, Labels, label_cmp, HasLabel, is_name, 
 use Rattle.thes_base.specs.Changes.{label, has_name, taken_kind, taken_labels}
 use Rattle.thes_base.specs.Machine.{owned}
 use Rattle.thes_base.proofs.LabelSets.{labels_total, labels_exact}
+use Rattle.thes_base.proofs.MergedLabels.{name_of}
 use Rattle.thes_base.proofs.ResourceLemmas.{left_true, right_true}
 use Rattle.std.proofs.lemmas.Bool.{cases_Bool, not-true}
 use Rattle.thes_vocab.specs.LabelData.{data_cmp, own_label, has_own, AreLabelsOf}
@@ -25,7 +26,6 @@ use Rattle.thes_vocab.specs.Taken.{takes, takes_own, taken, gives}
 use Rattle.thes_vocab.specs.LabelRows.{Owns, labels_in, row_of, IsMerged}
 use Rattle.thes_vocab.proofs.OwnLemmas.{data_total, tied, ties}
 use Rattle.thes_vocab.proofs.TableLemmas.{data_of, owned_tie, has_label, IsWritten, row_after, or_false, and_or, and_false}
-use Rattle.thes_vocab.proofs.JudgingLemmas.{name_of}
 
 or_group : (a b c : Bool) → (a || (b || c)) ≡ ((a || b) || c)
 or_group true b c = refl
@@ -68,19 +68,19 @@ module _ {A : Type 0} (p : A → Bool) where
   pub kept_no : (x : A) (xs : List A) → p x ≡ false → filter p (x ∷ xs) ≡ filter p xs
   kept_no x xs e = ap (λ b. if b then x ∷ filter p xs else filter p xs) e
 
--- a label that passes, and what it is mapped to
-any_mapped : (p : Label → Bool) (f : Label → Label) (q : Label) (ls : List Label) → list_any (eq_by_cmp label_cmp q) (map f (filter p ls)) ≡ true → (l : Label) × (p l ≡ true) × (list_any (eq_by_cmp label_cmp l) ls ≡ true) × (q ≡ f l)
-any_mapped p f q [] e = absurd (cc)
-any_mapped p f q (x ∷ ls) e = elim (cases_Bool (p x)) [
-  | inl picks ↦ elim (or_cases _ _ (sym (ap (λ ys. list_any (eq_by_cmp label_cmp q) (map f ys)) (kept_yes p x ls picks)) ∙ e)) [
+-- one that passes, and the label that it is mapped to
+any_mapped : {A : Type 0} (cmp : A → A → Ordering) (itself : (x : A) → eq_by_cmp cmp x x ≡ true) (p : A → Bool) (f : A → Label) (q : Label) (xs : List A) → list_any (eq_by_cmp label_cmp q) (map f (filter p xs)) ≡ true → (x : A) × (p x ≡ true) × (list_any (eq_by_cmp cmp x) xs ≡ true) × (q ≡ f x)
+any_mapped cmp itself p f q [] e = absurd (cc)
+any_mapped cmp itself p f q (x ∷ xs) e = elim (cases_Bool (p x)) [
+  | inl picks ↦ elim (or_cases _ _ (sym (ap (λ ys. list_any (eq_by_cmp label_cmp q) (map f ys)) (kept_yes p x xs picks)) ∙ e)) [
     | inl same ↦ (x, picks, or_left _ _ (itself x), labels_exact q (f x) ((Equal-is (label_cmp q (f x))).0 same))
-    | inr later ↦ let found = any_mapped p f q ls later in (found.0, found.1, or_right (eq_by_cmp label_cmp found.0 x) _ found.2, found.3)
+    | inr later ↦ let found = any_mapped cmp itself p f q xs later in (found.0, found.1, or_right (eq_by_cmp cmp found.0 x) _ found.2, found.3)
   ]
-  | inr miss ↦ let found = any_mapped p f q ls (sym (ap (λ ys. list_any (eq_by_cmp label_cmp q) (map f ys)) (kept_no p x ls miss)) ∙ e) in (found.0, found.1, or_right (eq_by_cmp label_cmp found.0 x) _ found.2, found.3)
+  | inr miss ↦ let found = any_mapped cmp itself p f q xs (sym (ap (λ ys. list_any (eq_by_cmp label_cmp q) (map f ys)) (kept_no p x xs miss)) ∙ e) in (found.0, found.1, or_right (eq_by_cmp cmp found.0 x) _ found.2, found.3)
 ]
-  where
-    itself : (x : Label) → eq_by_cmp label_cmp x x ≡ true
-    itself x = ap is_eq (tied_itself labels_total x)
+
+itself : (x : Label) → eq_by_cmp label_cmp x x ≡ true
+itself x = ap is_eq (tied_itself labels_total x)
 
 mapped_any : (p : Label → Bool) (f : Label → Label) (q l : Label) (ls : List Label) → p l ≡ true → q ≡ f l → list_any (eq_by_cmp label_cmp l) ls ≡ true → list_any (eq_by_cmp label_cmp q) (map f (filter p ls)) ≡ true
 mapped_any p f q l [] picks is e = e
@@ -124,7 +124,7 @@ module _ (labels : Labels) (source target : ℕ) (own : List LabelData) (owns : 
     where
       there : list_any (eq_by_cmp label_cmp q) (map given (filter passes (set.items labels))) ≡ true → (eq_by_cmp nat_cmp q.owner target && list_any (test q) own) ≡ true
       there e =
-          let found = any_mapped passes given q (set.items labels) e in
+          let found = any_mapped label_cmp itself passes given q (set.items labels) e in
           let l = found.0 in
           let held = set.contains-items labels l ∙ found.2 in
           let is = found.3 in
@@ -159,21 +159,6 @@ any_same p q same (x ∷ xs) = λ i. same x i || any_same p q same xs i
 pub gives_is : (labels : Labels) (target : ℕ) (own : List LabelData) → Owns labels target own → (source : List LabelData) (q : LabelData) → gives source own q ≡ list_any (λ d. takes labels target d && eq_by_cmp data_cmp q (taken d)) source
 gives_is labels target own owns source q = any_same _ _ (λ d. ap (λ b. b && eq_by_cmp data_cmp q (taken d)) (takes_is labels target own owns d)) source
 
--- no preferred label is taken as one
-pub preferred_stays : (labels : Labels) (source target n : ℕ) (tag text : List ℕ) → HasLabel (set.union labels (taken_labels source target labels)) n Pref tag text → HasLabel labels n Pref tag text
-preferred_stays labels source target n tag text h = elim (or_cases _ _ (sym (set.contains-union labels_total labels (taken_labels source target labels) (label n Pref tag text)) ∙ h)) [
-  | inl held ↦ held
-  | inr new ↦
-      let found = any_mapped (λ l. l.owner == source && (is_name l.kind && not (has_name labels target l.tag l.text))) (λ l. label target (taken_kind l.kind) l.tag l.text) (label n Pref tag text) (set.items labels) (sym (set.contains-from_list labels_total (map (λ (l : Label). label target (taken_kind l.kind) l.tag l.text) (filter (λ (l : Label). l.owner == source && (is_name l.kind && not (has_name labels target l.tag l.text))) (set.items labels))) (label n Pref tag text)) ∙ new) in
-      absurd (never found.0.kind (ap (λ (l : Label). l.kind) found.3))
-]
-  where
-    never : (k : LabelKind) → Pref ≡ taken_kind k → ⊥
-    never Pref e = cc
-    never Alt e = cc
-    never Hidden e = cc
-    never Scope e = cc
-
 -- How many are taken.
 module _ (labels : Labels) (source target : ℕ) (s13 : S13 labels) where
   abbrev as_taken : LabelData → Label
@@ -205,14 +190,7 @@ module _ (labels : Labels) (source target : ℕ) (s13 : S13 labels) where
 
   -- one of those that were picked
   built_from : (own : List LabelData) (q : Label) → list_any (eq_by_cmp label_cmp q) (map as_taken (picked own)) ≡ true → (d : LabelData) × (takes labels target d ≡ true) × (has_own own d ≡ true) × (q ≡ as_taken d)
-  built_from [] q e = absurd (cc)
-  built_from (x ∷ own) q e = elim (cases_Bool (takes labels target x)) [
-    | inl picks ↦ elim (or_cases _ _ (sym (ap (λ ys. list_any (eq_by_cmp label_cmp q) (map as_taken ys)) (kept_yes (takes labels target) x own picks)) ∙ e)) [
-      | inl same ↦ (x, picks, or_left _ _ (ties x x refl), labels_exact q (as_taken x) ((Equal-is (label_cmp q (as_taken x))).0 same))
-      | inr later ↦ let found = built_from own q later in (found.0, found.1, or_right (eq_by_cmp data_cmp found.0 x) _ found.2, found.3)
-    ]
-    | inr miss ↦ let found = built_from own q (sym (ap (λ ys. list_any (eq_by_cmp label_cmp q) (map as_taken ys)) (kept_no (takes labels target) x own miss)) ∙ e) in (found.0, found.1, or_right (eq_by_cmp data_cmp found.0 x) _ found.2, found.3)
-  ]
+  built_from own q e = any_mapped data_cmp (λ d. ties d d refl) (takes labels target) as_taken q own e
 
   name_taken : (k : LabelKind) → is_name k ≡ true → is_name (taken_kind k) ≡ true
   name_taken Pref e = refl

@@ -3,6 +3,7 @@
 
 mod changing;
 mod concepts;
+pub mod forwarding;
 mod iris;
 mod judging;
 mod labels;
@@ -10,5 +11,6 @@ mod names;
 mod row;
 pub mod vocab;
 
+pub use forwarding::Forwarding;
 pub use thes_base::data::NewResource;
 pub use vocab::Vocab;

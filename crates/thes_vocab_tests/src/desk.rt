@@ -19,6 +19,13 @@ pub enum Answer {
     No(Refusal),
 }
 
+/// What is done with a label.
+#[derive(Clone, Copy)]
+pub enum Change {
+    Add,
+    Remove,
+}
+
 /// A resource's number.
 pub fn no(n: u32) -> ResNo {
     ResNo::new(n.max(1))
@@ -132,18 +139,6 @@ impl Desk {
         Ok(Answer::Done)
     }
 
-    /// A label more.
-    pub fn add_label(
-        &mut self,
-        owner: u32,
-        kind: LabelKind,
-        tag: &str,
-        text: &str,
-    ) -> Result<Answer, ReadStop> {
-        let label = label(self.alloc, kind, tag, text)?;
-        Ok(self.add(no(owner), &label)?)
-    }
-
     fn take_out(&mut self, owner: ResNo, label: &Label) -> Answer {
         if !is_owner(&self.vocab, owner) {
             return Answer::No(Refusal::NotLive);
@@ -155,16 +150,20 @@ impl Desk {
         Answer::Done
     }
 
-    /// A label less.
-    pub fn drop_label(
+    /// Adds or drops a label.
+    pub fn change_label(
         &mut self,
+        change: Change,
         owner: u32,
         kind: LabelKind,
         tag: &str,
         text: &str,
     ) -> Result<Answer, ReadStop> {
         let label = label(self.alloc, kind, tag, text)?;
-        Ok(self.take_out(no(owner), &label))
+        match change {
+            Change::Add => Ok(self.add(no(owner), &label)?),
+            Change::Remove => Ok(self.take_out(no(owner), &label)),
+        }
     }
 
     fn rename(

@@ -1,6 +1,7 @@
 //! The worked examples on resources and labels: each call once with ample memory, and what it answers.
-use crate::desk::{Answer, Desk, no};
+use crate::desk::{Answer, Change, Desk, no};
 use Answer::{Done, Gained, No, Number};
+use Change::{Add, Remove};
 use LabelKind::{Alt, Hidden, Pref, Scope};
 use std::alloc::Global;
 use std::process::Abort;
@@ -45,21 +46,10 @@ fn outsides(rt: &impl Abort, desk: &mut Desk, rows: &[(&str, Answer)]) -> Result
 // A label by its owner, kind, language and text, and an answer.
 type Row<'a> = (u32, LabelKind, &'a str, &'a str, Answer);
 
-fn add_each(rt: &impl Abort, desk: &mut Desk, rows: &[Row]) -> Result<(), Fail> {
+fn change_each(rt: &impl Abort, desk: &mut Desk, change: Change, rows: &[Row]) -> Result<(), Fail> {
     for (owner, kind, tag, text, wanted) in rows {
         assert_eq!(rt;
-            desk.add_label(*owner, *kind, tag, text)?,
-            *wanted,
-            "{text}"
-        );
-    }
-    Ok(())
-}
-
-fn drop_each(rt: &impl Abort, desk: &mut Desk, rows: &[Row]) -> Result<(), Fail> {
-    for (owner, kind, tag, text, wanted) in rows {
-        assert_eq!(rt;
-            desk.drop_label(*owner, *kind, tag, text)?,
+            desk.change_label(change, *owner, *kind, tag, text)?,
             *wanted,
             "{text}"
         );
@@ -137,7 +127,7 @@ fn labels_are_refused(rt: HostRuntime) -> Result<(), Fail> {
         (3, Pref, "de", "Moggies", Done),
         (2, Scope, "en", "Cats", Done),
     ];
-    add_each(&rt, &mut desk, &rows)?;
+    change_each(&rt, &mut desk, Add, &rows)?;
     assert_eq!(rt; desk.preferred(2, "en-gb")?, Some("Moggies"));
     assert_eq!(rt; desk.preferred(2, "de")?, None);
     Ok(())
@@ -146,14 +136,14 @@ fn labels_are_refused(rt: HostRuntime) -> Result<(), Fail> {
 #[test]
 fn labels_are_dropped(rt: HostRuntime) -> Result<(), Fail> {
     let mut desk = start(rt.alloc())?;
-    add_each(&rt, &mut desk, &[(3, Pref, "de", "Katzen", Done)])?;
+    change_each(&rt, &mut desk, Add, &[(3, Pref, "de", "Katzen", Done)])?;
     let rows = [
         (2, Pref, "en", "Cats", No(Refusal::LastPreferred)),
         (2, Alt, "en", "Cats", No(Refusal::NoSuchLabel)),
         (3, Pref, "en", "Mammals", Done),
         (3, Pref, "de", "Katzen", No(Refusal::LastPreferred)),
     ];
-    drop_each(&rt, &mut desk, &rows)?;
+    change_each(&rt, &mut desk, Remove, &rows)?;
     assert!(rt; are(desk.labels_of(3), &[(Pref, "de", "Katzen")]));
     Ok(())
 }
@@ -211,7 +201,7 @@ fn merged_names_stand_once(rt: HostRuntime) -> Result<(), Fail> {
         (2, Hidden, "en", "Kitty", Done),
         (3, Alt, "en", "Kitty", Done),
     ];
-    add_each(&rt, &mut desk, &rows)?;
+    change_each(&rt, &mut desk, Add, &rows)?;
     assert_eq!(rt; desk.take_labels(2, 3)?, Gained(1));
     let wanted = [
         (Pref, "en", "Mammals"),

@@ -5,7 +5,7 @@ ghost use Rattle.thes_base.specs.Resources.{IsConcept, scheme_of};
 ghost use Rattle.thes_core.specs.Requests.{Judges};
 ghost use Rattle.thes_core.specs.View.{IsKept};
 
-use crate::arguments::judge_live_concept;
+use crate::arguments::{judge_forwarded, judge_live_concept};
 use crate::room::Growth;
 use crate::thesaurus::Thesaurus;
 use std::alloc::AllocError;
@@ -55,11 +55,13 @@ impl Thesaurus {
         requires { IsKept self.now }
         ensures { (key rec : List ℕ) → Judges self.now (request.Post key rec concept) result }
     {
-        if let Some(refusal) = judge_live_concept(&self.vocab, concept) {
+        let way = self.vocab.forwarding(concept);
+        if let Some(refusal) = judge_forwarded(&self.vocab, concept, way.place) {
             return Some(refusal);
         }
         self.judge_room(Growth {
             postings: 1,
+            moves: way.steps,
             ..Growth::NONE
         })
     }

@@ -1,7 +1,8 @@
 use Rattle.std.proofs.Common.{rules, ◌≡◌, ◌++◌, ◌∷◌, [], Err, Some, None, inr, refl}
 use Rattle.std.proofs.lemmas.List.{map-append}
 use Rattle.serde_json.specs.Find.{as_number}
-use Rattle.serde_json.specs.View.{view, number_view}
+use Rattle.serde_json.specs.View.{number_view}
+use Rattle.thes_exchange.specs.Tree.{view}
 use Rattle.thes_exchange.specs.declared.members.TheConstants.{BAD_SHAPE}
 use Rattle.thes_exchange.proofs.MemberLemmas.{numbers-step, numbers-stop}
 use Rattle.thes_exchange.proofs.members.all_numbers.Goals as goal

@@ -1,5 +1,6 @@
 use Rattle.std.proofs.Common.{◌≡◌, map, take, Some}
-use Rattle.serde_json.specs.View.{number_view, items_view}
+use Rattle.serde_json.specs.View.{number_view}
+use Rattle.thes_exchange.specs.Tree.{items_view}
 use Rattle.thes_exchange.specs.Members.{all_numbers}
 use Rattle.thes_exchange.proofs.members.all_numbers.Given as goal
 

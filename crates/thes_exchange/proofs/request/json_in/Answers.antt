@@ -1,9 +1,13 @@
-use Rattle.std.proofs.Common.{rules, inr, refl}
+use Rattle.std.proofs.Common.{◌≡◌, ◌∙◌, rules, inr, refl, sym, ap, subst, IsUtf8}
+use Rattle.std.proofs.lemmas.Result.{IfOk-weaker}
+use Rattle.serde_json.specs.Read.{read}
 use Rattle.thes_exchange.proofs.MemberLemmas.{json_in-text, json_in-none}
 use Rattle.thes_exchange.proofs.request.json_in.Goals as goal
 
 pub returns-in-Ok-clause-ok : goal.returns-in-Ok-clause-ok
-returns-in-Ok-clause-ok c = json_in-text _ _ c.in-Ok.ensures.ok.0 c.in-Ok.ensures.ok.1
+returns-in-Ok-clause-ok c =
+    let same = c.in-Ok.ensures.cases.0 in
+    IfOk-weaker c.read.result _ _ (λ v e. json_in-text c.args.bytes.now _ c.in-Ok.ensures.cases.1 (ap read (sym same) ∙ e)) c.read.ensures.ok
 
-pub returns-in-Err-2-clause-err : goal.returns-in-Err-2-clause-err
-returns-in-Err-2-clause-err c = inr (refl, json_in-none _ (c.in-Err.ensures.err (search rules)))
+pub returns-in-Err-clause-err : goal.returns-in-Err-clause-err
+returns-in-Err-clause-err c = inr (refl, json_in-none c.args.bytes.now (λ u. absurd (c.in-Err.ensures.cases.0 u)))

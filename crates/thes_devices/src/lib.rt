@@ -1,0 +1,65 @@
+//! Readers and writers for tests: they give or take few bytes a call, are interrupted, and fail.
+#![tactic(auto)]
+
+ghost use Rattle.std.specs.Prelude.{Some};
+
+use std::io;
+use std::io::{ErrorKind, Read, Write};
+
+// Takes one call off. It is an error once none is left, and at every other call before.
+fn take_call(calls: &mut u32) -> Result<(), ErrorKind> {
+    if *calls == 0 {
+        return Err(ErrorKind::BrokenPipe);
+    }
+    *calls -= 1;
+    if *calls % 2 == 1 {
+        return Err(ErrorKind::Interrupted);
+    }
+    Ok(())
+}
+
+/// A reader that gives at most three bytes at every other call, is interrupted at the calls between, and breaks after
+/// so many calls.
+#[derive(Drop)]
+pub struct Halting<'a> {
+    pub bytes: &'a [u8],
+    pub calls: u32,
+}
+
+impl<'a> Read for Halting<'a> {
+    ghost remaining = { λ r. Some r.bytes.now };
+
+    fn read(&mut self, buf: &mut [u8]) -> io::Result<usize> {
+        take_call(&mut self.calls)?;
+        if buf.len() > 3 {
+            return self.bytes.read(&mut buf[..3]);
+        }
+        self.bytes.read(buf)
+    }
+}
+
+/// A writer that takes one byte at every other call and is interrupted at the calls between. After so many calls it
+/// breaks, or is full and takes no byte.
+#[derive(Drop)]
+pub struct Filling {
+    pub bytes: Vec<u8>,
+    pub calls: u32,
+    pub is_full: bool,
+}
+
+impl Write for Filling {
+    ghost contents = { λ w. Some w.bytes.items };
+
+    fn write(&mut self, bytes: &[u8]) -> io::Result<usize> {
+        if bytes.is_empty() || self.calls == 0 && self.is_full {
+            return Ok(0);
+        }
+        take_call(&mut self.calls)?;
+        self.bytes.push(bytes[0])?;
+        Ok(1)
+    }
+
+    fn flush(&mut self) -> io::Result<()> {
+        Ok(())
+    }
+}

@@ -1,4 +1,0 @@
-use Rattle.thes_examples.proofs.run.Store.apply.Given as goal
-
-abbrev pub ghost-decide : goal.ghost-decide
-ghost-decide a = a.self.now.state

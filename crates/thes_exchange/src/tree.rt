@@ -1,0 +1,212 @@
+//! A line's JSON as a tree. Its texts stand in the line or, where they had escapes, in the scratch, so none is copied.
+ghost use Rattle.std.specs.Prelude.{◌≡◌, ◌<◌, ◌⊎◌, length, option_map, Some, None, IfOk, IfErr, OnOk};
+ghost use Rattle.json.specs.Json.{items, members, read_key, value};
+ghost use Rattle.serde_json.specs.Data.{no_members};
+ghost use Rattle.serde_json.specs.Events.{members_len};
+ghost use Rattle.serde_json.specs.Find.{get, as_array, as_bool, as_number, as_object, as_str, get_member};
+ghost use Rattle.serde_json.specs.Read.{converted, of_items, of_json, of_members, read as read_text};
+ghost use Rattle.serde_json.specs.View.{number_view};
+ghost use Rattle.thes_exchange.specs.Tree.{view, items_view, members_view};
+
+use crate::numeral::number_of;
+use json::{Reader, Scratch, Token};
+use serde_json::Number;
+use std::alloc::{AllocError, Global};
+use std::collections::BTreeMap;
+use thes_base::fault::{FormFault, ReadStop};
+
+/// What is no JSON.
+pub const NOT_JSON: ReadStop = ReadStop::Form(FormFault::NotJson);
+
+const MAX_DEPTH: usize = 127;
+
+/// A JSON value. An object has each name once, with its last value.
+#[derive(Drop)]
+pub enum Value<'a> {
+    Null,
+    Truth(bool),
+    Number(Number),
+    Text(&'a str),
+    Array(Vec<Value<'a>>),
+    Object(BTreeMap<&'a str, Value<'a>>),
+}
+
+impl<'a> Value<'a> {
+    /// Reads the one value that a text is.
+    pub fn read(
+        alloc: Global,
+        text: &'a str,
+        scratch: &'a mut Scratch,
+    ) -> Result<Value<'a>, ReadStop>
+        ensures ok { IfOk result (λ v. read_text text.now ≡ Some (view v)) }
+        ensures err { IfErr result (λ e. (e ≡ ReadStop.OutOfMemory)
+            ⊎ ((e ≡ NOT_JSON) × (read_text text.now ≡ None))) }
+    {
+        let mut reader = Reader::new(text, scratch)?;
+        let value = read(alloc, &mut reader, MAX_DEPTH)?;
+        if reader.next().is_some() {
+            return Err(NOT_JSON);
+        }
+        Ok(value)
+    }
+
+    /// The member with this name.
+    pub fn get(&self, name: &str) -> Option<&Value<'a>>
+        ensures { option_map (λ v. view v.now) result ≡ get name.now (view self.now) }
+    {
+        match self {
+            Value::Object(members) => member(members, name),
+            _ => None,
+        }
+    }
+
+    /// How many members it has, if it is an object.
+    pub fn member_count(&self) -> Option<usize>
+        ensures { result ≡ option_map members_len (as_object (view self.now)) }
+    {
+        match self {
+            Value::Object(members) => Some(members.len()),
+            _ => None,
+        }
+    }
+
+    /// The number that it is.
+    pub fn as_number(&self) -> Option<&Number>
+        ensures { option_map (λ n. number_view n.now) result ≡ as_number (view self.now) }
+    {
+        match self {
+            Value::Number(number) => Some(number),
+            _ => None,
+        }
+    }
+
+    /// The text that it is.
+    pub fn as_str(&self) -> Option<&'a str>
+        ensures { option_map (λ s. s.now) result ≡ as_str (view self.now) }
+    {
+        match self {
+            Value::Text(text) => Some(*text),
+            _ => None,
+        }
+    }
+
+    /// Whether it is true or false.
+    pub fn as_bool(&self) -> Option<bool>
+        ensures { result ≡ as_bool (view self.now) }
+    {
+        match self {
+            Value::Truth(truth) => Some(*truth),
+            _ => None,
+        }
+    }
+
+    /// The values of the array that it is.
+    pub fn as_array(&self) -> Option<&Vec<Value<'a>>>
+        ensures { option_map (λ v. items_view v.now.items) result ≡ as_array (view self.now) }
+    {
+        match self {
+            Value::Array(values) => Some(values),
+            _ => None,
+        }
+    }
+}
+
+fn member<'v, 'a>(members: &'v BTreeMap<&'a str, Value<'a>>, name: &str) -> Option<&'v Value<'a>>
+    ensures { option_map (λ v. view v.now) result
+        ≡ get_member name.now (members_view members.now.entries) }
+{
+    members.get(name)
+}
+
+// The next value of the reader. Arrays and objects may nest so deep.
+#[cycle(read)]
+#[inline(always)]
+fn read<'a>(alloc: Global, reader: &mut Reader<'a>, depth: usize) -> Result<Value<'a>, ReadStop>
+    ensures ok { IfOk result
+        (λ v. converted of_json (value depth reader.old) ≡ Some (view v, reader.new)) }
+    ensures shorter { OnOk result (length reader.new < length reader.old) }
+    ensures err { result ≡ Err NOT_JSON → converted of_json (value depth reader.old) ≡ None }
+    ensures stop { IfErr result (λ e. (e ≡ ReadStop.OutOfMemory) ⊎ (e ≡ NOT_JSON)) }
+{
+    let token = reader.next().ok_or(NOT_JSON)?;
+    match token {
+        Token::String(text) => Ok(Value::Text(text)),
+        Token::Number(text) => match number_of(text) {
+            Some(number) => Ok(Value::Number(number)),
+            None => Err(NOT_JSON),
+        },
+        Token::Bool(truth) => Ok(Value::Truth(truth)),
+        Token::Null => Ok(Value::Null),
+        Token::EndObject | Token::EndArray | Token::Key(_) | Token::Bad => Err(NOT_JSON),
+        Token::BeginArray => {
+            if depth == 0 {
+                return Err(NOT_JSON);
+            }
+            Ok(Value::Array(read_items(alloc, reader, depth - 1)?))
+        }
+        Token::BeginObject => {
+            if depth == 0 {
+                return Err(NOT_JSON);
+            }
+            Ok(Value::Object(read_members(alloc, reader, depth - 1)?))
+        }
+    }
+}
+
+// The values of an array, from its first on.
+#[cycle(read)]
+#[inline(never)]
+fn read_items<'a>(
+    alloc: Global,
+    reader: &mut Reader<'a>,
+    depth: usize,
+) -> Result<Vec<Value<'a>>, ReadStop>
+    ensures ok { IfOk result
+        (λ v. converted of_items (items (value depth) (length reader.old) reader.old)
+        ≡ Some (items_view v.items, reader.new)) }
+    ensures shorter { OnOk result (length reader.new < length reader.old) }
+    ensures err { result ≡ Err NOT_JSON
+        → converted of_items (items (value depth) (length reader.old) reader.old) ≡ None }
+    ensures stop { IfErr result (λ e. (e ≡ ReadStop.OutOfMemory) ⊎ (e ≡ NOT_JSON)) }
+{
+    let mut found = Vec::new(alloc);
+    'items: while !reader.take_end_array() {
+        let item = read(alloc, reader, depth)?;
+        found.push(item).map_err(AllocError::from)?;
+    }
+    Ok(found)
+}
+
+// The members of an object, from its first on.
+#[cycle(read)]
+#[inline(never)]
+fn read_members<'a>(
+    alloc: Global,
+    reader: &mut Reader<'a>,
+    depth: usize,
+) -> Result<BTreeMap<&'a str, Value<'a>>, ReadStop>
+    ensures ok { IfOk result
+        (λ m. converted (λ ms. of_members ms no_members)
+        (members (value depth) (length reader.old) reader.old)
+        ≡ Some (members_view m.entries, reader.new)) }
+    ensures shorter { OnOk result (length reader.new < length reader.old) }
+    ensures err { result ≡ Err NOT_JSON → converted (λ ms. of_members ms no_members)
+        (members (value depth) (length reader.old) reader.old) ≡ None }
+    ensures stop { IfErr result (λ e. (e ≡ ReadStop.OutOfMemory) ⊎ (e ≡ NOT_JSON)) }
+{
+    let mut found = BTreeMap::new(alloc);
+    'members: while let Some(name) = next_name(reader)? {
+        let member = read(alloc, reader, depth)?;
+        drop(found.insert(name, member).map_err(AllocError::from)?);
+    }
+    Ok(found)
+}
+
+// The name of the next member, or none at the end of the object.
+fn next_name<'a>(reader: &mut Reader<'a>) -> Result<Option<&'a str>, ReadStop>
+    ensures ok { IfOk result
+        (λ name. read_key reader.old ≡ Some (option_map (λ s. s.now) name, reader.new)) }
+    ensures err { IfErr result (λ e. (e ≡ NOT_JSON) × (read_key reader.old ≡ None)) }
+{
+    reader.next_key().or(Err(NOT_JSON))
+}

@@ -1,0 +1,63 @@
+//! Where the replacements of a concept lead.
+ghost use Rattle.std.specs.Prelude.{◌≡◌, length, IfOk};
+ghost use Rattle.thes_base.specs.Resources.{replacement_of, replacements};
+ghost use Rattle.thes_base.specs.Postings.{end_of};
+
+use crate::vocab::Vocab;
+use std::alloc::{AllocError, Global};
+use thes_base::number::ResNo;
+
+/// Where the replacements of a concept lead.
+#[derive(Clone, Copy)]
+pub struct Forwarding {
+    /// The last of them, or the concept itself where it has none.
+    pub place: ResNo,
+    /// How many there are.
+    pub steps: u64,
+}
+
+impl Vocab {
+    /// Finds where the replacements of a concept lead.
+    pub fn forwarding(&self, concept: ResNo) -> Forwarding
+        ensures place { result.place ≡ end_of concept (replacements self.now.resources concept) }
+        ensures steps { result.steps ≡ length (replacements self.now.resources concept) }
+    {
+        let count = self.resource_count();
+        let mut place = concept;
+        for steps in 0..count {
+            match self.replacement(place) {
+                Some(next) => place = next,
+                None => return Forwarding { place, steps },
+            }
+        }
+        Forwarding {
+            place,
+            steps: count,
+        }
+    }
+
+    /// Lists the replacements of a concept: its replacement, the replacement of that, and so on.
+    pub fn replacements(&self, alloc: Global, concept: ResNo) -> Result<Vec<ResNo>, AllocError>
+        ensures { IfOk result (λ way. way.items ≡ replacements self.now.resources concept) }
+    {
+        let mut way = Vec::new(alloc);
+        let mut place = concept;
+        for _ in 0..self.resource_count() {
+            match self.replacement(place) {
+                Some(next) => {
+                    way.push(next)?;
+                    place = next;
+                }
+                None => return Ok(way),
+            }
+        }
+        Ok(way)
+    }
+
+    // The replacement of a resource.
+    fn replacement(&self, n: ResNo) -> Option<ResNo>
+        ensures { result ≡ replacement_of self.now.resources n }
+    {
+        self.resource(n)?.replaced
+    }
+}
