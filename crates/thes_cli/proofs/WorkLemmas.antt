@@ -1,5 +1,5 @@
 -- How a script over a new store ends.
-use Rattle.std.proofs.Common.{◌≡◌, refl, ℕ, List, [], codes, false, Option, Result, Ok, Err, inr, arith}
+use Rattle.std.proofs.Common.{◌≡◌, ℕ, List, false, Option, Result, Ok, Err}
 use Rattle.std.specs.Prelude.{IfOk, IfErr}
 use Rattle.thes_base.specs.Headline.{IsInOrder}
 use Rattle.thes_base.specs.Pipe.{KeepsToLimit}

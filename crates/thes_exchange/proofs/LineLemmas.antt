@@ -1,5 +1,5 @@
 -- Lines of bytes, one after another.
-use Rattle.std.proofs.Common.{◌≡◌, ◌≢◌, ◌⊎◌, inl, inr, ◌∙◌, sym, ap, refl, ℕ, List, [], ◌∷◌, ◌++◌, ◌==◌, map, append_assoc, append-nil, Bool, true, false, cond, rules}
+use Rattle.std.proofs.Common.{◌≡◌, ◌≢◌, inl, inr, ◌∙◌, sym, ap, refl, ℕ, List, [], ◌∷◌, ◌++◌, ◌==◌, map, append_assoc, append-nil, Bool, true, false, cond, rules}
 use Rattle.std.specs.List.{slice_split, onto_first}
 use Rattle.std.specs.Str.Lines.{lines, lines_of_parts, strip_carriage_return}
 use Rattle.thes_exchange.specs.Feed.{has_newline, line_bytes, line_text}

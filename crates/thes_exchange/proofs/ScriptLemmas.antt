@@ -1,5 +1,5 @@
 -- A script, a line further.
-use Rattle.std.proofs.Common.{◌≡◌, ◌≢◌, ◌⊎◌, inl, inr, ◌∙◌, sym, ap, refl, subst, ℕ, ◌+◌, ◌<◌, ◌≤◌, ◌↔◌, List, [], ◌∷◌, ◌++◌, length, length-append, append_assoc, append-nil, Bool, true, false, Option, Some, None, Result, Err, arith}
+use Rattle.std.proofs.Common.{◌≡◌, ◌≢◌, ◌⊎◌, inl, inr, ◌∙◌, sym, ap, refl, subst, ℕ, ◌+◌, ◌<◌, ◌≤◌, ◌↔◌, List, [], ◌∷◌, ◌++◌, length, length-append, append-nil, Bool, true, false, Option, Some, None, Result, Err, arith}
 use Rattle.std.proofs.KnownBytes.{Appends-trans, Appends-nil, Consumes-trans, Consumes-nil, Consumes-kept, Keeps-refl}
 use Rattle.std.proofs.lemmas.Grind.{flat_map-append, fold-append}
 use Rattle.std.proofs.lemmas.List.Elements.{All-push, All-nil, All-head, All-tail}
@@ -14,12 +14,12 @@ use Rattle.thes_base.specs.declared.fault.PipeFault.{PipeFault}
 use Rattle.thes_base.specs.declared.fault.PipeFault.TheVariants.{Read, Write, TooLong, Fault}
 use Rattle.thes_base.specs.declared.pipe.Pipe.{Pipe}
 use Rattle.thes_base.proofs.PipeLemmas.{appends_front_then}
-use Rattle.thes_exchange.specs.Feed.{left, has_newline, line_bytes, line_text, line_limit, TakesLine, TakesPart, IsTooLong, FindsEnd}
+use Rattle.thes_exchange.specs.Feed.{left, line_bytes, line_text, line_limit, TakesLine, TakesPart, IsTooLong, FindsEnd}
 use Rattle.thes_exchange.specs.Serving.{Serving}
 use Rattle.thes_exchange.specs.Script.{Fate, StepLine, RunLines, AreAllowed, lines_limit, EndsLine, whole_lines, ServesLines, outcome_of, text_told, script_text, noted, ended_with, nothing_noted, Scene, scene, IsBeyond, IsCause, Completes, Stops}
 use Rattle.thes_exchange.specs.Served.{ServesLine, StopsAfter, StopsAtLine, Served}
 use Rattle.thes_exchange.specs.declared.script.Ended.{Ended}
-use Rattle.thes_exchange.proofs.LineLemmas.{lines-more, whole_lines-append, whole_lines-more, line_whole, ends_again}
+use Rattle.thes_exchange.proofs.LineLemmas.{lines-more, whole_lines-more, line_whole, ends_again}
 
 -- Lines served, and one more.
 

@@ -1,9 +1,8 @@
 -- What becomes of one line.
-use Rattle.std.proofs.Common.{◌≡◌, ◌≢◌, ◌↔◌, ◌⊎◌, inl, inr, refl, sym, ap, ℕ, List, Bool, true, false, Option, Some, Result, Err, IsTrue, rules}
+use Rattle.std.proofs.Common.{◌≡◌, ◌≢◌, ◌↔◌, ◌⊎◌, inr, refl, sym, ap, ℕ, List, Bool, true, false, Option, Some, Result, Err, IsTrue, rules}
 use Rattle.std.proofs.lemmas.Bool.{false_from_ne_true}
 use Rattle.std.specs.Prelude.{IsErrOf}
-use Rattle.std.specs.Io.KnownBytes.{Appends}
-use Rattle.thes_base.specs.Pipe.{IsFresh, failed_of, ended_of, denied_of, written, AppendsFront, writing_fault}
+use Rattle.thes_base.specs.Pipe.{IsFresh, failed_of, denied_of, written, AppendsFront, writing_fault}
 use Rattle.thes_base.specs.declared.fault.Fault.TheVariants.{OutOfMemory}
 use Rattle.thes_base.specs.declared.pipe.Pipe.{Pipe}
 use Rattle.thes_base.specs.declared.pipe.Stop.{Stop}

@@ -1,6 +1,5 @@
-use Rattle.std.proofs.Common.{rules, arith, subst, length, take, ◌≤◌, ◌≡◌, ℕ, false}
+use Rattle.std.proofs.Common.{rules, length, ◌≤◌, ◌≡◌}
 use Rattle.std.specs.Prelude.{unwrap_or}
-use Rattle.thes_exchange.specs.Feed.{has_newline}
 use Rattle.thes_exchange.proofs.FeedLemmas.{first_line}
 use Rattle.thes_exchange.proofs.feed.line_length.Goals as goal
 
