@@ -1,16 +1,19 @@
 -- Which rules one link more can break, by its kind and by what is held at its ends.
-use Rattle.std.proofs.Common.{◌≡◌, ◌≢◌, ◌⊎◌, inl, inr, ℕ, List, [], ◌∷◌, refl, sym, ap, subst, ◌∙◌}
+use Rattle.std.proofs.Common.{◌≡◌, ◌≢◌, ◌⊎◌, inl, inr, ℕ, List, [], ◌∷◌, refl, sym, ap, subst, ◌∙◌, Option, Some, None}
 use Rattle.thes_base.specs.declared.data.Link.{Link}
 use Rattle.thes_base.specs.declared.data.LinkKind.{LinkKind}
 use Rattle.thes_base.specs.declared.data.Direction.{Direction}
 use Rattle.thes_base.specs.declared.data.Direction.TheVariants.{Forward, Never}
-use Rattle.thes_base.specs.Links.{broader_way, related_way, exact_way, apart_way, Leads, Path, Chain, Joined, IsBroader, IsAbove, IsRelated, NoCycle, S27, S46}
+use Rattle.thes_base.specs.Links.{broader_way, related_way, exact_way, apart_way, Leads, Path, Chain, Joined, IsBroader, IsAbove, IsRelated, NoCycle, S27, S46, IsFirstBroken}
 use Rattle.thes_base.specs.declared.data.LinkKind.TheVariants as kinds
 use Rattle.thes_graph.specs.declared.relation.Relation.TheVariants.{Broader, Narrower, Related}
 use Rattle.thes_graph.specs.Steps.{Steps, Reaches}
-use Rattle.thes_graph.specs.Local.{BreakNone, UpTo}
+use Rattle.thes_graph.specs.Local.{BreakNone, UpTo, IsNear}
+use Rattle.thes_graph.specs.Trail.{IsBrokenBetween}
+use Rattle.thes_base.specs.declared.fault.Refusal.{Refusal}
+use Rattle.thes_base.specs.declared.fault.Refusal.TheVariants as no
 use Rattle.thes_graph.proofs.ProbeLemmas.{Path-last, narrower_to}
-use Rattle.thes_graph.proofs.PivotLemmas.{Chain-join, Chain-map, Chain-one, Chain-then_reach, Reaches-then_chain}
+use Rattle.thes_graph.proofs.PivotLemmas.{Chain-join, Chain-map, Reaches-map, Chain-one, Chain-then_reach, Reaches-then_chain}
 
 turn_either : (k : LinkKind) (a b x y : ℕ) → Leads (related_way k) a b x y → Leads (related_way k) a b y x
 turn_either kinds.Related a b x y (inl (e, f)) = inr (f, e)
@@ -19,7 +22,7 @@ turn_either kinds.RelMatch a b x y (inl (e, f)) = inr (f, e)
 turn_either kinds.RelMatch a b x y (inr (e, f)) = inl (f, e)
 turn_either _ a b x y h = absurd h
 
-related_turns : (Held : Link → Type 0) (x y : ℕ) → IsRelated Held x y → IsRelated Held y x
+pub related_turns : (Held : Link → Type 0) (x y : ℕ) → IsRelated Held x y → IsRelated Held y x
 related_turns Held x y (l, held, leads) = (l, held, turn_either l.kind l.a l.b x y leads)
 
 -- a chain with one more step in its relation goes without it, or up to it and on from it
@@ -126,6 +129,32 @@ module _ (Held : Link → Type 0) (new : Link) (two : new.a ≢ new.b) (legal : 
       pair : (x y : ℕ) → UpTo Held x new.a → UpTo Held new.b y → IsRelated Held x y → ⊥
       pair x y to (inl same) one = related x (related_turns Held x new.b (subst (λ (w : ℕ). IsRelated Held x w) (sym same) one))
       pair x y to (inr chain) one = no_chain_from Held new.b y up_on chain
+
+-- what is broken between its ends is what the link breaks
+module _ (Held : Link → Type 0) (new : Link) (two : new.a ≢ new.b) (legal : BreakNone Held)
+    (up : broader_way new.kind ≡ Forward) (beside : related_way new.kind ≡ Never) (alike : exact_way new.kind ≡ Never) (apart : apart_way new.kind ≡ Never) where
+  up_with : (x y : ℕ) → UpTo Held x y → UpTo (With Held new) x y
+  up_with = Reaches-map (IsBroader Held) (IsBroader (With Held new)) (more Held new broader_way)
+
+  -- the link leads from what is low or below to what is high or above
+  pub over : (x y : ℕ) → UpTo Held x new.a → UpTo Held new.b y → IsAbove (With Held new) x y
+  over x y to from =
+      Chain-then_reach (IsBroader (With Held new)) x new.b y
+      (Reaches-then_chain (IsBroader (With Held new)) x new.a new.b (up_with x new.a to) (Chain-one (IsBroader (With Held new)) new.a new.b (new_step Held new two up)))
+      (up_with new.b y from)
+
+  pub IsFirstBroken-between : (r : Option Refusal) → IsBrokenBetween Held new.a new.b r → IsFirstBroken (With Held new) r
+  IsFirstBroken-between None (off, pair) = unbroken Held new two legal up beside alike apart off pair
+  IsFirstBroken-between (Some no.Cycle) above = (new.a, cycle_closed Held new two up above)
+  IsFirstBroken-between (Some no.S27) (off, found) =
+      (no_cycle_up Held new two up off legal.0, (found.0, found.1, more Held new related_way found.0 found.1 found.4, over found.0 found.1 found.2 found.3))
+  IsFirstBroken-between (Some _) h = absurd h
+
+  -- what lies low or below, and high or above, is near the link's first end
+  pub near_between : (n : ℕ) → UpTo Held n new.a ⊎ UpTo Held new.b n → IsNear (With Held new) new.a n
+  near_between n (inl (inl same)) = inl (inl (sym same))
+  near_between n (inl (inr chain)) = inr (inl (Chain-map (IsBroader Held) (IsBroader (With Held new)) (more Held new broader_way) n new.a chain))
+  near_between n (inr from) = inl (inr (over new.a n (inl refl) from))
 
 -- a related link between two of which neither is above the other
 pub unbroken_related : (Held : Link → Type 0) (new : Link) → BreakNone Held → new.kind ≡ kinds.Related → (IsAbove Held new.a new.b → ⊥) → (IsAbove Held new.b new.a → ⊥) → BreakNone (With Held new)

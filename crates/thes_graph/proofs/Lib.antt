@@ -26,3 +26,8 @@ mod ClimbLemmas
 pub mod AnswerLemmas
 mod SideLemmas
 mod KindLemmas
+mod TrailLemmas
+mod SpentLemmas
+mod GoesLemmas
+mod MergedLemmas
+mod BetweenLemmas

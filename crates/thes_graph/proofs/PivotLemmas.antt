@@ -89,7 +89,7 @@ Leads-at Either a b x y p (inr (e, f)) (inr at) = inl (sym e ∙ at)
 Leads-at Never a b x y p h at = absurd h
 
 -- a link never leads one node twice if its ends differ
-Leads-two : (d : Direction) (a b x : ℕ) → a ≢ b → Leads d a b x x → ⊥
+pub Leads-two : (d : Direction) (a b x : ℕ) → a ≢ b → Leads d a b x x → ⊥
 Leads-two Forward a b x two (e, f) = two (e ∙ sym f)
 Leads-two Backward a b x two (e, f) = two (f ∙ sym e)
 Leads-two Either a b x two (inl (e, f)) = two (e ∙ sym f)

@@ -4,14 +4,7 @@ use Rattle.std.specs.List.{IsDistinct}
 use Rattle.std.proofs.lemmas.List.{get_or_append_left, get_or_default}
 use Rattle.std.proofs.lemmas.List.Elements.{Contains-append_left, Contains-get_or}
 use Rattle.thes_base.specs.Links.{Path}
-use Rattle.thes_graph.specs.Steps.{Reaches, IsReachOf, GrowsBy}
-
--- all that was found is reached, and what the nodes below i lead to is found
-pub record IsClosedBelow (S : ℕ → ℕ → Type 0) (start : ℕ) (nodes : List ℕ) (i : ℕ) : Type 0 where
-  pub starts : Contains nodes start
-  pub sound : (y : ℕ) → Contains nodes y → Reaches S start y
-  pub closed : (k : ℕ) → k < i → k < length nodes → (y : ℕ) → S (get_or nodes k 0) y → Contains nodes y
-  pub distinct : IsDistinct nat_eq nodes
+use Rattle.thes_graph.specs.Steps.{Reaches, IsReachOf, IsClosedBelow, GrowsBy}
 
 module _ (S : ℕ → ℕ → Type 0) where
   -- one more step behind a path

@@ -23,7 +23,7 @@ touches_one : (sight : Sight) (n : ℕ) (l : Link) → TouchesAt sight n l → 1
 touches_one sight n l (inl a) = omega (arith, one_at_same (place sight l.a) n a)
 touches_one sight n l (inr b) = omega (arith, one_at_same (place sight l.b) n b)
 
-either_end : (sight : Sight) (n m : ℕ) (l : Link) → ((x : ℕ) → x ≡ m → place sight x ≡ n) → EndsAt m l → TouchesAt sight n l
+pub either_end : (sight : Sight) (n m : ℕ) (l : Link) → ((x : ℕ) → x ≡ m → place sight x ≡ n) → EndsAt m l → TouchesAt sight n l
 either_end sight n m l moves (inl a) = inl (moves l.a a)
 either_end sight n m l moves (inr b) = inr (moves l.b b)
 
@@ -45,13 +45,13 @@ module _ (sight : Sight) (held : Links) (node : ℕ) (row : List Link) (is : IsR
       (λ l has. touches_one sight node l (either_end sight node node l moves (is.sound l has).1))
 
 -- a sum of two weights
-sum_by-two : {X : Type 0} (f g h : X → ℕ) → ((x : X) → f x + g x ≤ h x) → (xs : List X) → sum_by f xs + sum_by g xs ≤ sum_by h xs
+pub sum_by-two : {X : Type 0} (f g h : X → ℕ) → ((x : X) → f x + g x ≤ h x) → (xs : List X) → sum_by f xs + sum_by g xs ≤ sum_by h xs
 sum_by-two f g h each [] = omega arith
 sum_by-two f g h each (x ∷ xs) =
     omega (arith, each x, sum_by-two f g h each xs, sum_by-cons f x xs, sum_by-cons g x xs, sum_by-cons h x xs)
 
 module _ (source target : ℕ) (two : source ≢ target) where
-  place-source : (x : ℕ) → x ≡ source → place (Merged source target) x ≡ target
+  pub place-source : (x : ℕ) → x ≡ source → place (Merged source target) x ≡ target
   place-source x same = ap (λ b. if b then target else x) ((Decides-eqb x source).1 same)
 
   place-other : (x : ℕ) → x ≢ source → place (Merged source target) x ≡ x
@@ -66,7 +66,7 @@ module _ (source target : ℕ) (two : source ≢ target) where
   pub place-stays : (node x : ℕ) → node ≢ source → x ≡ node → place (Merged source target) x ≡ node
   place-stays node x off at = grind arith
 
-  place-target : (x : ℕ) → place (Merged source target) x ≡ target → (x ≡ target) ⊎ (x ≡ source)
+  pub place-target : (x : ℕ) → place (Merged source target) x ≡ target → (x ≡ target) ⊎ (x ≡ source)
   place-target x at = elim (place-cases x) [ inl (s, _) ↦ inr s | inr (_, e) ↦ inl (sym e ∙ at) ]
 
   pub place-never_source : (x : ℕ) → place (Merged source target) x ≡ source → ⊥

@@ -3,12 +3,12 @@ use Rattle.std.proofs.Common.{◌≡◌, ◌≢◌, ◌==◌, ◌⊎◌, inl, in
 use Rattle.std.specs.List.{filter_map, cons_option}
 use Rattle.std.proofs.lemmas.List.Elements.{Contains-append_left, Contains-push, Contains-push_cases}
 use Rattle.thes_base.specs.declared.data.Link.{Link}
-use Rattle.thes_base.specs.Links.{Links}
+use Rattle.thes_base.specs.Links.{Links, HeldIn}
 use Rattle.thes_base.proofs.ListMembers.{Contains-none, Contains-head, Contains-later, Contains-cons_cases}
 use Rattle.thes_graph.specs.declared.sight.Sight.{Sight}
 use Rattle.thes_graph.specs.declared.sight.Sight.TheVariants.{AsHeld, With, Merged}
-use Rattle.thes_graph.specs.Reading.{EndsAt}
-use Rattle.thes_graph.specs.Sight.{place, becomes, WouldBe, TouchesAt, IsReadOf, shown}
+use Rattle.thes_graph.specs.Reading.{EndsAt, HaveTwoEnds}
+use Rattle.thes_graph.specs.Sight.{place, becomes, WouldBe, TouchesAt, IsReadOf, IsFit, shown}
 
 module _ {X Y : Type 0} (h : X → Option Y) where
   -- the first item gives one or none
@@ -94,3 +94,10 @@ module _ (held : Links) (node : ℕ) (row : List Link) where
       touch : EndsAt node m → TouchesAt (Merged source target) node l
       touch (inl a) = inl (sym (becomes-ends source target l m gives).1 ∙ a)
       touch (inr b) = inr (sym (becomes-ends source target l m gives).2 ∙ b)
+
+-- links have two ends after the edit
+pub would_two : (held : Links) (sight : Sight) → IsFit sight → HaveTwoEnds (HeldIn held) → HaveTwoEnds (WouldBe sight held)
+would_two held AsHeld fit two l has = two l has
+would_two held (With new) fit two l (inl has) = two l has
+would_two held (With new) fit two l (inr same) = λ ends. fit (ap (λ (w : Link). w.a) same ∙ ends ∙ sym (ap (λ (w : Link). w.b) same))
+would_two held (Merged source target) fit two m (l, has, gives) = (becomes-ends source target l m gives).3

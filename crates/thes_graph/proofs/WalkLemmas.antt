@@ -9,11 +9,11 @@ use Rattle.thes_base.specs.Links.{Links}
 use Rattle.thes_graph.specs.declared.relation.Relation.{Relation}
 use Rattle.thes_graph.specs.declared.sight.Sight.{Sight}
 use Rattle.thes_graph.specs.Reading.{EndsAt}
-use Rattle.thes_graph.specs.Steps.{way_of, Steps, GrowsBy}
+use Rattle.thes_graph.specs.Steps.{way_of, Steps, IsClosedBelow, GrowsBy}
 use Rattle.thes_graph.specs.Sight.{WouldBe, touches, IsReadOf, CoversAt, shown}
 use Rattle.thes_graph.specs.Local.{IsGathered}
 use Rattle.thes_graph.proofs.StepLemmas.{Leads-first}
-use Rattle.thes_graph.proofs.ReachLemmas.{IsClosedBelow, IsClosedBelow-start, IsClosedBelow-more, IsClosedBelow-end}
+use Rattle.thes_graph.proofs.ReachLemmas.{IsClosedBelow-start, IsClosedBelow-more, IsClosedBelow-end}
 use Rattle.thes_graph.proofs.SightLemmas.{shown-sound, shown-complete}
 use Rattle.thes_graph.proofs.CountLemmas.{met_twice}
 

@@ -1,7 +1,7 @@
 -- The weight of a list of nodes: the visits that reading each of them costs.
-use Rattle.std.proofs.Common.{◌≡◌, ◌≢◌, ◌+◌, ◌≤◌, inl, inr, ℕ, suc, List, [], ◌∷◌, ◌++◌, length, take, ap, sym, subst, ◌∙◌, arith, Some, None, slice_get, Contains, AllPairs, sum_by}
+use Rattle.std.proofs.Common.{◌≡◌, ◌≢◌, ◌+◌, ◌≤◌, inl, inr, ℕ, zero, suc, List, [], ◌∷◌, ◌++◌, length, take, drop, ◌<◌, ap, sym, subst, ◌∙◌, arith, Some, None, slice_get, Contains, AllPairs, sum_by}
 use Rattle.std.proofs.lemmas.Option.{slice_get_within, slice_get_cases, get_or_from_slice_get, none-some}
-use Rattle.std.proofs.lemmas.List.{take_more}
+use Rattle.std.proofs.lemmas.List.{take_more, get_or-take, length-take}
 use Rattle.std.proofs.lemmas.List.Elements.{Contains-append_left, Contains-append_right, Contains-append_cases}
 use Rattle.std.proofs.lemmas.List.Sums.{sum_by-append, sum_by-cons}
 use Rattle.thes_base.proofs.ListMembers.{Contains-none, Contains-head, Contains-later, Contains-cons_cases}
@@ -25,16 +25,32 @@ module _ {X : Type 0} where
         | inr later ↦ let c = cut xs x later in (y ∷ c.0, c.1, ap (λ ws. y ∷ ws) c.2)
       ]
 
-  abbrev IsOnce : List X → Type 0
+  abbrev pub IsOnce : List X → Type 0
   IsOnce [] = Unit {0}
   IsOnce (x ∷ xs) = ((y : X) → Contains xs y → x ≢ y) × IsOnce xs
 
-  once_from_pairs : (xs : List X) → AllPairs (λ x y. x ≢ y) xs → IsOnce xs
+  pub once_from_pairs : (xs : List X) → AllPairs (λ x y. x ≢ y) xs → IsOnce xs
   once_from_pairs [] apart = tt
   once_from_pairs (x ∷ xs) apart = (
     (λ y (k, lt, e) same. apart 0 (suc k) y (omega arith) (omega arith) (same ∙ sym e)),
     once_from_pairs xs (λ i j d lt inside. apart (suc i) (suc j) d (omega arith) (omega arith)),
   )
+
+  -- a part of distinct elements
+  pub once_drop : (i : ℕ) (xs : List X) → IsOnce xs → IsOnce (drop i xs)
+  once_drop zero xs once = once
+  once_drop (suc i) [] once = once
+  once_drop (suc i) (x ∷ xs) once = once_drop i xs once.1
+
+  pub once_take : (i : ℕ) (xs : List X) → IsOnce xs → IsOnce (take i xs)
+  once_take zero xs once = tt
+  once_take (suc i) [] once = once
+  once_take (suc i) (x ∷ xs) once = ((λ y has. once.0 y (Contains-take i xs y has)), once_take i xs once.1)
+    where
+      Contains-take : (i : ℕ) (xs : List X) (y : X) → Contains (take i xs) y → Contains xs y
+      Contains-take i xs y (k, lt, is) =
+          let below : k < i = omega (arith, length-take i xs) in
+          (k, omega (arith, length-take i xs), sym (get_or-take i xs k y below) ∙ is)
 
   -- distinct elements of ns, each of weight one or more, are no more than the weight of ns
   pub length-once : (weight : X → ℕ) (xs ns : List X) → IsOnce xs → ((x : X) → Contains xs x → Contains ns x) → ((x : X) → Contains xs x → 1 ≤ weight x) → length xs ≤ sum_by weight ns

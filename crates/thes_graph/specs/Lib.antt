@@ -13,3 +13,4 @@ pub mod Mapped
 pub mod Moved
 pub mod Whole
 pub mod Ends
+pub mod Trail

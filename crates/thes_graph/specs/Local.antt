@@ -35,6 +35,9 @@ NoS27At Held p = (x y : ℕ) → UpTo Held x p → UpTo Held p y → IsRelated H
 abbrev pub NoS46At : (Link → Type 0) → ℕ → Type 0
 NoS46At Held p = (x y : ℕ) → InClassOf Held p x → InClassOf Held p y → IsApart Held x y → ⊥
 
+abbrev pub IsS46At : (Link → Type 0) → ℕ → Type 0
+IsS46At Held p = (x : ℕ) × (y : ℕ) × InClassOf Held p x × InClassOf Held p y × IsApart Held x y
+
 -- the first rule that the links break by a chain or pair through p
 abbrev pub IsFirstBrokenAt : (Link → Type 0) → ℕ → Option Refusal → Type 0
 IsFirstBrokenAt Held p None = NoCycleAt Held p × NoS27At Held p × NoS46At Held p

@@ -45,10 +45,10 @@ shown AsHeld row = row
 shown (With new) row = row ++ new ∷ []
 shown (Merged source target) row = filter_map (becomes source target) row
 
--- a merge is of two different nodes
+-- a new link has two different ends, and a merge is of two different nodes
 abbrev pub IsFit : Sight → Type 0
 IsFit AsHeld = Unit {0}
-IsFit (With new) = Unit {0}
+IsFit (With new) = new.a ≢ new.b
 IsFit (Merged source target) = source ≢ target
 
 -- the links looked at are those held

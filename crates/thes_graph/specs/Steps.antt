@@ -1,5 +1,5 @@
 -- What links say of two nodes, and what they lead to step by step.
-use Rattle.std.specs.Prelude.{◌≡◌, ◌==◌, ◌⊎◌, ◌++◌, ℕ, List, Contains, if◌then◌else◌, Option, None, Some, nat_eq}
+use Rattle.std.specs.Prelude.{◌≡◌, ◌<◌, ◌==◌, ◌⊎◌, ◌++◌, ℕ, List, Contains, if◌then◌else◌, Option, None, Some, nat_eq, get_or, length}
 use Rattle.std.specs.List.{IsDistinct}
 use Rattle.thes_base.specs.declared.data.Link.{Link}
 use Rattle.thes_base.specs.declared.data.LinkKind.{LinkKind}
@@ -48,6 +48,13 @@ Reaches joined x y = (x ≡ y) ⊎ Chain joined x y
 pub record IsReachOf (joined : ℕ → ℕ → Type 0) (start : ℕ) (nodes : List ℕ) : Type 0 where
   pub sound : (y : ℕ) → Contains nodes y → Reaches joined start y
   pub complete : (y : ℕ) → Reaches joined start y → Contains nodes y
+  pub distinct : IsDistinct nat_eq nodes
+
+-- all nodes met are reached, and what the nodes below i lead to is met
+pub record IsClosedBelow (joined : ℕ → ℕ → Type 0) (start : ℕ) (nodes : List ℕ) (i : ℕ) : Type 0 where
+  pub starts : Contains nodes start
+  pub sound : (y : ℕ) → Contains nodes y → Reaches joined start y
+  pub closed : (k : ℕ) → k < i → k < length nodes → (y : ℕ) → joined (get_or nodes k 0) y → Contains nodes y
   pub distinct : IsDistinct nat_eq nodes
 
 -- the new list is the old one with more behind it

@@ -4,6 +4,7 @@ ghost use Rattle.std.specs.Prelude.{◌≡◌, ◌≢◌, ℕ, true, MatchBool};
 ghost use Rattle.thes_base.specs.Links.{HeldIn};
 ghost use Rattle.thes_graph.specs.declared.relation.Relation.TheVariants as relation;
 ghost use Rattle.thes_graph.specs.declared.sight.Sight.TheVariants.{With};
+ghost use Rattle.thes_graph.specs.Reading.{HaveTwoEnds};
 ghost use Rattle.thes_graph.specs.Side.{IsWalked};
 ghost use Rattle.thes_graph.specs.Steps.{Steps};
 ghost use Rattle.thes_graph.specs.Sight.{WouldBe};
@@ -11,18 +12,44 @@ ghost use Rattle.thes_graph.specs.Local.{BreakNone};
 ghost use Rattle.thes_graph.specs.Ends.{LeadsUp, IsLoose};
 
 use crate::links::Links;
-use crate::relation::Relation;
+use crate::relation::{Relation, step};
 use crate::side::side_for;
+use crate::sight::Sight;
 use thes_base::data::{Link, LinkKind};
 use thes_base::number::ResNo;
 
 // Whether no link at the node leads on in the relation.
 fn is_end<L: Links>(links: &L, n: ResNo, relation: Relation) -> bool
     requires { IsWalked relation }
-    ensures { result ≡ true → (y : ℕ) → Steps relation (HeldIn (L.held links.now)) n y → ⊥ }
+    ensures two_ends { HaveTwoEnds (HeldIn (L.held links.now)) }
+    ensures end { result ≡ true → (y : ℕ) → Steps relation (HeldIn (L.held links.now)) n y → ⊥ }
 {
     let part = links.part(n, side_for(relation));
     part.to <= part.from
+}
+
+/// Whether no link at the node leads on in the relation after the edit, as far as the parts of rows tell.
+pub fn is_end_after<L: Links>(links: &L, sight: &Sight, x: ResNo, relation: Relation) -> bool
+    requires { IsWalked relation }
+    ensures two_ends { HaveTwoEnds (HeldIn (L.held links.now)) }
+    ensures end { result ≡ true → (y : ℕ) → Steps relation (WouldBe sight.now (L.held links.now)) x y → ⊥ }
+{
+    match sight {
+        Sight::AsHeld => is_end(links, x, relation),
+        Sight::With(new) => {
+            let end = is_end(links, x, relation);
+            match step(relation, new, x) {
+                Some(_) => false,
+                None => end,
+            }
+        }
+        Sight::Merged(source, _) => {
+            if !is_end(links, *source, relation) {
+                return false;
+            }
+            is_end(links, x, relation)
+        }
+    }
 }
 
 // Whether nothing is narrower than the node, nor related to it.
@@ -41,8 +68,8 @@ fn is_highest<L: Links>(links: &L, n: ResNo) -> bool
     is_end(links, n, Relation::Broader) && is_end(links, n, Relation::Related)
 }
 
-// Whether links of this kind lead up, and entail nothing else.
-fn leads_up(kind: LinkKind) -> bool
+/// Whether links of this kind lead up, and entail nothing else.
+pub fn leads_up(kind: LinkKind) -> bool
     ensures { MatchBool result (LeadsUp kind) (Unit {0}) }
 {
     match kind {

@@ -1,6 +1,7 @@
 //! Links between concepts: what is held, and whether one more link or a merge keeps the rules.
 #![tactic(auto)]
 
+mod between;
 mod climb;
 mod ends;
 pub mod graph;
@@ -12,5 +13,6 @@ mod nodes;
 mod relation;
 pub mod side;
 mod sight;
+mod trail;
 mod walk;
 mod whole;

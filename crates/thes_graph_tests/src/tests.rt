@@ -259,7 +259,20 @@ fn visits_near_the_edit(rt: HostRuntime) -> Result<(), Fail> {
     for n in 5..505u32 {
         run(&rt, alloc, &mut graph, &[(Broader, n, n + 1, None)])?;
     }
-    assert_eq!(rt; visits(alloc, &graph, &link(Related, 2, 4))?, Some(5));
+    assert_eq!(rt; visits(alloc, &graph, &link(Related, 2, 4))?, Some(2));
+    Ok(())
+}
+
+// A walk up reads nothing of what else lies below a broad concept.
+#[test]
+fn visits_on_one_side(rt: HostRuntime) -> Result<(), Fail> {
+    let alloc = rt.alloc();
+    let mut graph = Graph::new(alloc);
+    run(&rt, alloc, &mut graph, &[(Broader, 601, 600, None)])?;
+    for n in 2..503u32 {
+        run(&rt, alloc, &mut graph, &[(Broader, n, 1, None)])?;
+    }
+    assert_eq!(rt; visits(alloc, &graph, &link(Broader, 600, 2))?, Some(3));
     Ok(())
 }
 

@@ -1,71 +1,40 @@
-use Rattle.std.proofs.Common.{◌+◌, ◌*◌, ◌≤◌, length, arith}
-use Rattle.thes_graph.specs.declared.relation.Relation.TheVariants.{Broader, Narrower, Exact}
-use Rattle.thes_graph.specs.Local.{NoCycleAt, NoS27At}
-use Rattle.thes_graph.specs.Local.{IsGathered}
+use Rattle.std.proofs.Common.{◌≡◌, ◌+◌, ◌*◌, ◌≤◌, length, arith, Option, Some, None, true, false}
+use Rattle.thes_graph.specs.Local.{IsS46At, NoS46At}
 use Rattle.thes_graph.specs.Sight.{WouldBe}
-use Rattle.thes_graph.proofs.ProbeLemmas.{cycle_found, cycle_none, s27_found, s27_none, s46_found, s46_none, near_up, near_down, near_same}
+use Rattle.thes_graph.specs.Trail.{IsBrokenBetween}
+use Rattle.thes_graph.proofs.ProbeLemmas.{IsFirstBrokenAt-between, near_pivot}
 use Rattle.thes_graph.proofs.judge.probe.Goals as goal
 
-pub returns-then-some_ties-clause-first : goal.returns-then-some_ties-clause-first
-returns-then-some_ties-clause-first g c =
-    let up : IsGathered (WouldBe c.args.sight.now (g.L.Links.held c.args.links.now)) Broader c.args.pivot c.in_ok-up.up.nodes c.in_ok-up.up.links.items = c.in_ok-up.ensures.gathered in
-    cycle_found (WouldBe c.args.sight.now (g.L.Links.held c.args.links.now)) c.args.pivot c.in_ok-up.up.nodes c.in_ok-up.up.links.items up (rw (c.deref.ensures.value, c.in_ok-here.ensures) at c.if-some_ties.ensures)
+pub returns-in-Some-clause-first : goal.returns-in-Some-clause-first
+returns-in-Some-clause-first g c =
+    IsFirstBrokenAt-between (WouldBe c.args.sight.now (g.L.Links.held c.args.links.now)) c.args.pivot c.in-Some.refusal (rw c.in-Some.is at c.in_ok-refusal.ensures.broken)
 
-pub returns-then-some_ties-clause-count : goal.returns-then-some_ties-clause-count
-returns-then-some_ties-clause-count g c ns covers =
-    let up : IsGathered (WouldBe c.args.sight.now (g.L.Links.held c.args.links.now)) Broader c.args.pivot c.in_ok-up.up.nodes c.in_ok-up.up.links.items = c.in_ok-up.ensures.gathered in
-    let one : g.L.Links.count c.gather.new.links ≤ g.L.Links.count c.args.links.now + 2 * length ns = c.in_ok-up.ensures.count ns (λ n has. covers n (near_up (WouldBe c.args.sight.now (g.L.Links.held c.args.links.now)) c.args.pivot n (up.reach.sound n has))) in
-    omega arith
+pub returns-in-Some-clause-count : goal.returns-in-Some-clause-count
+returns-in-Some-clause-count g c ns covers =
+    omega (arith, c.in_ok-refusal.ensures.count ns (λ n near. covers n (near_pivot (WouldBe c.args.sight.now (g.L.Links.held c.args.links.now)) c.args.pivot n near)))
 
-pub returns-then-some_ties-2-clause-first : goal.returns-then-some_ties-2-clause-first
-returns-then-some_ties-2-clause-first g c =
-    let up : IsGathered (WouldBe c.args.sight.now (g.L.Links.held c.args.links.now)) Broader c.args.pivot c.in_ok-up.up.nodes c.in_ok-up.up.links.items = c.in_ok-up.ensures.gathered in
-    let down : IsGathered (WouldBe c.args.sight.now (g.L.Links.held c.args.links.now)) Narrower c.args.pivot c.in_ok-down.down.nodes c.in_ok-down.down.links.items = rw c.in_ok-up.ensures.held at c.in_ok-down.ensures.gathered in
-    let no_cycle : NoCycleAt (WouldBe c.args.sight.now (g.L.Links.held c.args.links.now)) c.args.pivot = cycle_none (WouldBe c.args.sight.now (g.L.Links.held c.args.links.now)) c.args.pivot c.in_ok-up.up.nodes c.in_ok-up.up.links.items up (rw (c.deref.ensures.value, c.in_ok-here.ensures) at c.if-some_ties.ensures) in
-    (no_cycle, s27_found (WouldBe c.args.sight.now (g.L.Links.held c.args.links.now)) c.args.pivot c.in_ok-up.up.nodes c.in_ok-up.up.links.items up c.in_ok-down.down.nodes c.in_ok-down.down.links.items down (rw c.deref-2.ensures.value at c.if-some_ties-2.ensures))
+pub returns-then-branch-clause-first : goal.returns-then-branch-clause-first
+returns-then-branch-clause-first g c =
+    let none : IsBrokenBetween (WouldBe c.args.sight.now (g.L.Links.held c.args.links.now)) c.args.pivot c.args.pivot None = rw c.in-None.is at c.in_ok-refusal.ensures.broken in
+    let found : IsS46At (WouldBe c.args.sight.now (g.L.Links.held c.args.links.now)) c.args.pivot = rw (c.if-branch.true, c.in_ok-refusal.ensures.held) at c.in_ok-breaks_class.ensures.found in
+    (none.0, none.1, found)
 
-pub returns-then-some_ties-2-clause-count : goal.returns-then-some_ties-2-clause-count
-returns-then-some_ties-2-clause-count g c ns covers =
-    let up : IsGathered (WouldBe c.args.sight.now (g.L.Links.held c.args.links.now)) Broader c.args.pivot c.in_ok-up.up.nodes c.in_ok-up.up.links.items = c.in_ok-up.ensures.gathered in
-    let down : IsGathered (WouldBe c.args.sight.now (g.L.Links.held c.args.links.now)) Narrower c.args.pivot c.in_ok-down.down.nodes c.in_ok-down.down.links.items = rw c.in_ok-up.ensures.held at c.in_ok-down.ensures.gathered in
-    let one : g.L.Links.count c.gather.new.links ≤ g.L.Links.count c.args.links.now + 2 * length ns = c.in_ok-up.ensures.count ns (λ n has. covers n (near_up (WouldBe c.args.sight.now (g.L.Links.held c.args.links.now)) c.args.pivot n (up.reach.sound n has))) in
-    let two : g.L.Links.count c.gather-2.new.links ≤ g.L.Links.count c.gather.new.links + 2 * length ns = c.in_ok-down.ensures.count ns (λ n has. rw c.in_ok-up.ensures.held (covers n (near_down (WouldBe c.args.sight.now (g.L.Links.held c.args.links.now)) c.args.pivot n (down.reach.sound n has)))) in
-    omega arith
-
-pub returns-then-some_ties-3-clause-first : goal.returns-then-some_ties-3-clause-first
-returns-then-some_ties-3-clause-first g c =
-    let up : IsGathered (WouldBe c.args.sight.now (g.L.Links.held c.args.links.now)) Broader c.args.pivot c.in_ok-up.up.nodes c.in_ok-up.up.links.items = c.in_ok-up.ensures.gathered in
-    let down : IsGathered (WouldBe c.args.sight.now (g.L.Links.held c.args.links.now)) Narrower c.args.pivot c.in_ok-down.down.nodes c.in_ok-down.down.links.items = rw c.in_ok-up.ensures.held at c.in_ok-down.ensures.gathered in
-    let same : IsGathered (WouldBe c.args.sight.now (g.L.Links.held c.args.links.now)) Exact c.args.pivot c.in_ok-same.same.nodes c.in_ok-same.same.links.items = rw (c.in_ok-down.ensures.held, c.in_ok-up.ensures.held) at c.in_ok-same.ensures.gathered in
-    let no_cycle : NoCycleAt (WouldBe c.args.sight.now (g.L.Links.held c.args.links.now)) c.args.pivot = cycle_none (WouldBe c.args.sight.now (g.L.Links.held c.args.links.now)) c.args.pivot c.in_ok-up.up.nodes c.in_ok-up.up.links.items up (rw (c.deref.ensures.value, c.in_ok-here.ensures) at c.if-some_ties.ensures) in
-    let no_s27 : NoS27At (WouldBe c.args.sight.now (g.L.Links.held c.args.links.now)) c.args.pivot = s27_none (WouldBe c.args.sight.now (g.L.Links.held c.args.links.now)) c.args.pivot c.in_ok-up.up.nodes c.in_ok-up.up.links.items up c.in_ok-down.down.nodes c.in_ok-down.down.links.items down (rw c.deref-2.ensures.value at c.if-some_ties-2.ensures) in
-    (no_cycle, no_s27, s46_found (WouldBe c.args.sight.now (g.L.Links.held c.args.links.now)) c.args.pivot c.in_ok-same.same.nodes c.in_ok-same.same.links.items same (rw c.deref-3.ensures.value at c.if-some_ties-3.ensures))
-
-pub returns-then-some_ties-3-clause-count : goal.returns-then-some_ties-3-clause-count
-returns-then-some_ties-3-clause-count g c ns covers =
-    let up : IsGathered (WouldBe c.args.sight.now (g.L.Links.held c.args.links.now)) Broader c.args.pivot c.in_ok-up.up.nodes c.in_ok-up.up.links.items = c.in_ok-up.ensures.gathered in
-    let down : IsGathered (WouldBe c.args.sight.now (g.L.Links.held c.args.links.now)) Narrower c.args.pivot c.in_ok-down.down.nodes c.in_ok-down.down.links.items = rw c.in_ok-up.ensures.held at c.in_ok-down.ensures.gathered in
-    let same : IsGathered (WouldBe c.args.sight.now (g.L.Links.held c.args.links.now)) Exact c.args.pivot c.in_ok-same.same.nodes c.in_ok-same.same.links.items = rw (c.in_ok-down.ensures.held, c.in_ok-up.ensures.held) at c.in_ok-same.ensures.gathered in
-    let one : g.L.Links.count c.gather.new.links ≤ g.L.Links.count c.args.links.now + 2 * length ns = c.in_ok-up.ensures.count ns (λ n has. covers n (near_up (WouldBe c.args.sight.now (g.L.Links.held c.args.links.now)) c.args.pivot n (up.reach.sound n has))) in
-    let two : g.L.Links.count c.gather-2.new.links ≤ g.L.Links.count c.gather.new.links + 2 * length ns = c.in_ok-down.ensures.count ns (λ n has. rw c.in_ok-up.ensures.held (covers n (near_down (WouldBe c.args.sight.now (g.L.Links.held c.args.links.now)) c.args.pivot n (down.reach.sound n has)))) in
-    let three : g.L.Links.count c.gather-3.new.links ≤ g.L.Links.count c.gather-2.new.links + 2 * length ns = c.in_ok-same.ensures.count ns (λ n has. rw (c.in_ok-down.ensures.held, c.in_ok-up.ensures.held) (covers n (near_same (WouldBe c.args.sight.now (g.L.Links.held c.args.links.now)) c.args.pivot n (same.reach.sound n has)))) in
-    omega arith
+pub returns-then-branch-clause-count : goal.returns-then-branch-clause-count
+returns-then-branch-clause-count g c ns covers =
+    let one : g.L.Links.count c.judge_between.new.links ≤ g.L.Links.count c.args.links.now + 4 * length ns =
+    c.in_ok-refusal.ensures.count ns (λ n near. covers n (near_pivot (WouldBe c.args.sight.now (g.L.Links.held c.args.links.now)) c.args.pivot n near)) in
+    let two : g.L.Links.count c.breaks_class.new.links ≤ g.L.Links.count c.judge_between.new.links + 2 * length ns = c.in_ok-breaks_class.ensures.count ns (rw c.in_ok-refusal.ensures.held covers) in
+    omega (arith, one, two)
 
 pub returns-clause-first : goal.returns-clause-first
 returns-clause-first g c =
-    let up : IsGathered (WouldBe c.args.sight.now (g.L.Links.held c.args.links.now)) Broader c.args.pivot c.in_ok-up.up.nodes c.in_ok-up.up.links.items = c.in_ok-up.ensures.gathered in
-    let down : IsGathered (WouldBe c.args.sight.now (g.L.Links.held c.args.links.now)) Narrower c.args.pivot c.in_ok-down.down.nodes c.in_ok-down.down.links.items = rw c.in_ok-up.ensures.held at c.in_ok-down.ensures.gathered in
-    let same : IsGathered (WouldBe c.args.sight.now (g.L.Links.held c.args.links.now)) Exact c.args.pivot c.in_ok-same.same.nodes c.in_ok-same.same.links.items = rw (c.in_ok-down.ensures.held, c.in_ok-up.ensures.held) at c.in_ok-same.ensures.gathered in
-    let no_cycle : NoCycleAt (WouldBe c.args.sight.now (g.L.Links.held c.args.links.now)) c.args.pivot = cycle_none (WouldBe c.args.sight.now (g.L.Links.held c.args.links.now)) c.args.pivot c.in_ok-up.up.nodes c.in_ok-up.up.links.items up (rw (c.deref.ensures.value, c.in_ok-here.ensures) at c.if-some_ties.ensures) in
-    let no_s27 : NoS27At (WouldBe c.args.sight.now (g.L.Links.held c.args.links.now)) c.args.pivot = s27_none (WouldBe c.args.sight.now (g.L.Links.held c.args.links.now)) c.args.pivot c.in_ok-up.up.nodes c.in_ok-up.up.links.items up c.in_ok-down.down.nodes c.in_ok-down.down.links.items down (rw c.deref-2.ensures.value at c.if-some_ties-2.ensures) in
-    (no_cycle, no_s27, s46_none (WouldBe c.args.sight.now (g.L.Links.held c.args.links.now)) c.args.pivot c.in_ok-same.same.nodes c.in_ok-same.same.links.items same (rw c.deref-3.ensures.value at c.if-some_ties-3.ensures))
+    let none : IsBrokenBetween (WouldBe c.args.sight.now (g.L.Links.held c.args.links.now)) c.args.pivot c.args.pivot None = rw c.in-None.is at c.in_ok-refusal.ensures.broken in
+    let off : NoS46At (WouldBe c.args.sight.now (g.L.Links.held c.args.links.now)) c.args.pivot = rw (c.if-branch.false, c.in_ok-refusal.ensures.held) at c.in_ok-breaks_class.ensures.found in
+    (none.0, none.1, off)
 
 pub returns-clause-count : goal.returns-clause-count
 returns-clause-count g c ns covers =
-    let up : IsGathered (WouldBe c.args.sight.now (g.L.Links.held c.args.links.now)) Broader c.args.pivot c.in_ok-up.up.nodes c.in_ok-up.up.links.items = c.in_ok-up.ensures.gathered in
-    let down : IsGathered (WouldBe c.args.sight.now (g.L.Links.held c.args.links.now)) Narrower c.args.pivot c.in_ok-down.down.nodes c.in_ok-down.down.links.items = rw c.in_ok-up.ensures.held at c.in_ok-down.ensures.gathered in
-    let same : IsGathered (WouldBe c.args.sight.now (g.L.Links.held c.args.links.now)) Exact c.args.pivot c.in_ok-same.same.nodes c.in_ok-same.same.links.items = rw (c.in_ok-down.ensures.held, c.in_ok-up.ensures.held) at c.in_ok-same.ensures.gathered in
-    let one : g.L.Links.count c.gather.new.links ≤ g.L.Links.count c.args.links.now + 2 * length ns = c.in_ok-up.ensures.count ns (λ n has. covers n (near_up (WouldBe c.args.sight.now (g.L.Links.held c.args.links.now)) c.args.pivot n (up.reach.sound n has))) in
-    let two : g.L.Links.count c.gather-2.new.links ≤ g.L.Links.count c.gather.new.links + 2 * length ns = c.in_ok-down.ensures.count ns (λ n has. rw c.in_ok-up.ensures.held (covers n (near_down (WouldBe c.args.sight.now (g.L.Links.held c.args.links.now)) c.args.pivot n (down.reach.sound n has)))) in
-    let three : g.L.Links.count c.gather-3.new.links ≤ g.L.Links.count c.gather-2.new.links + 2 * length ns = c.in_ok-same.ensures.count ns (λ n has. rw (c.in_ok-down.ensures.held, c.in_ok-up.ensures.held) (covers n (near_same (WouldBe c.args.sight.now (g.L.Links.held c.args.links.now)) c.args.pivot n (same.reach.sound n has)))) in
-    omega arith
+    let one : g.L.Links.count c.judge_between.new.links ≤ g.L.Links.count c.args.links.now + 4 * length ns =
+    c.in_ok-refusal.ensures.count ns (λ n near. covers n (near_pivot (WouldBe c.args.sight.now (g.L.Links.held c.args.links.now)) c.args.pivot n near)) in
+    let two : g.L.Links.count c.breaks_class.new.links ≤ g.L.Links.count c.judge_between.new.links + 2 * length ns = c.in_ok-breaks_class.ensures.count ns (rw c.in_ok-refusal.ensures.held covers) in
+    omega (arith, one, two)

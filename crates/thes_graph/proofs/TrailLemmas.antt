@@ -1,0 +1,220 @@
+-- What reading a node finds, and what it costs.
+use Rattle.std.proofs.Common.{◌≡◌, ◌≢◌, ◌==◌, ◌+◌, ◌-◌, ◌*◌, ◌≤◌, ◌<◌, ◌⊎◌, inl, inr, ℕ, suc, zero, List, [], ◌∷◌, length, take, drop, get_or, ap, sym, subst, ◌∙◌, arith, refl, Contains, AllPairs, sum_by, Bool, true, false, Option, Some, None, slice_get, nat_eq, ◌&&◌, ◌||◌, if◌then◌else◌}
+use Rattle.std.specs.Prelude.{option_and_then}
+use Rattle.std.proofs.lemmas.List.{get_or-take, get_or-drop, length-take, length-drop}
+use Rattle.std.proofs.lemmas.Option.{slice_get_within, slice_get-get_or, get_or_from_slice_get, option_and_then_some, none-some, same_Some}
+use Rattle.thes_base.specs.declared.data.Link.{Link}
+use Rattle.thes_base.specs.declared.data.Direction.{Direction}
+use Rattle.thes_base.specs.declared.data.Direction.TheVariants.{Forward, Backward, Either, Never}
+use Rattle.thes_base.specs.Links.{Links, HeldIn, Leads}
+use Rattle.thes_graph.specs.declared.relation.Relation.{Relation}
+use Rattle.thes_graph.specs.declared.side.Part.{Part}
+use Rattle.thes_graph.specs.declared.sight.Sight.{Sight}
+use Rattle.thes_graph.specs.declared.sight.Sight.TheVariants.{AsHeld, With, Merged}
+use Rattle.thes_graph.specs.Reading.{HaveTwoEnds, EndsAt, IsRow}
+use Rattle.thes_graph.specs.Side.{side_no, side_at, side_in, IsPart, IsWalked}
+use Rattle.thes_graph.specs.Sight.{place, becomes, WouldBe}
+use Rattle.thes_graph.specs.Steps.{way_of, step_along, Steps, GrowsBy}
+use Rattle.thes_graph.specs.Trail.{seen, led, LeadsWithin, LeadsFrom, Finds, Stands, on}
+use Rattle.std.proofs.lemmas.Bool.Decides.{Decides-eqb}
+use Rattle.thes_graph.specs.declared.side.Side.{Side}
+use Rattle.thes_graph.specs.Net.{ends_at}
+use Rattle.thes_graph.proofs.WeightLemmas.{length-once, once_from_pairs, once_take, once_drop}
+use Rattle.thes_graph.proofs.StepLemmas.{GrowsBy-then, GrowsBy-none, GrowsBy-there, Leads-first, Leads-from_step, step_from_Leads}
+use Rattle.thes_graph.proofs.SightLemmas.{becomes-ends}
+use Rattle.thes_graph.proofs.SideLemmas.{side_of_lead}
+
+-- joining what two readings find
+
+pub Finds-none : (nodes goals : List ℕ) (P : ℕ → Type 0) → ((y : ℕ) → P y → ⊥) → Finds false nodes nodes goals P
+Finds-none nodes goals P none = (GrowsBy-none nodes P none, λ y _ p. none y p)
+
+module _ (old new goals : List ℕ) (P Q : ℕ → Type 0) (to : (y : ℕ) → P y → Q y) (from : (y : ℕ) → Q y → P y) where
+  pub Finds-same : (found : Bool) → Finds found old new goals P → Finds found old new goals Q
+  Finds-same true (y, has, p) = (y, has, to y p)
+  Finds-same false (grows, off) = (
+    record { kept = grows.kept; taken = λ y q. grows.taken y (from y q); only = λ y has. elim (grows.only y has) [ inl a ↦ inl a | inr p ↦ inr (to y p) ]; distinct = grows.distinct },
+    λ y has q. off y has (from y q),
+  )
+
+module _ (xs ys zs goals : List ℕ) (P Q S : ℕ → Type 0) (parts : (y : ℕ) → S y → P y ⊎ Q y) (left : (y : ℕ) → P y → S y) (right : (y : ℕ) → Q y → S y) where
+  pub Finds-then : Finds false xs ys goals P → (found : Bool) → Finds found ys zs goals Q → Finds found xs zs goals S
+  Finds-then (grows, off) true (y, has, q) = (y, has, right y q)
+  Finds-then (grows, off) false (more, away) = (
+    GrowsBy-then xs ys zs P Q S parts left right grows more,
+    λ y has s. elim (parts y s) [ inl p ↦ off y has p | inr q ↦ away y has q ],
+  )
+
+-- the places of a row that were read
+
+module _ (sight : Sight) (relation : Relation) (x : ℕ) (row : List Link) where
+  abbrev Within : (from to y : ℕ) → Type 0
+  Within = LeadsWithin sight relation x row
+
+  abbrev pub led_at : ℕ → Option ℕ
+  led_at i = option_and_then (led sight relation x) (slice_get row i)
+
+  pub LeadsWithin-none : (from y : ℕ) → Within from from y → ⊥
+  LeadsWithin-none from y (k, l, low, high, _, _) = absurd (omega arith)
+
+  pub LeadsWithin-before : (from i y : ℕ) → Within from i y → Within from (i + 1) y
+  LeadsWithin-before from i y (k, l, low, high, at, leads) = (k, l, low, omega arith, at, leads)
+
+  pub LeadsWithin-last : (from i y : ℕ) → from ≤ i → led_at i ≡ Some y → Within from (i + 1) y
+  LeadsWithin-last from i y low leads =
+      option_and_then_some (led sight relation x) (slice_get row i) y leads (λ l at one. (i, l, low, omega arith, at, one))
+
+  pub LeadsWithin-parts : (from i y : ℕ) → Within from (i + 1) y → Within from i y ⊎ (led_at i ≡ Some y)
+  LeadsWithin-parts from i y (k, l, low, high, at, leads) = elim (below k i high) [
+    | inl lt ↦ inl (k, l, low, lt, at, leads)
+    | inr same ↦ inr (ap (option_and_then (led sight relation x)) (ap (slice_get row) (sym same) ∙ at) ∙ leads)
+  ]
+    where
+      below : (k i : ℕ) → k < i + 1 → (k < i) ⊎ (k ≡ i)
+      below k i lt = grind arith
+
+  pub LeadsWithin-to : (from i j y : ℕ) → i - from ≤ j - from → Within from i y → Within from j y
+  LeadsWithin-to from i j y within (k, l, low, high, at, leads) = (k, l, low, omega arith, at, leads)
+
+  -- the places of a part are those of the links on its side
+  module _ (held : Links) (at : ℕ) (part : Part) (is_row : IsRow held at row) (is_part : IsPart row at (side_in relation) part) where
+    pub LeadsFrom-read : (i y : ℕ) → i - part.from ≤ part.to - part.from → Within part.from i y → LeadsFrom sight held relation at x y
+    LeadsFrom-read i y within (k, l, low, high, is, leads) =
+        let sound = is_row.sound l (k, slice_get_within row k l is, get_or_from_slice_get row k l l is) in
+        (l, sound.0, sound.1, is_part.inside k l is low (inside k low high), leads)
+      where
+        inside : (k : ℕ) → part.from ≤ k → k < i → k < part.to
+        inside k low high = omega arith
+
+    pub LeadsFrom-there : (i y : ℕ) → part.to ≤ i → LeadsFrom sight held relation at x y → Within part.from i y
+    LeadsFrom-there i y done (l, has, ends, side, leads) =
+        let there = is_row.complete l has ends in
+        let is : slice_get row there.0 ≡ Some l = slice_get-get_or row there.0 l there.1 ∙ ap Some there.2 in
+        let between = is_part.has there.0 l is side in
+        let high : there.0 < part.to = between.1 in
+        (there.0, l, between.0, omega arith, is, leads)
+
+-- what a node leads to after the edit, by the held links that stand at it, or at what becomes it
+
+some_led : (sight : Sight) (relation : Relation) (x y : ℕ) (l : Link) {P : Type 0} → led sight relation x l ≡ Some y
+    → ((m : Link) → seen sight l ≡ Some m → Leads (way_of relation m.kind) m.a m.b x y → P) → P
+some_led sight relation x y l leads go =
+    option_and_then_some (λ m. step_along relation m x) (seen sight l) y leads
+    (λ m is one. go m is (Leads-from_step (way_of relation m.kind) m.a m.b x y one))
+
+module _ (held : Links) (relation : Relation) where
+  pub Steps-with_none : (new : Link) (x : ℕ) → ((z : ℕ) → Steps relation (HeldIn held) x z → ⊥) → step_along relation new x ≡ None
+      → (y : ℕ) → Steps relation (WouldBe (With new) held) x y → ⊥
+  Steps-with_none new x none off y (l, inl has, leads) = none y (l, has, leads)
+  Steps-with_none new x none off y (l, inr same, leads) =
+      none-some y (sym off ∙ ap (λ (w : Link). step_along relation w x) same ∙ step_from_Leads (way_of relation l.kind) l.a l.b x y leads)
+
+  pub Steps-sound : (sight : Sight) (at x y : ℕ) → LeadsFrom sight held relation at x y → Steps relation (WouldBe sight held) x y
+  Steps-sound AsHeld at x y (l, has, _, _, leads) = (l, has, Leads-from_step (way_of relation l.kind) l.a l.b x y leads)
+  Steps-sound (With new) at x y (l, has, _, _, leads) = (l, inl has, Leads-from_step (way_of relation l.kind) l.a l.b x y leads)
+  Steps-sound (Merged source target) at x y (l, has, _, _, leads) =
+      some_led (Merged source target) relation x y l leads (λ m is one. (m, (l, has, is), one))
+
+  module _ (walked : IsWalked relation) (two : HaveTwoEnds (HeldIn held)) where
+    pub Steps-held : (x y : ℕ) → Steps relation (HeldIn held) x y → LeadsFrom AsHeld held relation x x y
+    Steps-held x y (l, has, leads) = (
+      l, has, Leads-first (way_of relation l.kind) l.a l.b x y leads,
+      side_of_lead relation walked l x y (two l has) leads,
+      step_from_Leads (way_of relation l.kind) l.a l.b x y leads,
+    )
+
+    pub Steps-with : (new : Link) (x y : ℕ) → Steps relation (WouldBe (With new) held) x y
+        → LeadsFrom (With new) held relation x x y ⊎ (step_along relation new x ≡ Some y)
+    Steps-with new x y (l, inl has, leads) = inl (Steps-held x y (l, has, leads))
+    Steps-with new x y (l, inr same, leads) =
+        inr (ap (λ (w : Link). step_along relation w x) same ∙ step_from_Leads (way_of relation l.kind) l.a l.b x y leads)
+
+    pub Steps-with_new : (new : Link) (x y : ℕ) → step_along relation new x ≡ Some y → Steps relation (WouldBe (With new) held) x y
+    Steps-with_new new x y leads = (new, inr refl, Leads-from_step (way_of relation new.kind) new.a new.b x y leads)
+
+    module _ (source target : ℕ) where
+      -- back from what a merge makes of both ends
+      lead_back : (d : Direction) (a b x y : ℕ) → Leads d (place (Merged source target) a) (place (Merged source target) b) x y
+          → (at : ℕ) × (z : ℕ) × (place (Merged source target) at ≡ x) × Leads d a b at z
+      lead_back Forward a b x y (e, f) = (a, b, e, (refl, refl))
+      lead_back Backward a b x y (e, f) = (b, a, e, (refl, refl))
+      lead_back Either a b x y (inl (e, f)) = (a, b, e, inl (refl, refl))
+      lead_back Either a b x y (inr (e, f)) = (b, a, e, inr (refl, refl))
+      lead_back Never a b x y h = absurd h
+
+      led_same : (x y : ℕ) (l m : Link) → becomes source target l ≡ Some m → Leads (way_of relation m.kind) m.a m.b x y
+          → Leads (way_of relation l.kind) (place (Merged source target) l.a) (place (Merged source target) l.b) x y
+      led_same x y l m is leads =
+          let ends = becomes-ends source target l m is in
+          let P : Direction → ℕ → ℕ → Type 0 = λ d a b. Leads d a b x y in
+          subst (λ d. P d (place (Merged source target) l.a) (place (Merged source target) l.b)) (ap (way_of relation) ends.0)
+          (subst (λ b. P (way_of relation m.kind) (place (Merged source target) l.a) b) ends.2 (subst (λ a. P (way_of relation m.kind) a m.b) ends.1 leads))
+
+      pub Steps-merged_held : (x y : ℕ) → Steps relation (WouldBe (Merged source target) held) x y
+          → (at : ℕ) × (z : ℕ) × (place (Merged source target) at ≡ x) × Steps relation (HeldIn held) at z
+      Steps-merged_held x y (m, (l, has, is), leads) =
+          let back = lead_back (way_of relation l.kind) l.a l.b x y (led_same x y l m is leads) in (back.0, back.1, back.2, (l, has, back.3))
+
+      -- where no end leads on, nor the source's, none does after the merge
+      pub Steps-merged_none : (x : ℕ) → ((z : ℕ) → Steps relation (HeldIn held) x z → ⊥) → ((z : ℕ) → Steps relation (HeldIn held) source z → ⊥)
+          → (y : ℕ) → Steps relation (WouldBe (Merged source target) held) x y → ⊥
+      Steps-merged_none x none also y steps =
+          let back = Steps-merged_held x y steps in
+          elim (at_cases back.0) [
+            | inl at ↦ also back.1 (subst (λ (w : ℕ). Steps relation (HeldIn held) w back.1) at back.3)
+            | inr at ↦ none back.1 (subst (λ (w : ℕ). Steps relation (HeldIn held) w back.1) (sym at ∙ back.2) back.3)
+          ]
+        where
+          at_cases : (n : ℕ) → (n ≡ source) ⊎ (place (Merged source target) n ≡ n)
+          at_cases n = grind arith
+
+      pub Steps-merged : (x y : ℕ) → Steps relation (WouldBe (Merged source target) held) x y
+          → (at : ℕ) × (place (Merged source target) at ≡ x) × LeadsFrom (Merged source target) held relation at x y
+      Steps-merged x y (m, (l, has, is), leads) =
+          let back = lead_back (way_of relation l.kind) l.a l.b x y (led_same x y l m is leads) in
+          (back.0, back.2, (
+            l, has, Leads-first (way_of relation l.kind) l.a l.b back.0 back.1 back.3,
+            side_of_lead relation walked l back.0 back.1 (two l has) back.3,
+            ap (option_and_then (λ m. step_along relation m x)) is ∙ step_from_Leads (way_of relation m.kind) m.a m.b x y leads,
+          ))
+
+-- what reading a part costs: its places are distinct links that stand on its side
+
+pub on_one : (at : ℕ) (side : Side) (l : Link) → EndsAt at l → side_at at l ≡ side → on at side l ≡ 1
+on_one at side l ends is = ap (λ b. if b then 1 else 0) (both (ends_at at l) (side_no (side_at at l) == side_no side) (ends_true ends) ((Decides-eqb (side_no (side_at at l)) (side_no side)).1 (ap side_no is)))
+  where
+    both : (a b : Bool) → a ≡ true → b ≡ true → (a && b) ≡ true
+    both true true e f = refl
+    both _ _ e f = cc
+
+    or_left : (a b : Bool) → a ≡ true → (a || b) ≡ true
+    or_left true b e = refl
+    or_left false b e = cc
+
+    or_right : (a b : Bool) → b ≡ true → (a || b) ≡ true
+    or_right true b e = refl
+    or_right false b e = e
+
+    ends_true : EndsAt at l → ends_at at l ≡ true
+    ends_true (inl a) = or_left (l.a == at) (l.b == at) ((Decides-eqb l.a at).1 a)
+    ends_true (inr b) = or_right (l.a == at) (l.b == at) ((Decides-eqb l.b at).1 b)
+
+module _ (held : Links) (at : ℕ) (side : Side) (row : List Link) (part : Part) (is_row : IsRow held at row) (is_part : IsPart row at side part) where
+  pub part_cost : (ns : List Link) → Stands held at side ns → part.to - part.from ≤ sum_by (on at side) ns
+  part_cost ns stands =
+      let few : length places ≤ sum_by (on at side) ns =
+      length-once (on at side) places ns (once_take (part.to - part.from) (drop part.from row) (once_drop part.from row (once_from_pairs row is_row.once)))
+      (λ l has. let is = stood l has in stands l is.0 is.1 is.2)
+      (λ l has. let is = stood l has in omega (arith, on_one at side l is.1 is.2)) in
+      omega (arith, length-take (part.to - part.from) (drop part.from row), length-drop part.from row, is_part.within)
+    where
+      places : List Link
+      places = take (part.to - part.from) (drop part.from row)
+
+      stood : (l : Link) → Contains places l → HeldIn held l × EndsAt at l × (side_at at l ≡ side)
+      stood l (k, lt, is) =
+          let below : k < part.to - part.from = omega (arith, length-take (part.to - part.from) (drop part.from row)) in
+          let inside : part.from + k < length row = omega (arith, is_part.within) in
+          let there : get_or row (part.from + k) l ≡ l = sym (get_or-drop part.from row k l) ∙ sym (get_or-take (part.to - part.from) (drop part.from row) k l below) ∙ is in
+          let sound = is_row.sound l (part.from + k, inside, there) in
+          (sound.0, sound.1, is_part.inside (part.from + k) l (slice_get-get_or row (part.from + k) l inside ∙ ap Some there) (omega arith) (omega arith))

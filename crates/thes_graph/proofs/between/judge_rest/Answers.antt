@@ -1,0 +1,52 @@
+use Rattle.std.proofs.Common.{◌≡◌, ◌+◌, ◌-◌, ◌≤◌, ◌*◌, ℕ, List, length, arith, refl, Contains, true, false}
+use Rattle.thes_base.specs.declared.data.Link.{Link}
+use Rattle.thes_graph.specs.declared.side.Side.TheVariants.{Beside}
+use Rattle.thes_graph.specs.Sight.{CoversAt, WouldBe}
+use Rattle.thes_graph.specs.declared.relation.Relation.TheVariants.{Related}
+use Rattle.thes_graph.specs.Steps.{Steps}
+use Rattle.thes_graph.specs.Trail.{spent, AreTied, IsTrail, LeadsTo, IsPaid, GoesOn}
+use Rattle.thes_graph.proofs.GoesLemmas.{IsTrail-paid, IsTrail-reach, leads_one_way}
+use Rattle.thes_graph.proofs.between.judge_rest.Goals as goal
+
+pub returns-then-have_none-clause-rest : goal.returns-then-have_none-clause-rest
+returns-then-have_none-clause-rest g c start read is x y has reach related = c.if-have_none.ensures refl x y has related
+
+pub returns-then-have_none-clause-count : goal.returns-then-have_none-clause-count
+returns-then-have_none-clause-count g c start read ns is covers _ =
+    omega (arith, IsTrail-paid c.args.sight.now (g.L.Links.held c.args.links.now) c.args.relation c.args.goals.now start (leads_one_way c.args.relation c.requires.walked) c.args.other.now read is ns covers)
+
+pub returns-then-branch-clause-rest : goal.returns-then-branch-clause-rest
+returns-then-branch-clause-rest g c start read is =
+    let on : LeadsTo c.args.sight.now (g.L.Links.held c.args.links.now) c.args.relation c.args.goals.now start × IsPaid c.args.sight.now (g.L.Links.held c.args.links.now) c.args.relation start (read + (g.L.Links.count c.finish.new.links - g.L.Links.count c.args.links.now)) =
+    rw c.if-branch.true at c.in_ok-finish.ensures.goes start read is in
+    on.0
+
+pub returns-then-branch-clause-count : goal.returns-then-branch-clause-count
+returns-then-branch-clause-count g c start read ns is covers _ =
+    let on : LeadsTo c.args.sight.now (g.L.Links.held c.args.links.now) c.args.relation c.args.goals.now start × IsPaid c.args.sight.now (g.L.Links.held c.args.links.now) c.args.relation start (read + (g.L.Links.count c.finish.new.links - g.L.Links.count c.args.links.now)) =
+    rw c.if-branch.true at c.in_ok-finish.ensures.goes start read is in
+    omega (arith, on.1 ns covers)
+
+pub returns-then-branch-2-clause-rest : goal.returns-then-branch-2-clause-rest
+returns-then-branch-2-clause-rest g c start read is =
+    let on : IsTrail c.args.sight.now (g.L.Links.held c.args.links.now) c.args.relation c.args.goals.now start c.finish.new.self (read + (g.L.Links.count c.finish.new.links - g.L.Links.count c.args.links.now)) = (rw c.if-branch.false at c.in_ok-finish.ensures.goes) start read is in
+    let tied : AreTied c.args.sight.now (g.L.Links.held c.args.links.now) c.args.ended.now c.finish.new.self.nodes = rw (c.if-branch-2.true, c.in_ok-finish.ensures.held) at c.in_ok-are_tied.ensures.tied in
+    (tied.0, tied.1, tied.2, on.closed.sound tied.1 tied.3, tied.4)
+
+pub returns-then-branch-2-clause-count : goal.returns-then-branch-2-clause-count
+returns-then-branch-2-clause-count g c start read ns is covers there =
+    let on : IsTrail c.args.sight.now (g.L.Links.held c.args.links.now) c.args.relation c.args.goals.now start c.finish.new.self (read + (g.L.Links.count c.finish.new.links - g.L.Links.count c.args.links.now)) = (rw c.if-branch.false at c.in_ok-finish.ensures.goes) start read is in
+    let more : g.L.Links.count c.are_tied.new.links ≤ g.L.Links.count c.finish.new.links + spent c.args.sight.now Beside c.args.ended.now ns = c.in_ok-are_tied.ensures.count ns (rw c.in_ok-finish.ensures.held there) in
+    omega (arith, more, IsTrail-paid c.args.sight.now (g.L.Links.held c.args.links.now) c.args.relation c.args.goals.now start (leads_one_way c.args.relation c.requires.walked) c.finish.new.self _ on ns covers)
+
+pub returns-clause-rest : goal.returns-clause-rest
+returns-clause-rest g c start read is =
+    let on : IsTrail c.args.sight.now (g.L.Links.held c.args.links.now) c.args.relation c.args.goals.now start c.finish.new.self (read + (g.L.Links.count c.finish.new.links - g.L.Links.count c.args.links.now)) = (rw c.if-branch.false at c.in_ok-finish.ensures.goes) start read is in
+    let untied : AreTied c.args.sight.now (g.L.Links.held c.args.links.now) c.args.ended.now c.finish.new.self.nodes → ⊥ = rw (c.if-branch-2.false, c.in_ok-finish.ensures.held) at c.in_ok-are_tied.ensures.tied in
+    λ x y has reach steps. untied (x, y, has, (IsTrail-reach c.args.sight.now (g.L.Links.held c.args.links.now) c.args.relation c.args.goals.now start c.finish.new.self _ (c.in_ok-finish.ensures.done c.if-branch.false) on).complete y reach, steps)
+
+pub returns-clause-count : goal.returns-clause-count
+returns-clause-count g c start read ns is covers there =
+    let on : IsTrail c.args.sight.now (g.L.Links.held c.args.links.now) c.args.relation c.args.goals.now start c.finish.new.self (read + (g.L.Links.count c.finish.new.links - g.L.Links.count c.args.links.now)) = (rw c.if-branch.false at c.in_ok-finish.ensures.goes) start read is in
+    let more : g.L.Links.count c.are_tied.new.links ≤ g.L.Links.count c.finish.new.links + spent c.args.sight.now Beside c.args.ended.now ns = c.in_ok-are_tied.ensures.count ns (rw c.in_ok-finish.ensures.held there) in
+    omega (arith, more, IsTrail-paid c.args.sight.now (g.L.Links.held c.args.links.now) c.args.relation c.args.goals.now start (leads_one_way c.args.relation c.requires.walked) c.finish.new.self _ on ns covers)
