@@ -130,7 +130,9 @@ module _ (sight : Sight) (held : Links) where
         → (ns : List Link) → CoversBetween sight held low high ns → after ≤ from + 4 * length ns
     up_cost done is rest ns covers =
         omega (
-          arith, paid, done_cost Broader tt lows high up a done is ns (covers_up low high ns covers),
+          arith,
+          paid,
+          done_cost Broader tt lows high up a done is ns (covers_up low high ns covers),
           rest ns (covers_down low high ns covers) (λ n has. covers_up low high ns covers n (is.closed.sound n has)),
         )
 
@@ -141,6 +143,8 @@ module _ (sight : Sight) (held : Links) where
         → (ns : List Link) → CoversBetween sight held low high ns → after ≤ from + 4 * length ns
     down_cost done is rest ns covers =
         omega (
-          arith, paid, done_cost Narrower tt highs low down b done is ns (covers_down low high ns covers),
+          arith,
+          paid,
+          done_cost Narrower tt highs low down b done is ns (covers_down low high ns covers),
           rest ns (covers_up low high ns covers) (λ n has. covers_down low high ns covers n (is.closed.sound n has)),
         )

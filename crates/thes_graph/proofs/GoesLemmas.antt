@@ -51,7 +51,9 @@ module _ (sight : Sight) (held : Links) (relation : Relation) (goals : List ℕ)
         let paid : read ≤ spent sight (side_in relation) (take i nodes) ns =
         cost ns (λ k lt. covers (get_or nodes k 0) (sound (get_or nodes k 0) (Contains-get_or nodes k 0 (omega arith)))) in
         omega (
-          arith, paid, sum_by-take-le (λ n. sum_by (weight sight n (side_in relation)) ns) nodes i,
+          arith,
+          paid,
+          sum_by-take-le (λ n. sum_by (weight sight n (side_in relation)) ns) nodes i,
           spent_two sight (side_in relation) Beside one_way nodes distinct ns,
         )
 

@@ -75,8 +75,15 @@ module _ (source target : ℕ) where
       at_target : target ≢ source → IsWithin target
       at_target off =
           omega (
-            arith, weight_target off j l, weight_target off k l, on_two target j k l differ, on_two source j k l differ,
-            end_one target l, end_one source l, target_one (λ e. off (sym e)) l.a, target_one (λ e. off (sym e)) l.b,
+            arith,
+            weight_target off j l,
+            weight_target off k l,
+            on_two target j k l differ,
+            on_two source j k l differ,
+            end_one target l,
+            end_one source l,
+            target_one (λ e. off (sym e)) l.a,
+            target_one (λ e. off (sym e)) l.b,
           )
 
 module _ (sight : Sight) (j k : Side) (differ : side_no j ≢ side_no k) where

@@ -118,7 +118,9 @@ module _ (held : Links) (relation : Relation) where
   module _ (walked : IsWalked relation) (two : HaveTwoEnds (HeldIn held)) where
     pub Steps-held : (x y : ℕ) → Steps relation (HeldIn held) x y → LeadsFrom AsHeld held relation x x y
     Steps-held x y (l, has, leads) = (
-      l, has, Leads-first (way_of relation l.kind) l.a l.b x y leads,
+      l,
+      has,
+      Leads-first (way_of relation l.kind) l.a l.b x y leads,
       side_of_lead relation walked l x y (two l has) leads,
       step_from_Leads (way_of relation l.kind) l.a l.b x y leads,
     )
@@ -171,12 +173,17 @@ module _ (held : Links) (relation : Relation) where
       pub Steps-merged : (x y : ℕ) → Steps relation (WouldBe (Merged source target) held) x y
           → (at : ℕ) × (place (Merged source target) at ≡ x) × LeadsFrom (Merged source target) held relation at x y
       Steps-merged x y (m, (l, has, is), leads) =
-          let back = lead_back (way_of relation l.kind) l.a l.b x y (led_same x y l m is leads) in
-          (back.0, back.2, (
-            l, has, Leads-first (way_of relation l.kind) l.a l.b back.0 back.1 back.3,
-            side_of_lead relation walked l back.0 back.1 (two l has) back.3,
-            ap (option_and_then (λ m. step_along relation m x)) is ∙ step_from_Leads (way_of relation m.kind) m.a m.b x y leads,
-          ))
+          let back = lead_back (way_of relation l.kind) l.a l.b x y (led_same x y l m is leads) in (
+            back.0,
+            back.2,
+            (
+              l,
+              has,
+              Leads-first (way_of relation l.kind) l.a l.b back.0 back.1 back.3,
+              side_of_lead relation walked l back.0 back.1 (two l has) back.3,
+              ap (option_and_then (λ m. step_along relation m x)) is ∙ step_from_Leads (way_of relation m.kind) m.a m.b x y leads,
+            ),
+          )
 
 -- what reading a part costs: its places are distinct links that stand on its side
 

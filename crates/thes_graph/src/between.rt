@@ -41,7 +41,7 @@ fn take_turn<L: Links>(
     ensures goes { IfOk result (λ found. (low high from : ℕ)
         → AreInTurn sight.now (L.held links.old) lows.now highs.now low high up.old down.old from (L.count links.old)
         → MatchBool found (HaveMet sight.now (L.held links.old) lows.now highs.now low high from (L.count links.new))
-            (AreInTurn sight.now (L.held links.old) lows.now highs.now low high up.new down.new from (L.count links.new))) }
+        (AreInTurn sight.now (L.held links.old) lows.now highs.now low high up.new down.new from (L.count links.new))) }
 {
     if up.nodes.as_slice().len() <= down.nodes.as_slice().len() {
         let found = up.advance(links, sight, Relation::Broader, lows)?;
@@ -71,7 +71,7 @@ fn take_turns<L: Links>(
     ensures goes { IfOk result (λ found. (low high from : ℕ)
         → AreInTurn sight.now (L.held links.old) lows.now highs.now low high up.old down.old from (L.count links.old)
         → MatchBool found (HaveMet sight.now (L.held links.old) lows.now highs.now low high from (L.count links.new))
-            (AreInTurn sight.now (L.held links.old) lows.now highs.now low high up.new down.new from (L.count links.new))) }
+        (AreInTurn sight.now (L.held links.old) lows.now highs.now low high up.new down.new from (L.count links.new))) }
 {
     'turns: while !up.is_done() && !down.is_done() {
         if take_turn(links, sight, up, down, lows, highs)? {
@@ -180,9 +180,25 @@ pub fn judge_between<L: Links>(
         return Ok(Some(Refusal::Cycle));
     }
     if up.is_done() {
-        let rest = judge_rest(alloc, links, sight, &up.nodes, &mut down, Relation::Narrower, &highs)?;
+        let rest = judge_rest(
+            alloc,
+            links,
+            sight,
+            &up.nodes,
+            &mut down,
+            Relation::Narrower,
+            &highs,
+        )?;
         return Ok(rest);
     }
-    let rest = judge_rest(alloc, links, sight, &down.nodes, &mut up, Relation::Broader, &lows)?;
+    let rest = judge_rest(
+        alloc,
+        links,
+        sight,
+        &down.nodes,
+        &mut up,
+        Relation::Broader,
+        &lows,
+    )?;
     Ok(rest)
 }

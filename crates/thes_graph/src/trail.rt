@@ -232,7 +232,7 @@ impl Trail {
         ensures goes { IfOk result (λ found. (start read : ℕ)
             → IsTrail sight.now (L.held links.old) relation goals.now start self.old read
             → GoesOn sight.now (L.held links.old) relation goals.now start self.new
-                (read + (L.count links.new - L.count links.old)) found) }
+            (read + (L.count links.new - L.count links.old)) found) }
     {
         let x = self.nodes.as_slice()[self.next];
         let found = follow_on(links, &mut self.nodes, sight, relation, x, goals)?;
@@ -257,7 +257,7 @@ impl Trail {
         ensures goes { IfOk result (λ found. (start read : ℕ)
             → IsTrail sight.now (L.held links.old) relation goals.now start self.old read
             → GoesOn sight.now (L.held links.old) relation goals.now start self.new
-                (read + (L.count links.new - L.count links.old)) found) }
+            (read + (L.count links.new - L.count links.old)) found) }
     {
         'reading: while !self.is_done() {
             if self.advance(links, sight, relation, goals)? {

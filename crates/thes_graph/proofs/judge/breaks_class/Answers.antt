@@ -24,8 +24,8 @@ pub returns-clause-found : goal.returns-clause-found
 returns-clause-found g c =
     let same : IsGathered (WouldBe c.args.sight.now (g.L.Links.held c.args.links.now)) Exact c.args.pivot c.in_ok-same.same.nodes c.in_ok-same.same.links.items = c.in_ok-same.ensures.gathered in
     elim c.some_ties-found.result as (λ b. MatchBool b ((l : Link) × Contains c.in_ok-same.same.links.items l × Ties Apart l c.in_ok-same.same.nodes c.in_ok-same.same.nodes)
-        ((l : Link) → Contains c.in_ok-same.same.links.items l → Ties Apart l c.in_ok-same.same.nodes c.in_ok-same.same.nodes → ⊥)
-        → MatchBool b (IsS46At (WouldBe c.args.sight.now (g.L.Links.held c.args.links.now)) c.args.pivot) (NoS46At (WouldBe c.args.sight.now (g.L.Links.held c.args.links.now)) c.args.pivot)) [
+    ((l : Link) → Contains c.in_ok-same.same.links.items l → Ties Apart l c.in_ok-same.same.nodes c.in_ok-same.same.nodes → ⊥)
+    → MatchBool b (IsS46At (WouldBe c.args.sight.now (g.L.Links.held c.args.links.now)) c.args.pivot) (NoS46At (WouldBe c.args.sight.now (g.L.Links.held c.args.links.now)) c.args.pivot)) [
       | true ↦ s46_found (WouldBe c.args.sight.now (g.L.Links.held c.args.links.now)) c.args.pivot c.in_ok-same.same.nodes c.in_ok-same.same.links.items same
       | false ↦ s46_none (WouldBe c.args.sight.now (g.L.Links.held c.args.links.now)) c.args.pivot c.in_ok-same.same.nodes c.in_ok-same.same.links.items same
     ] (rw c.deref.ensures.value at c.some_ties-found.ensures)
