@@ -524,7 +524,7 @@ module _ (base : List ℕ) (rs : List Resource) (iris : Iris) (labels : Labels) 
 
       pub seen_renamed : CanOwn v.resources owner → was ≢ text → (last : Names) → (p : Option ℕ) → IsSchemeOf xs owner p → IsNoted new last p tag was None → IsKept base rs iris (renamed owner tag text keep was labels) last concepts
       seen_renamed can differ last p at' gone = kept_renamed base rs iris labels old new concepts kept owner o at_owner tag text was keep has row_seen noted (can_own can) differ last
-        (subst (λ q. IsNoted new last q tag was None) (one_scheme_of xs owner p o at' at) gone)
+          (subst (λ q. IsNoted new last q tag was None) (one_scheme_of xs owner p o at' at) gone)
 
   module _ (r : Resource) (tag text : List ℕ) (is : IsNamed v.resources r) (free : IsFree v.resources v.labels r tag text) (o : Option ℕ) (at : MatchOption o ((scheme : ℕ) → IsConceptIn scheme r → ⊥) (λ scheme. IsConceptIn scheme r)) (n : ℕ) (next : n ≡ length rs + 1) (noted : IsNoted old new o tag text (Some n)) (room : Lists ℕ) (roomy : lists.AreSame concepts room) where
     reserved : IsKept base rs iris labels old room

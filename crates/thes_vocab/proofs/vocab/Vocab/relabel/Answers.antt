@@ -22,8 +22,8 @@ pub invariant_of-self-in_err-rename : goal.invariant_of-self-in_err-rename
 invariant_of-self-in_err-rename c =
     let inside = c.self.inside in
     let kept = seen_name_noted inside.base inside.resources.items inside.iris inside.labels inside.names c.put.new.self inside.concepts c.self.invariant _ c.self.view_is c.args.owner
-        c.concept_scheme-scheme.result _ c.as_slice.ensures.value c.concept_scheme-scheme.ensures c.args.tag.now c.args.text.now c.in_ok-old.old c.args.keep
-        c.in_ok-old.ensures c.requires.allowed c.in_ok-put.ensures.ok in
+    c.concept_scheme-scheme.result _ c.as_slice.ensures.value c.concept_scheme-scheme.ensures c.args.tag.now c.args.text.now c.in_ok-old.old c.args.keep
+    c.in_ok-old.ensures c.requires.allowed c.in_ok-put.ensures.ok in
     subst (λ (labels : Labels). IsKept inside.base inside.resources.items inside.iris labels c.put.new.self inside.concepts) (sym c.in_err-rename.ensures.err) kept
 
 pub invariant_of-self-2 : goal.invariant_of-self-2
@@ -32,8 +32,8 @@ invariant_of-self-2 c =
     let again = subst (λ (xs : List Resource). IsSchemeOf xs c.args.owner c.concept_scheme-scheme-2.result) (c.as_slice-2.ensures.value ∙ sym c.as_slice.ensures.value) c.concept_scheme-scheme-2.ensures in
     let differ : c.in_ok-old.old ≢ c.args.text.now = search rules in
     let kept = seen_renamed inside.base inside.resources.items inside.iris inside.labels inside.names c.put.new.self inside.concepts c.self.invariant _ c.self.view_is c.args.owner
-        c.concept_scheme-scheme.result _ c.as_slice.ensures.value c.concept_scheme-scheme.ensures c.args.tag.now c.args.text.now c.in_ok-old.old c.args.keep
-        c.in_ok-old.ensures c.requires.allowed c.in_ok-put.ensures.ok c.requires.owner.can differ c.forget.new.self _ again c.forget.ensures in
+    c.concept_scheme-scheme.result _ c.as_slice.ensures.value c.concept_scheme-scheme.ensures c.args.tag.now c.args.text.now c.in_ok-old.old c.args.keep
+    c.in_ok-old.ensures c.requires.allowed c.in_ok-put.ensures.ok c.requires.owner.can differ c.forget.new.self _ again c.forget.ensures in
     subst (λ (labels : Labels). IsKept inside.base inside.resources.items inside.iris labels c.forget.new.self inside.concepts) (sym c.in_ok-rename.ensures.ok) kept
 
 pub returns-clause-ok : goal.returns-clause-ok

@@ -1,0 +1,4 @@
+pub mod Pushing
+pub mod PostingTaking
+pub mod MoveTaking
+pub mod Six

@@ -1,0 +1,3 @@
+pub mod Forms
+pub mod Spelled
+pub mod Taken

@@ -1,0 +1,8 @@
+//! Reads rows of cells, table by table.
+#![tactic(auto)]
+
+pub mod cells;
+pub mod ends;
+pub mod moves;
+pub mod postings;
+pub mod rows;

@@ -1,0 +1,64 @@
+//! The rows of posting.
+ghost use Rattle.std.specs.Prelude.{◌<◌, ◌↔◌, List, IsTrue, IfOk, length};
+ghost use Rattle.thes_rows.specs.declared.rows.PostingRow.{PostingRow};
+ghost use Rattle.thes_tables.specs.Rules.{PostingRule};
+ghost use Rattle.thes_load.specs.Forms.{HasPostingForm};
+ghost use Rattle.thes_load.specs.Taken.{Takes, HasPostings, IsNextPosting, KeyIsTaken};
+
+use crate::ends::{is_concept, is_live};
+use std::alloc::AllocError;
+use std::collections::BTreeSet;
+use thes_base::data::Resource;
+use thes_base::number::ResNo;
+use thes_base::text::Key;
+use thes_rows::rows::PostingRow;
+
+/// What is kept of the rows of posting: their keys, their first concepts and their places.
+#[derive(Drop)]
+pub struct PostingLoad {
+    pub keys: BTreeSet<Key>,
+    pub firsts: Vec<ResNo>,
+    pub ats: Vec<ResNo>,
+}
+
+// Whether a row is the next one, but for its key.
+fn is_next(resources: &[Resource], taken: usize, row: &PostingRow) -> bool
+    requires { taken < usize.MAX }
+    ensures { IsTrue result ↔ IsNextPosting resources.now taken row.now }
+{
+    row.number.get() as usize == taken + 1
+        && is_concept(resources, row.first)
+        && is_concept(resources, row.place)
+        && (row.withdrawn || is_live(resources, row.place))
+}
+
+// Adds a key, and answers whether it is new.
+fn take_key(keys: &mut BTreeSet<Key>, key: Key) -> Result<bool, AllocError>
+    ensures { IfOk result (KeyIsTaken keys.old.keys keys.new.keys key) }
+{
+    let fresh = keys.insert(key)?;
+    Ok(fresh)
+}
+
+impl PostingLoad {
+    /// Takes the next row, or answers false if it breaks the rule.
+    pub fn take(&mut self, resources: &[Resource], row: PostingRow) -> Result<bool, AllocError>
+        requires form { HasPostingForm row }
+        requires room { length self.old.firsts.items < usize.MAX }
+        ensures { IfOk result (λ good. (rows : List PostingRow) → HasPostings resources.now self.old.keys.keys self.old.firsts.items self.old.ats.items rows → Takes (HasPostings resources.now self.new.keys.keys self.new.firsts.items self.new.ats.items) (PostingRule resources.now) rows row good) }
+    {
+        if is_next(resources, self.firsts.len(), &row) {
+            let first = row.first;
+            let place = row.place;
+            if take_key(&mut self.keys, row.key)? {
+                self.firsts.push(first)?;
+                self.ats.push(place)?;
+                Ok(true)
+            } else {
+                Ok(false)
+            }
+        } else {
+            Ok(false)
+        }
+    }
+}
