@@ -8,7 +8,7 @@ use thes_base::text::Base;
 use thes_core::{Answer, Command, Core};
 use thes_devices::{Filling, Halting};
 use thes_exchange::core_desk::core_script;
-use thes_exchange::request::{Request, read_request};
+use thes_exchange::request::{Memory, Request, read_request};
 use thes_exchange::script::Ended;
 
 // The base of the examples.
@@ -126,7 +126,7 @@ pub fn fill(alloc: Global, store: &mut Store, requests: &str) -> Result<(), Fail
 
 /// Adds the command that a line asks for to a list.
 pub fn push_command(alloc: Global, commands: &mut Vec<Command>, line: &str) -> Result<(), Fail> {
-    match read_request(alloc, line.as_bytes())? {
+    match read_request(&mut Memory::new(alloc), line.as_bytes())? {
         Request::Do(command) => Ok(commands.push(command)?),
         Request::Get(_) => Err(Fail::new("a query is no command")),
     }
