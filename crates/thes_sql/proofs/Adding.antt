@@ -174,8 +174,7 @@ cast_resource row = rw (
   cast_null,
   cast_int (pos row.0),
   cast_int (pos (resource_kind_no row.1.kind)),
-  cast_held
-      row.1.scheme,
+  cast_held row.1.scheme,
   cast_int (pos (cond row.1.live 1 0)),
   cast_held row.1.replaced,
 ) refl
@@ -249,8 +248,7 @@ cast_posting p = rw (
   cast_int (pos p.number),
   cast_int (pos p.first),
   cast_int (pos p.place),
-  cast_int
-      (pos (cond p.withdrawn 1 0)),
+  cast_int (pos (cond p.withdrawn 1 0)),
 ) refl
 
 pub adds_posting : (old new : State) (t : Tables) (p : PostingRow) (count : ℕ) → Keeps old.now t
@@ -280,8 +278,7 @@ cast_move m = rw (
   cast_int (pos m.number),
   cast_int (pos m.posting),
   cast_int (pos m.source),
-  cast_int
-      (pos m.target),
+  cast_int (pos m.target),
 ) refl
 
 pub adds_move : (old new : State) (t : Tables) (m : MoveRow) (count : ℕ) → Keeps old.now t → 0 < m.number

@@ -142,7 +142,8 @@ defines_table from text table is uncounted old new count empty h =
     subst (IsEmpty (created from table)) (sym now) (
       schema,
       all-append (λ (t : Table). first.0.trees t.tree ≡ [])
-          from.tables (record table { tree = next_tree from } ∷ []) (still_empty _ _ from.tables kept empty.1) (last, tt),
+          from.tables (record table { tree = next_tree from } ∷ []) (still_empty _ _ from.tables kept empty.1)
+          (last, tt),
     )
 
 -- an index changes no row

@@ -11,4 +11,3 @@ pub mod Changing
 pub mod Runs
 pub mod Defining
 pub mod Creating
-pub mod Reading

@@ -3,17 +3,16 @@ use Rattle.std.proofs.Common.{◌≡◌, ℕ, pos, negsuc, List, [], ◌∷◌, 
 use Rattle.sqlite.specs.declared.types.Value.TheVariants.{Null, Int}
 use Rattle.sqlite.specs.Term.{Term, lit, col, op2}
 use Rattle.sqlite.specs.Command.{Command}
-use Rattle.sqlite.specs.Command.TheVariants.{Insert, Update, Delete, Select}
+use Rattle.sqlite.specs.Command.TheVariants.{Insert, Update, Delete}
 use Rattle.sqlite.specs.Query.{Query, inner, end}
 use Rattle.sqlite_schema.specs.declared.program.Program.{Program}
 use Rattle.sqlite_sql.specs.declared.ops.BinaryOp.TheVariants as by
 use Rattle.sqlite_sql.specs.declared.ops.CompareOp.TheVariants.{Eq}
 use Rattle.sqlite_value.specs.declared.keys.Collation.TheVariants.{Binary}
 use Rattle.sqlite_value.specs.declared.keys.Key.{Key}
-use Rattle.sqlite_value.specs.Keys.{ascending}
 use Rattle.sqlite.specs.Source.TheVariants.{Values}
 use Rattle.sqlite_tied.specs.Compute.{everything}
-use Rattle.sqlite.specs.Listing.{understood, reads_listing}
+use Rattle.sqlite.specs.Listing.{understood}
 use Rattle.sqlite.proofs.Callers.{IsPlain, command_of}
 use Rattle.thes_sql.specs.Schema.{store_schema}
 
@@ -36,16 +35,9 @@ whole q = record { lets = []; body = q }
 abbrev pub same : Term → Term → Term
 same a b = op2 (by.Compare Eq Binary) a b
 
-abbrev pub by_first : List (Term × Key)
-by_first = (col 1 0, ascending Binary) ∷ []
-
 -- in the schema of a store the text is this command, with nothing asked of it but its parameters
 abbrev pub Means : List ℕ → Command → Type 0
 Means text command = (command_of (understood store_schema text) ≡ command) × IsPlain (understood store_schema text)
-
--- the text shows these columns, and reads no listing
-abbrev pub Asks : List ℕ → Query → List (List ℕ) → Type 0
-Asks text query names = Means text (Select (whole query) names) × (reads_listing store_schema text ≡ false)
 
 abbrev pub add_meta_text : List ℕ
 add_meta_text = codes "INSERT INTO meta (one, version, base) VALUES (?1, ?2, ?3)"

@@ -91,7 +91,8 @@ move = numbered_table (codes "move")
     (codes "target") ∷ []) [] []
 
 abbrev pub index_of : List ℕ → ℕ → List ℕ → Index
-index_of name table columns = record { name = name; tree = 0; table = table; columns = columns; order = plain; is_unique = false }
+index_of name table columns =
+    record { name = name; tree = 0; table = table; columns = columns; order = plain; is_unique = false }
 
 -- postings by the concept at which they stand, and moves by their posting
 abbrev pub posting_at : Index

@@ -1,5 +1,5 @@
 //! Changes that are made together.
-ghost use Rattle.std.specs.Prelude.{◌≡◌, false, OnOk, OnErr, IfOk, IsTrue};
+ghost use Rattle.std.specs.Prelude.{◌≡◌, true, false, Ok, OnOk, OnErr, IfOk, IsTrue};
 ghost use Rattle.thes_rows.specs.Tables.{Tables};
 ghost use Rattle.thes_rows.specs.Rows.{all_changed, FitAll};
 ghost use Rattle.thes_sql.specs.Stored.{Keeps, Hold};
@@ -28,8 +28,8 @@ fn apply_all<S: Alter>(tx: &mut Transaction<'_, S>, changes: &[Change]) -> Resul
     Ok(())
 }
 
-/// Makes changes in one transaction: all of them or none, also where a crash comes at any moment. It answers false, and does
-/// nothing, where a transaction is under way already.
+/// Makes changes in one transaction: all of them or none, also where a crash comes at any moment. It answers false, and
+/// does nothing, where a transaction is under way already.
 pub fn commit_all<S: Alter>(conn: &mut Connection<S>, changes: &[Change]) -> Result<bool, Error>
     ensures all { HasCleanDisk (state S.Store conn.new) → IfOk result (λ done. IsTrue done
         → (t : Tables) → Keeps (state S.Store conn.old).now t → FitAll changes.now t
@@ -39,6 +39,7 @@ pub fn commit_all<S: Alter>(conn: &mut Connection<S>, changes: &[Change]) -> Res
         → OnErr result (((state S.Store conn.new).now ≡ (state S.Store conn.old).now)
         × ((state S.Store conn.new).committed ≡ (state S.Store conn.old).committed)) }
     ensures begins { conn.old.in_transaction ≡ false → IfOk result (λ done. IsTrue done) }
+    ensures busy { conn.old.in_transaction ≡ true → (result ≡ Ok false) × (conn.new ≡ conn.old) }
     ensures was { HasCleanDisk (state S.Store conn.new)
         → IsTrue (state S.Store conn.new).is_open → IsTrue (state S.Store conn.old).is_open }
     ensures settled { HasCleanDisk (state S.Store conn.new)

@@ -1,7 +1,8 @@
 //! The making of the tables.
-ghost use Rattle.std.specs.Prelude.{◌≡◌, false, OnOk, OnErr, IfOk, IsTrue};
+ghost use Rattle.std.specs.Prelude.{◌≡◌, true, false, Ok, OnOk, OnErr, IfOk, IsTrue};
 ghost use Rattle.thes_rows.specs.Tables.{no_rows};
-ghost use Rattle.thes_sql.specs.Schema.{schema_0, schema_1, schema_2, schema_3, schema_4, schema_5, schema_6, schema_7, schema_8, schema_9, store_schema};
+ghost use Rattle.thes_sql.specs.Schema.{schema_0, schema_1, schema_2, schema_3, schema_4, schema_5};
+ghost use Rattle.thes_sql.specs.Schema.{schema_6, schema_7, schema_8, schema_9, store_schema};
 ghost use Rattle.thes_sql.specs.Stored.{Keeps, Hold};
 ghost use Rattle.thes_sql.specs.Does.{IsEmpty};
 ghost use Rattle.sqlite.specs.State.{HasCleanDisk, KeepsCommit, Survives};
@@ -351,6 +352,7 @@ pub fn create_tables<S: Alter>(conn: &mut Connection<S>, base: &Base) -> Result<
         → OnErr result (((state S.Store conn.new).now ≡ (state S.Store conn.old).now)
         × ((state S.Store conn.new).committed ≡ (state S.Store conn.old).committed)) }
     ensures begins { conn.old.in_transaction ≡ false → IfOk result (λ done. IsTrue done) }
+    ensures busy { conn.old.in_transaction ≡ true → (result ≡ Ok false) × (conn.new ≡ conn.old) }
     ensures was { HasCleanDisk (state S.Store conn.new)
         → IsTrue (state S.Store conn.new).is_open → IsTrue (state S.Store conn.old).is_open }
     ensures settled { HasCleanDisk (state S.Store conn.new)

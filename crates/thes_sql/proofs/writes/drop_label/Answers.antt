@@ -3,8 +3,8 @@ use Rattle.thes_sql.proofs.Changing.{does, makes_label_gone}
 use Rattle.thes_sql.proofs.writes.drop_label.Goals as goal
 
 pub returns-clause-does : goal.returns-clause-does
-returns-clause-does g c clean inside = does _ _ _ (makes_label_gone c.args.row.now) (state g.S.Store c.args.tx.now.conn.now)
-    (state g.S.Store c.execute.new.self.conn.now) c.execute.result
+returns-clause-does g c clean inside = does _ _ _ (makes_label_gone c.args.row.now)
+    (state g.S.Store c.args.tx.now.conn.now) (state g.S.Store c.execute.new.self.conn.now) c.execute.result
     (rw (
       c.params-to_sql.ensures,
       c.params-to_sql-2.ensures,
