@@ -1,0 +1,352 @@
+-- What an INSERT of one row makes of a table of a store.
+use Rattle.std.proofs.Common.{arith, ◌≡◌, inl, inr, ℕ, ℤ, ◌+ℤ◌, suc, pos, List, [], ◌∷◌, ◌++◌, ◌<◌, ◌+◌}
+use Rattle.std.proofs.Common.{◌/◌, length, map, filter, fold, slice_get, Bool, cond, false, Option, None}
+use Rattle.std.proofs.Common.{Some, Ok, refl, sym, ap, subst, ◌∙◌}
+use Rattle.std.proofs.lemmas.Int.{ints}
+use Rattle.sqlite.specs.declared.types.Value.{Value}
+use Rattle.sqlite.specs.declared.types.Value.TheVariants.{Null, Int, Text as Words}
+use Rattle.sqlite.specs.Order.{Row}
+use Rattle.sqlite.specs.Term.{Term}
+use Rattle.sqlite.specs.Command.TheVariants.{Insert}
+use Rattle.sqlite.specs.Source.TheVariants.{Values}
+use Rattle.sqlite.specs.Edit.{edit_of, edited}
+use Rattle.sqlite_rules.specs.Edit.{with_rowid, next_rowid, id_in}
+use Rattle.sqlite_rules.specs.Cast.{cast_row}
+use Rattle.sqlite_rules.specs.Lists.{Has}
+use Rattle.sqlite.specs.Rowids.TheVariants.{Chosen}
+use Rattle.sqlite.specs.Rows.{stamped}
+use Rattle.sqlite.specs.Effect.{value_rows}
+use Rattle.sqlite.specs.Cast.{cast}
+use Rattle.sqlite.specs.Kind.TheVariants.{Integer}
+use Rattle.sqlite.specs.Values.{or_null}
+use Rattle.sqlite.specs.Tree.{put_row}
+use Rattle.sqlite_trees.specs.Tree.{rowid}
+use Rattle.sqlite.specs.Table.{Table}
+use Rattle.sqlite.specs.Listing.{understood}
+use Rattle.sqlite.specs.State.{State, Executes}
+use Rattle.sqlite.proofs.Callers.{statement_of, runs_as}
+use Rattle.sqlite_keyed.proofs.ListLemmas.{filter-map}
+use Rattle.thes_base.specs.declared.data.Resource.{Resource}
+use Rattle.thes_base.specs.declared.data.Link.{Link}
+use Rattle.thes_base.specs.Labels.{Label, label_kind_no}
+use Rattle.thes_base.specs.Links.{link_kind_no}
+use Rattle.thes_rows.specs.declared.rows.HierRow.{HierRow}
+use Rattle.thes_rows.specs.declared.rows.PostingRow.{PostingRow}
+use Rattle.thes_rows.specs.declared.rows.MoveRow.{MoveRow}
+use Rattle.thes_rows.specs.Tables.{Tables, IsIn}
+use Rattle.thes_rows.specs.Cells.{resource_kind_no, optional_cell, hier_type_no}
+use Rattle.thes_sql.specs.Schema.{resource, outside, label, link, hier, posting, move, store_schema}
+use Rattle.thes_sql.specs.Stored.{Keeps, Rising, AreKeyed, AreHidden, AreNumbered, hidden_row, keyed, numbered_from}
+use Rattle.thes_sql.specs.Stored.{stored_resource, stored_outside, stored_posting, stored_move, label_values}
+use Rattle.thes_sql.specs.Stored.{link_values, hier_values, value_of}
+use Rattle.thes_sql.proofs.Texts.{Means}
+use Rattle.thes_sql.proofs.Texts as text
+use Rattle.thes_sql.proofs.Writing.{IsQuietTable, inserted, cast_int, cast_null}
+use Rattle.thes_sql.proofs.Keyed.{keyed_push}
+use Rattle.thes_sql.proofs.Statements.{Rewrites}
+use Rattle.thes_sql.proofs.Holding.{keeps_resource, keeps_outside, keeps_label, keeps_link, keeps_hier, keeps_posting}
+use Rattle.thes_sql.proofs.Holding.{keeps_move}
+
+-- one row is put into the tree: the source of it with a number, if it has none
+pub puts : (at : ℕ) (table : Table) (sql : List ℕ) (terms : List Term) (width : ℕ) (params source : Row)
+    (new : List Row → Row)
+    → slice_get store_schema.tables at ≡ Some table → table.is_counted ≡ false → IsQuietTable store_schema table
+    → Means sql (Insert at (Values terms width))
+    → value_rows (stamped table params) width (length terms / width) terms ≡ source ∷ []
+    → ((rows : List Row) → with_rowid Chosen rows (cast_row table source) ≡ new rows)
+    → (old next : State) (count : ℕ) → old.now.schema ≡ store_schema → Executes sql params old next (Ok count)
+    → Rewrites table.tree (λ tree. tree ≡ put_row (new (old.now.trees table.tree)) (old.now.trees table.tree)) old next
+puts at table sql terms width params source new is_at uncounted quiet is given numbers old next count has h =
+    let db = old.now.trees in
+    let w = runs_as sql params old next store_schema has (Insert at (Values terms width)) is.0 is.1 count h in
+    let it = inserted store_schema at table (Values terms width) params
+    (statement_of sql (understood store_schema sql)) old next count has is_at uncounted quiet w in
+    record {
+      schema = it.2;
+      rows = it.3.rows ∙ ap (λ all. edited db (edit_of db table [] Chosen 0 all)) (it.1.1 ∙ given)
+          ∙ ap (λ row. put_row row (db table.tree)) (numbers (db table.tree));
+      others = it.3.tables;
+    }
+
+-- Rows under numbers of the database's own.
+
+abbrev next_id : {A : Type 0} → ℕ → List (ℕ × A) → ℕ
+next_id n [] = n
+next_id n (l ∷ ls) = next_id (l.0 + 1) ls
+
+one_more : (n : ℕ) → pos n +ℤ pos 1 ≡ pos (n + 1)
+one_more n = grind (arith, ints)
+
+module _ {A : Type 0} (of : A → List Value) where
+  next_is : (n : ℕ) (ls : List (ℕ × A)) → fold (λ _ r. id_in (rowid r) +ℤ pos 1) (pos n)
+      (map (hidden_row of) ls) ≡ pos (next_id n ls)
+  next_is n [] = refl
+  next_is n (l ∷ ls) = subst (λ z. fold (λ _ r. id_in (rowid r) +ℤ pos 1) z (map (hidden_row of) ls) ≡ pos
+      (next_id (l.0 + 1) ls)) (sym (one_more l.0)) (next_is (l.0 + 1) ls)
+
+  above_next : (a n : ℕ) (ls : List (ℕ × A)) → Rising (λ (row : ℕ × A). row.0) a ls → a < n → a < next_id n ls
+  above_next a n [] up lt = lt
+  above_next a n (l ∷ ls) up lt = let more = above_next l.0 (l.0 + 1) ls up.1 (omega arith) in let first = up.0 in
+      omega (arith, more, first)
+
+  below_next : (a n : ℕ) (ls : List (ℕ × A)) → Rising (λ (row : ℕ × A). row.0) a ls → (y : ℕ × A) → Has ls y
+      → y.0 < next_id n ls
+  below_next a n [] up y h = absurd h
+  below_next a n (l ∷ ls) up y (inl e) = subst (λ (z : ℕ × A). z.0 < next_id (l.0 + 1) ls) (sym e)
+      (above_next l.0 (l.0 + 1) ls up.1 (omega arith))
+  below_next a n (l ∷ ls) up y (inr h) = below_next l.0 (l.0 + 1) ls up.1 y h
+
+  shown_push : (ls : List (ℕ × A)) (row : ℕ × A) → map (λ (row : ℕ × A). row.1) (ls ++ row ∷ []) ≡ map (λ (row : ℕ
+      × A). row.1) ls ++ row.1 ∷ []
+  shown_push [] row = refl
+  shown_push (l ∷ ls) row = ap (λ rest. l.1 ∷ rest) (shown_push ls row)
+
+  pub hidden_push : (x : A) (xs : List A) (tree : List Row) → AreHidden of xs tree
+      → AreHidden of (xs ++ x ∷ []) (put_row (Int (next_rowid tree) ∷ of x) tree)
+  hidden_push x xs tree h =
+      let n = next_id 1 h.given in
+      let is : next_rowid tree ≡ pos n = ap next_rowid h.held.rows ∙ next_is 1 h.given in
+      let held = keyed_push (λ (row : ℕ × A). row.0) (hidden_row of) (λ row. refl) (n, x) h.given tree h.held
+      (above_next 0 1 h.given h.held.rises (omega arith)) (below_next 0 1 h.given h.held.rises) in
+      record {
+        given = h.given ++ (n, x) ∷ [];
+        same = shown_push h.given (n, x) ∙ ap (λ l. l ++ x ∷ []) h.same;
+        held = subst (λ (z : ℤ). AreKeyed (hidden_row of) (λ (row : ℕ × A). row.0) (h.given ++ (n, x) ∷ [])
+            (put_row (Int z ∷ of x) tree)) (sym is) held;
+      }
+
+  -- and after some were dropped
+  pub hidden_drop : (q : A → Bool) (xs : List A) (old tree : List Row) (h : AreHidden of xs old)
+      → AreKeyed (hidden_row of) (λ (row : ℕ × A). row.0) (filter (λ (row : ℕ × A). q row.1) h.given) tree
+      → AreHidden of (filter q xs) tree
+  hidden_drop q xs old tree h held = record {
+    given = filter (λ (row : ℕ × A). q row.1) h.given;
+    same = sym (filter-map q (λ (row : ℕ × A). row.1) h.given) ∙ ap (filter q) h.same;
+    held = held;
+  }
+
+-- The tables with numbers.
+
+pub in_has : {A : Type 0} (xs : List A) (x : A) → Has xs x → IsIn x xs
+in_has [] x h = absurd h
+in_has (y ∷ ys) x (inl e) = inl e
+in_has (y ∷ ys) x (inr h) = inr (in_has ys x h)
+
+numbered_push : {A : Type 0} (n : ℕ) (xs : List A) (x : A) → numbered_from n (xs ++ x ∷ []) ≡ numbered_from n xs ++
+    (n + length xs, x) ∷ []
+numbered_push n [] x = ap (λ m. (m, x) ∷ []) (let e : n ≡ n + 0 = omega arith in e)
+numbered_push n (y ∷ ys) x = ap (λ rest. (n, y) ∷ rest) (numbered_push (n + 1) ys x
+    ∙ ap (λ m. numbered_from (n + 1) ys ++ (m, x) ∷ []) (let e : n + 1 + length ys ≡ n + suc (length ys) =
+    omega arith in e))
+
+numbered_below : {A : Type 0} (n : ℕ) (xs : List A) (y : ℕ × A) → Has (numbered_from n xs) y → y.0 < n + length xs
+numbered_below n [] y h = absurd h
+numbered_below {A} n (x ∷ xs) y (inl e) = let k = ap (λ (z : ℕ × A). z.0) e in omega (arith, k)
+numbered_below n (x ∷ xs) y (inr h) = let k = numbered_below (n + 1) xs y h in omega (arith, k)
+
+postings_push : (first : ℕ) (rows : List PostingRow) (x : PostingRow) → AreNumbered first rows
+    → x.number ≡ first + length rows → AreNumbered first (rows ++ x ∷ [])
+postings_push first [] x num e = ((let q = e in omega (arith, q)), tt)
+postings_push first (r ∷ rows) x num e = (num.0, postings_push (first + 1) rows x num.1 (omega (arith, e)))
+
+postings_below : (first : ℕ) (rows : List PostingRow) (y : PostingRow) → AreNumbered first rows → Has rows y
+    → y.number < first + length rows
+postings_below first [] y num h = absurd h
+postings_below first (r ∷ rows) y num (inl e) = let n = num.0 in let q = ap (λ (z : PostingRow). z.number) e in
+    omega (arith, n, q)
+postings_below first (r ∷ rows) y num (inr h) = let k = postings_below (first + 1) rows y num.1 h in omega (arith, k)
+
+cast_optional : (o : Option ℕ) → cast Integer (or_null (λ n. Int (pos n)) o) ≡ value_of (optional_cell o)
+cast_optional None = cast_null
+cast_optional (Some n) = cast_int (pos n)
+
+cast_held : (o : Option ℕ) → cast Integer (value_of (optional_cell o)) ≡ value_of (optional_cell o)
+cast_held None = cast_null
+cast_held (Some n) = cast_int (pos n)
+
+abbrev pub resource_params : ℕ → Resource → Row
+resource_params n r = Int (pos n) ∷ Int (pos (resource_kind_no r.kind)) ∷ or_null (λ n. Int (pos n)) r.scheme ∷ Int
+    (pos (cond r.live 1 0)) ∷ or_null (λ n. Int (pos n)) r.replaced ∷ []
+
+pub cast_resource : (row : ℕ × Resource) → cast_row (record resource { tree = 1 })
+    (stored_resource row) ≡ stored_resource row
+cast_resource row = rw (
+  cast_null,
+  cast_int (pos row.0),
+  cast_int (pos (resource_kind_no row.1.kind)),
+  cast_held row.1.scheme,
+  cast_int (pos (cond row.1.live 1 0)),
+  cast_held row.1.replaced,
+) refl
+
+cast_source : (n : ℕ) (r : Resource) → cast_row (record resource { tree = 1 })
+    (keyed (resource_params n r)) ≡ stored_resource (n, r)
+cast_source n r = rw (
+  cast_null,
+  cast_int (pos n),
+  cast_int (pos (resource_kind_no r.kind)),
+  cast_optional r.scheme,
+  cast_int (pos (cond r.live 1 0)),
+  cast_optional r.replaced,
+) refl
+
+pub adds_resource : (old new : State) (t : Tables) (n : ℕ) (r : Resource) (count : ℕ) → Keeps old.now t
+    → n ≡ length t.resource + 1
+    → Executes text.add_resource_text (resource_params n r) old new (Ok count)
+    → Keeps new.now (record t { resource = t.resource ++ r ∷ [] })
+adds_resource old new t n r count kept next h =
+    let w = puts 1 (record resource { tree = 1 }) text.add_resource_text text.add_resource_terms 6
+    (resource_params n r) (keyed (resource_params n r)) (λ rows. stored_resource (n, r)) refl refl
+    (λ olds news. refl) text.add_resource_is refl
+    (λ rows. ap (with_rowid Chosen rows) (cast_source n r)) old new count kept.schema h in
+    let is : numbered_from 1 t.resource ++ (n, r) ∷ [] ≡ numbered_from 1 (t.resource ++ r ∷ []) =
+    ap (λ m. numbered_from 1 t.resource ++ (m, r) ∷ []) (let e : n ≡ 1 + length t.resource = omega (arith, next) in e)
+    ∙ sym (numbered_push 1 t.resource r) in
+    let held = keyed_push (λ (row : ℕ × Resource). row.0) stored_resource (λ row. refl) (n, r)
+    (numbered_from 1 t.resource) (old.now.trees 1) kept.hold.resource (omega (arith, next))
+    (λ y k. let b = numbered_below 1 t.resource y k in omega (arith, b, next)) in
+    keeps_resource old new t kept (t.resource ++ r ∷ []) (record {
+      schema = w.schema;
+      rows = subst (λ tree. AreKeyed stored_resource (λ (row : ℕ × Resource). row.0)
+          (numbered_from 1 (t.resource ++ r ∷ [])) tree) (sym w.rows)
+          (subst (λ l. AreKeyed stored_resource (λ (row : ℕ × Resource). row.0) l
+          (put_row (stored_resource (n, r)) (old.now.trees 1))) is held);
+      others = w.others;
+    })
+
+abbrev pub outside_params : ℕ → List ℕ → Row
+outside_params n iri = Int (pos n) ∷ Words iri ∷ []
+
+cast_outside : (row : ℕ × List ℕ) → cast_row (record outside { tree = 2 }) (stored_outside row) ≡ stored_outside row
+cast_outside row = rw (cast_null, cast_int (pos row.0)) refl
+
+pub adds_outside : (old new : State) (t : Tables) (n : ℕ) (iri : List ℕ) (count : ℕ) → Keeps old.now t → 0 < n
+    → ((other : ℕ × List ℕ) → IsIn other t.outside → other.0 < n)
+    → Executes text.add_outside_text (outside_params n iri) old new (Ok count)
+    → Keeps new.now (record t { outside = t.outside ++ (n, iri) ∷ [] })
+adds_outside old new t n iri count kept least below h =
+    let w = puts 2 (record outside { tree = 2 }) text.add_outside_text text.add_outside_terms 3 (outside_params n iri)
+    (stored_outside (n, iri)) (λ rows. stored_outside (n, iri)) refl refl (λ olds news. refl) text.add_outside_is
+    refl
+    (λ rows. ap (with_rowid Chosen rows) (cast_outside (n, iri))) old new count kept.schema h in
+    let held = keyed_push (λ (row : ℕ × List ℕ). row.0) stored_outside (λ row. refl) (n, iri) t.outside
+    (old.now.trees 2) kept.hold.outside least (λ y k. below y (in_has t.outside y k)) in
+    keeps_outside old new t kept (t.outside ++ (n, iri) ∷ []) (record {
+      schema = w.schema;
+      rows = subst (λ tree. AreKeyed stored_outside (λ (row : ℕ × List ℕ). row.0) (t.outside ++ (n, iri) ∷ []) tree)
+          (sym w.rows) held;
+      others = w.others;
+    })
+
+abbrev pub posting_params : PostingRow → Row
+posting_params p = Int (pos p.number) ∷ Words p.key ∷ Words p.rec ∷ Int (pos p.first) ∷ Int (pos p.place) ∷ Int
+    (pos (cond p.withdrawn 1 0)) ∷ []
+
+pub cast_posting : (p : PostingRow) → cast_row (record posting { tree = 10 }) (stored_posting p) ≡ stored_posting p
+cast_posting p = rw (
+  cast_null,
+  cast_int (pos p.number),
+  cast_int (pos p.first),
+  cast_int (pos p.place),
+  cast_int (pos (cond p.withdrawn 1 0)),
+) refl
+
+pub adds_posting : (old new : State) (t : Tables) (p : PostingRow) (count : ℕ) → Keeps old.now t
+    → p.number ≡ length t.posting + 1
+    → Executes text.add_posting_text (posting_params p) old new (Ok count)
+    → Keeps new.now (record t { posting = t.posting ++ p ∷ [] })
+adds_posting old new t p count kept next h =
+    let w = puts 6 (record posting { tree = 10 }) text.add_posting_text text.add_posting_terms 7 (posting_params p)
+    (stored_posting p) (λ rows. stored_posting p) refl refl (λ olds news. refl) text.add_posting_is refl
+    (λ rows. ap (with_rowid Chosen rows) (cast_posting p)) old new count kept.schema h in
+    let held = keyed_push (λ (row : PostingRow). row.number) stored_posting (λ row. refl) p t.posting
+    (old.now.trees 10) kept.hold.posting (omega (arith, next))
+    (λ y k. let b = postings_below 1 t.posting y kept.hold.numbered k in omega (arith, b, next)) in
+    keeps_posting old new t kept (t.posting ++ p ∷ []) (record {
+      schema = w.schema;
+      rows = subst (λ tree. AreKeyed stored_posting (λ (row : PostingRow). row.number) (t.posting ++ p ∷ []) tree)
+          (sym w.rows) held;
+      others = w.others;
+    }) (postings_push 1 t.posting p kept.hold.numbered (omega (arith, next)))
+
+abbrev pub move_params : MoveRow → Row
+move_params m = Int (pos m.number) ∷ Int (pos m.posting) ∷ Int (pos m.source) ∷ Int (pos m.target) ∷ []
+
+cast_move : (m : MoveRow) → cast_row (record move { tree = 12 }) (stored_move m) ≡ stored_move m
+cast_move m = rw (
+  cast_null,
+  cast_int (pos m.number),
+  cast_int (pos m.posting),
+  cast_int (pos m.source),
+  cast_int (pos m.target),
+) refl
+
+pub adds_move : (old new : State) (t : Tables) (m : MoveRow) (count : ℕ) → Keeps old.now t → 0 < m.number
+    → ((other : MoveRow) → IsIn other t.move → other.number < m.number)
+    → Executes text.add_move_text (move_params m) old new (Ok count)
+    → Keeps new.now (record t { move = t.move ++ m ∷ [] })
+adds_move old new t m count kept least below h =
+    let w = puts 7 (record move { tree = 12 }) text.add_move_text text.add_move_terms 5 (move_params m)
+    (stored_move m) (λ rows. stored_move m) refl refl (λ olds news. refl) text.add_move_is refl
+    (λ rows. ap (with_rowid Chosen rows) (cast_move m)) old new count kept.schema h in
+    let held = keyed_push (λ (row : MoveRow). row.number) stored_move (λ row. refl) m t.move
+    (old.now.trees 12) kept.hold.move least (λ y k. below y (in_has t.move y k)) in
+    keeps_move old new t kept (t.move ++ m ∷ []) (record {
+      schema = w.schema;
+      rows = subst (λ tree. AreKeyed stored_move (λ (row : MoveRow). row.number) (t.move ++ m ∷ []) tree)
+          (sym w.rows) held;
+      others = w.others;
+    })
+
+-- The tables without.
+
+pub adds_label : (old new : State) (t : Tables) (l : Label) (count : ℕ) → Keeps old.now t
+    → Executes text.add_label_text (label_values l) old new (Ok count)
+    → Keeps new.now (record t { label = t.label ++ l ∷ [] })
+adds_label old new t l count kept h =
+    let w = puts 3 (record label { tree = 4 }) text.add_label_text text.add_label_terms 5 (label_values l)
+    (Null ∷ label_values l) (λ rows. Int (next_rowid rows) ∷ label_values l) refl refl
+    (λ olds news. refl) text.add_label_is refl
+    (λ rows. rw (cast_null, cast_int (pos l.owner), cast_int (pos (label_kind_no l.kind))) refl) old new count
+    kept.schema h in
+    keeps_label old new t kept (t.label ++ l ∷ []) (record {
+      schema = w.schema;
+      rows =
+          subst (AreHidden label_values (t.label ++ l ∷ [])) (sym w.rows)
+          (hidden_push label_values l t.label (old.now.trees 4) kept.hold.label);
+      others = w.others;
+    })
+
+pub adds_link : (old new : State) (t : Tables) (l : Link) (count : ℕ) → Keeps old.now t
+    → Executes text.add_link_text (link_values l) old new (Ok count)
+    → Keeps new.now (record t { link = t.link ++ l ∷ [] })
+adds_link old new t l count kept h =
+    let w = puts 4 (record link { tree = 6 }) text.add_link_text text.add_link_terms 4 (link_values l)
+    (Null ∷ link_values l) (λ rows. Int (next_rowid rows) ∷ link_values l) refl refl
+    (λ olds news. refl) text.add_link_is refl
+    (λ rows. rw (cast_null, cast_int (pos (link_kind_no l.kind)), cast_int (pos l.a), cast_int (pos l.b)) refl) old
+    new count kept.schema h in
+    keeps_link old new t kept (t.link ++ l ∷ []) (record {
+      schema = w.schema;
+      rows =
+          subst (AreHidden link_values (t.link ++ l ∷ [])) (sym w.rows)
+          (hidden_push link_values l t.link (old.now.trees 6) kept.hold.link);
+      others = w.others;
+    })
+
+pub adds_hier : (old new : State) (t : Tables) (row : HierRow) (count : ℕ) → Keeps old.now t
+    → Executes text.add_hier_text (hier_values row) old new (Ok count)
+    → Keeps new.now (record t { hier = t.hier ++ row ∷ [] })
+adds_hier old new t row count kept h =
+    let w = puts 5 (record hier { tree = 8 }) text.add_hier_text text.add_hier_terms 4 (hier_values row)
+    (Null ∷ hier_values row) (λ rows. Int (next_rowid rows) ∷ hier_values row) refl refl
+    (λ olds news. refl) text.add_hier_is refl
+    (λ rows. rw (cast_null, cast_int (pos row.a), cast_int (pos row.b), cast_int (pos (hier_type_no row.typ))) refl)
+    old new count kept.schema h in
+    keeps_hier old new t kept (t.hier ++ row ∷ []) (record {
+      schema = w.schema;
+      rows =
+          subst (AreHidden hier_values (t.hier ++ row ∷ [])) (sym w.rows)
+          (hidden_push hier_values row t.hier (old.now.trees 8) kept.hold.hier);
+      others = w.others;
+    })

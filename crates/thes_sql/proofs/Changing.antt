@@ -1,0 +1,198 @@
+-- What each change does.
+use Rattle.std.proofs.Common.{◌≡◌, ℕ, pos, List, [], ◌∷◌, ◌<◌, ◌==◌, map, Bool, not, ◌&&◌}
+use Rattle.std.proofs.Common.{if◌then◌else◌, Some, None, Option, Ok, Err, Result, OnOk, refl, sym, subst}
+use Rattle.std.specs.Ordering.{eq_by_cmp}
+use Rattle.sqlite.specs.declared.types.Value.TheVariants.{Null, Int}
+use Rattle.sqlite.specs.Order.{Row}
+use Rattle.sqlite.specs.Term.{Term, lit, col}
+use Rattle.sqlite.specs.declared.error.Error.{Error}
+use Rattle.sqlite.specs.State.{State, Executes, ExecutesInside}
+use Rattle.thes_base.specs.declared.data.Resource.{Resource}
+use Rattle.thes_base.specs.declared.data.Link.{Link}
+use Rattle.thes_base.specs.Labels.{Label, label_cmp}
+use Rattle.thes_base.specs.Links.{link_cmp}
+use Rattle.thes_base.specs.Changes.{dead, marked_dead}
+use Rattle.thes_rows.specs.declared.rows.HierRow.{HierRow}
+use Rattle.thes_rows.specs.declared.rows.PostingRow.{PostingRow}
+use Rattle.thes_rows.specs.declared.rows.MoveRow.{MoveRow}
+use Rattle.thes_rows.specs.declared.change.Change.{Change}
+use Rattle.thes_rows.specs.declared.change.Change.TheVariants as change
+use Rattle.thes_rows.specs.Tables.{Tables, hier_link}
+use Rattle.thes_rows.specs.Rows.{changed, Fits, withdrawn_row, placed_row, without_row}
+use Rattle.thes_rows.specs.Rows.{without_hier}
+use Rattle.thes_sql.specs.Schema.{resource, label, link, hier, posting}
+use Rattle.thes_sql.specs.Stored.{Keeps, AreKeyed, HoldResources, AreHidden, hidden_row, stored_resource}
+use Rattle.thes_sql.specs.Stored.{stored_posting, label_values, link_values, hier_values}
+use Rattle.thes_sql.specs.Does.{Does}
+use Rattle.thes_sql.proofs.Texts.{plain_query, whole, Means}
+use Rattle.thes_sql.proofs.Texts as text
+use Rattle.thes_sql.proofs.Statements.{updates, deletes}
+use Rattle.thes_sql.proofs.Holding.{keeps_resource, keeps_label, keeps_link, keeps_hier, keeps_posting}
+use Rattle.thes_sql.proofs.Adding.{resource_params, outside_params, posting_params, move_params, cast_resource}
+use Rattle.thes_sql.proofs.Adding.{cast_posting, hidden_drop, adds_resource, adds_outside, adds_label, adds_link}
+use Rattle.thes_sql.proofs.Adding.{adds_hier, adds_posting, adds_move}
+use Rattle.thes_sql.proofs.Testing.{by_resource, by_number, by_place, by_label, by_link, by_hier}
+use Rattle.thes_sql.proofs.Places.{dead_is, posting_is, still_numbered}
+
+-- the text with the parameters makes the change of whatever tables are kept, if it fits
+abbrev pub Makes : List ℕ → Row → Change → Type 1
+Makes text params c = (old new : State) (t : Tables) (count : ℕ) → Keeps old.now t → Fits c t
+    → Executes text params old new (Ok count) → Keeps new.now (changed c t)
+
+pub does : (text : List ℕ) (params : Row) (c : Change) → Makes text params c → (old new : State) (r : Result ℕ Error)
+    → ExecutesInside 0 text params old new r → OnOk r (Does c old new)
+does text params c makes old new (Err e) h = tt
+does text params c makes old new (Ok count) h = record {
+  rows =
+      λ t kept fits. makes old new t count kept fits h.0;
+  inside = h.1.mode;
+  is_open = h.1.is_open;
+}
+
+-- Additions.
+
+pub makes_resource : (n : ℕ) (r : Resource) → Makes text.add_resource_text (resource_params n r)
+    (change.AddResource n r)
+makes_resource n r old new t count kept fits h = adds_resource old new t n r count kept fits h
+
+pub makes_outside : (n : ℕ) (iri : List ℕ) → 0 < n → Makes text.add_outside_text (outside_params n iri)
+    (change.AddOutside n iri)
+makes_outside n iri least old new t count kept fits h = adds_outside old new t n iri count kept least fits h
+
+pub makes_label : (l : Label) → Makes text.add_label_text (label_values l) (change.AddLabel l)
+makes_label l old new t count kept fits h = adds_label old new t l count kept h
+
+pub makes_link : (l : Link) → Makes text.add_link_text (link_values l) (change.AddLink l)
+makes_link l old new t count kept fits h = adds_link old new t l count kept h
+
+pub makes_hier : (row : HierRow) → Makes text.add_hier_text (hier_values row) (change.AddHier row)
+makes_hier row old new t count kept fits h = adds_hier old new t row count kept h
+
+pub makes_posting : (p : PostingRow) → Makes text.add_posting_text (posting_params p) (change.AddPosting p)
+makes_posting p old new t count kept fits h = adds_posting old new t p count kept fits.0 h
+
+pub makes_move : (m : MoveRow) → 0 < m.number → Makes text.add_move_text (move_params m) (change.AddMove m)
+makes_move m least old new t count kept fits h = adds_move old new t m count kept least fits h
+
+-- Resources.
+
+marks_dead : (sql : List ℕ) (params : Row) (n : ℕ) (by : Option ℕ) (live replaced : Term)
+    (is : Means sql (Rattle.sqlite.specs.Command.TheVariants.Update 1
+    (whole (plain_query 1 text.retire_query.filter (text.resource_columns live replaced) []))))
+    → ((row : ℕ × Resource) → Rattle.sqlite.specs.Query.output
+    (plain_query 1 text.retire_query.filter (text.resource_columns live replaced) [])
+    ((Int (pos n) ∷ params) ∷ stored_resource row ∷ []) ≡
+    ([], Int (pos row.0) ∷ stored_resource (row.0, dead by row.1)))
+    → (old new : State) (t : Tables) (count : ℕ) → Keeps old.now t
+    → Executes sql (Int (pos n) ∷ params) old new (Ok count)
+    → Keeps new.now (record t { resource = marked_dead n by t.resource })
+marks_dead sql params n by live replaced is shows old new t count kept h =
+    let w = updates (λ (row : ℕ × Resource). row.0) stored_resource (λ row. refl) 1
+    (record resource { tree = 1 }) refl (λ olds news. refl) sql (Int (pos n) ∷ params) text.retire_query.filter
+    (λ row. row.0 == n) (by_resource params n)
+    (text.resource_columns live replaced) is (λ row. (row.0, dead by row.1)) (λ row. refl) shows
+    (λ row. cast_resource (row.0, dead by row.1)) old new
+    (Rattle.thes_sql.specs.Stored.numbered_from 1 t.resource) count kept.schema kept.hold.resource h in
+    keeps_resource old new t kept (marked_dead n by t.resource) (record {
+      schema = w.schema;
+      rows = subst (λ l. AreKeyed stored_resource (λ (row : ℕ × Resource). row.0) l (new.now.trees 1))
+          (sym (dead_is n by t.resource)) w.rows;
+      others = w.others;
+    })
+
+pub makes_retired : (n : ℕ) → Makes text.retire_text (Int (pos n) ∷ []) (change.Retire n)
+makes_retired n old new t count kept fits h = marks_dead text.retire_text [] n None (lit (Int (pos 0)))
+    (lit Null) text.retire_is (λ row. refl) old new t count kept h
+
+pub makes_replaced : (n by : ℕ) → Makes text.replace_text (Int (pos n) ∷ Int (pos by) ∷ []) (change.Replace n by)
+makes_replaced n by old new t count kept fits h = marks_dead text.replace_text (Int (pos by) ∷ []) n (Some by)
+    (lit (Int (pos 0))) (col 0 1) text.replace_is (λ row. refl) old new t count kept h
+
+-- Postings.
+
+turns : (sql : List ℕ) (params : Row) (filters project : List Term)
+    (is : Means sql (Rattle.sqlite.specs.Command.TheVariants.Update 6 (whole (plain_query 10 filters project []))))
+    (p : PostingRow → Bool) (test : (x : PostingRow) → Rattle.std.specs.List.list_all
+    (Rattle.sqlite.specs.Term.holds (params ∷ stored_posting x ∷ [])) filters ≡ p x)
+    (f : PostingRow → PostingRow) (keeps : (x : PostingRow) → (f x).number ≡ x.number)
+    → ((x : PostingRow) → Rattle.sqlite.specs.Query.output (plain_query 10 filters project [])
+    (params ∷ stored_posting x ∷ []) ≡ ([], Int (pos x.number) ∷ stored_posting (f x)))
+    → (old new : State) (t : Tables) (count : ℕ) → Keeps old.now t → Executes sql params old new (Ok count)
+    → Keeps new.now (record t { posting = map (λ x. if p x then f x else x) t.posting })
+turns sql params filters project is p test f keeps shows old new t count kept h =
+    keeps_posting old new t kept (map (λ x. if p x then f x else x) t.posting)
+    (updates (λ (x : PostingRow). x.number) stored_posting (λ x. refl) 6 (record posting { tree = 10 }) refl
+    (λ olds news. refl) sql params filters p test project is f keeps shows
+    (λ x. cast_posting (f x)) old new t.posting count kept.schema kept.hold.posting h)
+    (still_numbered f p keeps 1 t.posting kept.hold.numbered)
+
+pub makes_withdrawn : (n : ℕ) → Makes text.withdraw_text (Int (pos n) ∷ []) (change.Withdraw n)
+makes_withdrawn n old new t count kept fits h =
+    subst (λ (l : List PostingRow). Keeps new.now (record t { posting = l }))
+    (sym (posting_is withdrawn_row n t.posting kept.hold.numbered))
+    (turns text.withdraw_text (Int (pos n) ∷ []) text.withdraw_query.filter text.withdraw_query.project
+    text.withdraw_is (λ x. x.number == n) (by_number [] n) withdrawn_row (λ x. refl)
+    (λ x. refl) old new t count kept h)
+
+pub makes_placed : (n place : ℕ) → Makes text.set_place_text (Int (pos n) ∷ Int (pos place) ∷ [])
+    (change.SetPlace n place)
+makes_placed n place old new t count kept fits h =
+    subst (λ (l : List PostingRow). Keeps new.now (record t { posting = l }))
+    (sym (posting_is (placed_row place) n t.posting kept.hold.numbered))
+    (turns text.set_place_text (Int (pos n) ∷ Int (pos place) ∷ []) text.set_place_query.filter
+    text.set_place_query.project text.set_place_is (λ x. x.number == n) (by_number (Int (pos place) ∷ []) n)
+    (placed_row place) (λ x. refl) (λ x. refl) old new t count kept h)
+
+pub makes_moved : (source target : ℕ) → Makes text.move_all_text (Int (pos source) ∷ Int (pos target) ∷ [])
+    (change.MoveAll source target)
+makes_moved source target old new t count kept fits h =
+    turns text.move_all_text (Int (pos source) ∷ Int (pos target) ∷ []) text.move_all_query.filter
+    text.move_all_query.project text.move_all_is (λ x. not x.withdrawn && x.place == source)
+    (by_place (Int (pos target) ∷ []) source) (placed_row target) (λ x. refl) (λ x. refl) old new t count kept h
+
+-- Rows without numbers go.
+
+pub makes_label_gone : (l : Label) → Makes text.drop_label_text (label_values l) (change.DropLabel l)
+makes_label_gone l old new t count kept fits h =
+    let w = deletes (λ (row : ℕ × Label). row.0) (hidden_row label_values) (λ row. refl) 3
+    (record label { tree = 4 }) refl (λ olds news. refl) text.drop_label_text
+    (label_values l) text.drop_label_query.filter
+    (λ row. eq_by_cmp label_cmp row.1 l) (by_label l) text.drop_label_is (λ row. refl) old new kept.hold.label.given
+    count kept.schema kept.hold.label.held h in
+    keeps_label old new t kept (without_row label_cmp l t.label)
+    (record {
+      schema = w.schema;
+      rows = hidden_drop label_values (λ x. not (eq_by_cmp label_cmp x l)) t.label
+          (old.now.trees 4) (new.now.trees 4) kept.hold.label w.rows;
+      others = w.others;
+    })
+
+pub makes_link_gone : (l : Link) → Makes text.drop_link_text (link_values l) (change.DropLink l)
+makes_link_gone l old new t count kept fits h =
+    let w = deletes (λ (row : ℕ × Link). row.0) (hidden_row link_values) (λ row. refl) 4
+    (record link { tree = 6 }) refl (λ olds news. refl) text.drop_link_text
+    (link_values l) text.drop_link_query.filter
+    (λ row. eq_by_cmp link_cmp row.1 l) (by_link l) text.drop_link_is (λ row. refl) old new kept.hold.link.given count
+    kept.schema kept.hold.link.held h in
+    keeps_link old new t kept (without_row link_cmp l t.link)
+    (record {
+      schema = w.schema;
+      rows = hidden_drop link_values (λ x. not (eq_by_cmp link_cmp x l)) t.link
+          (old.now.trees 6) (new.now.trees 6) kept.hold.link w.rows;
+      others = w.others;
+    })
+
+pub makes_hier_gone : (l : HierRow) → Makes text.drop_hier_text (hier_values l) (change.DropHier l)
+makes_hier_gone l old new t count kept fits h =
+    let w = deletes (λ (row : ℕ × HierRow). row.0) (hidden_row hier_values) (λ row. refl) 5
+    (record hier { tree = 8 }) refl (λ olds news. refl) text.drop_hier_text
+    (hier_values l) text.drop_hier_query.filter
+    (λ row. eq_by_cmp link_cmp (hier_link row.1) (hier_link l)) (by_hier l) text.drop_hier_is
+    (λ row. refl) old new kept.hold.hier.given count kept.schema kept.hold.hier.held h in
+    keeps_hier old new t kept (without_hier l t.hier) (record {
+      schema = w.schema;
+      rows = hidden_drop hier_values
+          (λ x. not (eq_by_cmp link_cmp (hier_link x) (hier_link l))) t.hier (old.now.trees 8)
+          (new.now.trees 8) kept.hold.hier w.rows;
+      others = w.others;
+    })

@@ -1,0 +1,137 @@
+-- Lists by membership, and tables: rows in the order of their numbers.
+use Rattle.std.proofs.Common.{arith, ◌≡◌, ◌⊎◌, inl, inr, ℕ, ℤ, pos, ◌==◌, List, [], ◌∷◌, map, filter, Bool, true}
+use Rattle.std.proofs.Common.{false, not, cond, refl, sym, ap, subst, ◌∙◌, Less, is_eq}
+use Rattle.std.specs.List.{AllByRecursion}
+use Rattle.std.specs.List.Sorted.{IsPermutation}
+use Rattle.std.proofs.lemmas.Bool.Decides.{nat_tests}
+use Rattle.std.proofs.lemmas.Int.{ints}
+use Rattle.std.specs.Ordering.{ordering_reverse}
+use Rattle.sqlite.specs.declared.types.Value.TheVariants.{Int}
+use Rattle.sqlite.specs.Order.{Row, value_cmp}
+use Rattle.sqlite_value.proofs.OrderLemmas.{value_cmp-Int, value_cmp_total}
+use Rattle.sqlite.specs.Tree.{put_row, has_rowid, without_rowid}
+use Rattle.sqlite_trees.specs.Tree.{IsTable, rowid}
+use Rattle.sqlite.specs.Rowids.TheVariants.{Given}
+use Rattle.sqlite_rules.specs.Edit.{put_all, without_all, numbered}
+use Rattle.sqlite_rules.specs.Lists.{Has}
+use Rattle.sqlite_rules.proofs.ListLemmas.{all_has}
+use Rattle.sqlite_rules.proofs.TableLemmas.{without_all_has}
+use Rattle.sqlite_trees.proofs.TreeLemmas.{IsTable-put_row}
+use Rattle.sqlite_trees.proofs.ListLemmas.{ascending-filter}
+use Rattle.sqlite_keyed.proofs.ListLemmas.{along_permutation}
+
+-- Elements of lists.
+
+pub decided : (b : Bool) → (b ≡ true) ⊎ (b ≡ false)
+decided true = inl refl
+decided false = inr refl
+
+pub clash : {A : Type 0} (b : Bool) → b ≡ true → b ≡ false → A
+clash b e f = absurd (cc)
+
+pub not_true : (b : Bool) → not b ≡ true → b ≡ false
+not_true true e = absurd (cc)
+not_true false e = refl
+
+pub perm_has : {A : Type 0} (xs ys : List A) → IsPermutation xs ys → (x : A) → Has xs x → Has ys x
+perm_has {A} = along_permutation (λ (xs ys : List A). (x : A) → Has xs x → Has ys x)
+    (λ xs x h. h)
+    (λ a xs ys more x h. elim h [ inl e ↦ inl e | inr k ↦ inr (more x k) ])
+    (λ a b xs x h. elim h [ inl e ↦ inr (inl e) | inr k ↦ elim k [ inl e ↦ inl e | inr l ↦ inr (inr l) ] ])
+    (λ xs ys zs p q x h. q x (p x h))
+
+pub map_has : {A B : Type 0} (g : A → B) (xs : List A) (y : B) → Has (map g xs) y → (x : A) × Has xs x × (y ≡ g x)
+map_has g [] y h = absurd h
+map_has g (x ∷ xs) y (inl e) = (x, inl refl, e)
+map_has g (x ∷ xs) y (inr h) = let r = map_has g xs y h in (r.0, inr r.1, r.2)
+
+pub has_map : {A B : Type 0} (g : A → B) (xs : List A) (x : A) → Has xs x → Has (map g xs) (g x)
+has_map g [] x h = absurd h
+has_map g (z ∷ xs) x (inl e) = inl (ap g e)
+has_map g (z ∷ xs) x (inr h) = inr (has_map g xs x h)
+
+pub filter_has : {A : Type 0} (p : A → Bool) (xs : List A) (x : A) → Has (filter p xs) x → Has xs x × (p x ≡ true)
+filter_has p [] x h = absurd h
+filter_has {A} p (z ∷ xs) x h = go (filter_has p xs x) (p z) refl h
+  where
+    go : (Has (filter p xs) x → Has xs x × (p x ≡ true)) → (b : Bool) → p z ≡ b
+        → Has (cond b (z ∷ filter p xs) (filter p xs)) x → Has (z ∷ xs) x × (p x ≡ true)
+    go more true e (inl same) = (inl same, ap p same ∙ e)
+    go more true e (inr k) = let r = more k in (inr r.0, r.1)
+    go more false e k = let r = more k in (inr r.0, r.1)
+
+pub has_filter : {A : Type 0} (p : A → Bool) (xs : List A) (x : A) → Has xs x → p x ≡ true → Has (filter p xs) x
+has_filter p [] x h t = absurd h
+has_filter {A} p (z ∷ xs) x h t = go (has_filter p xs x) (p z) refl h
+  where
+    go : (Has xs x → p x ≡ true → Has (filter p xs) x) → (b : Bool) → p z ≡ b → Has (z ∷ xs) x
+        → Has (cond b (z ∷ filter p xs) (filter p xs)) x
+    go more true e (inl same) = inl same
+    go more true e (inr k) = inr (more k t)
+    go more false e (inl same) = clash (p z) (sym (ap p same) ∙ t) e
+    go more false e (inr k) = more k t
+
+-- Tables: two with the same rows are one.
+
+never_both : (a b : Row) → value_cmp (rowid a) (rowid b) ≡ Less → value_cmp (rowid b) (rowid a) ≡ Less → ⊥
+never_both a b p q = let e = value_cmp_total.antisymm (rowid a) (rowid b) ∙ ap ordering_reverse q in cc
+
+past : (z : Row) (zs : List Row) → AllByRecursion (λ r. value_cmp (rowid z) (rowid r) ≡ Less) zs → (r : Row)
+    → Has zs r → r ≡ z → ⊥
+past z zs up r h e = let lower = subst (λ x. value_cmp (rowid z) (rowid x) ≡ Less) e (all_has _ zs r up h) in
+    never_both z z lower lower
+
+pub same_rows : (xs ys : List Row) → IsTable xs → IsTable ys → ((r : Row) → Has xs r → Has ys r)
+    → ((r : Row) → Has ys r → Has xs r) → xs ≡ ys
+same_rows [] [] p q a b = refl
+same_rows [] (y ∷ ys) p q a b = absurd (b y (inl refl))
+same_rows (x ∷ xs) [] p q a b = absurd (a x (inl refl))
+same_rows (x ∷ xs) (y ∷ ys) p q a b =
+    let first : x ≡ y = elim (a x (inl refl)) [
+      | inl e ↦ e
+      | inr later ↦ elim (b y (inl refl)) [
+        | inl e ↦ sym e
+        | inr also ↦ absurd
+            (never_both x y (all_has _ xs y p.0 also) (all_has _ ys x q.0 later))
+      ]
+    ] in
+    let rest = same_rows xs ys p.1 q.1
+    (λ r h. elim (a r (inr h)) [ inl e ↦ absurd (past x xs p.0 r h (e ∙ sym first)) | inr k ↦ k ])
+    (λ r h. elim (b r (inr h)) [ inl e ↦ absurd (past y ys q.0 r h (e ∙ first)) | inr k ↦ k ]) in
+    λ i. first i ∷ rest i
+
+pub table_put : (news rows : List Row) → IsTable rows → IsTable (put_all rows news)
+table_put [] rows up = up
+table_put (n ∷ news) rows up = table_put news (put_row n rows) (IsTable-put_row n rows up)
+
+pub table_left : (ids : List ℤ) (rows : List Row) → IsTable rows → IsTable (without_all rows ids)
+table_left [] rows up = up
+table_left (id ∷ ids) rows up = table_left ids (without_rowid id rows)
+    (ascending-filter _ (λ r. not (has_rowid id r)) rows up)
+
+-- a row is left just where its number is not among those that go
+pub left_not : (ids : List ℤ) (rows : List Row) (x : Row) → Has (without_all rows ids) x → (id : ℤ) → Has ids id
+    → has_rowid id x ≡ false
+left_not [] rows x h id m = absurd m
+left_not (j ∷ ids) rows x h id (inl e) = ap (λ k. has_rowid k x) e
+    ∙ not_true _ (filter_has (λ r. not (has_rowid j r)) rows x (without_all_has ids (without_rowid j rows) x h)).1
+left_not (j ∷ ids) rows x h id (inr m) = left_not ids (without_rowid j rows) x h id m
+
+pub left_has : (ids : List ℤ) (rows : List Row) (x : Row) → Has rows x
+    → ((id : ℤ) → Has ids id → has_rowid id x ≡ false) → Has (without_all rows ids) x
+left_has [] rows x h out = h
+left_has (j ∷ ids) rows x h out = left_has ids (without_rowid j rows) x
+    (has_filter (λ r. not (has_rowid j r)) rows x h (ap not (out j (inl refl)))) (λ id m. out id (inr m))
+
+pub given_same : (rows rs : List Row) → numbered Given rows rs ≡ rs
+given_same rows [] = refl
+given_same rows (r ∷ rs) = ap (λ l. r ∷ l) (given_same (put_row r rows) rs)
+
+pub test_id : (m n : ℕ) → is_eq (value_cmp (Int (pos m)) (Int (pos n))) ≡ (m == n)
+test_id m n = ap is_eq (value_cmp-Int (pos m) (pos n)) ∙ grind (arith, ints, nat_tests)
+
+pub same_num : (m n : ℕ) → (m == n) ≡ true → m ≡ n
+same_num m n h = grind (arith, nat_tests)
+
+pub num_same : (n : ℕ) → (n == n) ≡ true
+num_same n = grind (arith, nat_tests)

@@ -1,0 +1,13 @@
+pub mod Texts
+pub mod Writing
+pub mod Elements
+pub mod Keyed
+pub mod Statements
+pub mod Holding
+pub mod Adding
+pub mod Testing
+pub mod Places
+pub mod Changing
+pub mod Runs
+pub mod Defining
+pub mod Creating

@@ -1,0 +1,136 @@
+-- The eight tables as the database reads their texts, and two plain indexes.
+use Rattle.sqlite.specs.Collation.TheVariants.{Binary}
+use Rattle.std.specs.Prelude.{ℕ, Bool, true, false, [], ◌∷◌, Some, None, Option, codes, List}
+use Rattle.sqlite.specs.declared.types.Value.TheVariants.{Null}
+use Rattle.sqlite.specs.Table.{Table}
+use Rattle.sqlite.specs.Schema.{Schema}
+use Rattle.sqlite.specs.Kind.{Kind}
+use Rattle.sqlite.specs.Kind.TheVariants.{Integer, Text}
+use Rattle.sqlite_value.specs.Keys.{plain}
+use Rattle.sqlite_value.specs.declared.keys.Order.{Order}
+use Rattle.sqlite_schema.specs.declared.schema.Column.{Column}
+use Rattle.sqlite_schema.specs.declared.schema.Index.{Index}
+use Rattle.sqlite_catalog.specs.Change.{created, indexed}
+
+abbrev pub column_of : Kind → Bool → List ℕ → Column
+column_of kind required name =
+    record { name = name; kind = kind; is_strict = true; not_null = required; default = Null; collation = Binary }
+
+-- whole numbers and texts, that must be there or may be null
+abbrev pub key_column : List ℕ → Column
+key_column = column_of Integer false
+
+abbrev pub number_column : List ℕ → Column
+number_column = column_of Integer true
+
+abbrev pub text_column : List ℕ → Column
+text_column = column_of Text true
+
+abbrev pub table_of : List ℕ → List Column → Option ℕ → List ℕ → List (List ℕ) → List Order → Table
+table_of name columns key primary uniques orders = record {
+  name = name;
+  tree = 0;
+  columns = columns;
+  key = key;
+  primary = primary;
+  uniques = uniques;
+  orders = orders;
+  checks = [];
+  references = [];
+  computed = [];
+  stamps = record { places = []; terms = []; formats = [] };
+  is_counted = false;
+}
+
+-- its first column is the number of a row
+abbrev pub numbered_table : List ℕ → List Column → List (List ℕ) → List Order → Table
+numbered_table name columns uniques orders = table_of name columns (Some 0) (0 ∷ []) uniques orders
+
+-- all columns together are its key
+abbrev pub set_table : List ℕ → List Column → List ℕ → Table
+set_table name columns places = table_of name columns None places (places ∷ []) (plain ∷ [])
+
+abbrev pub meta : Table
+meta = numbered_table (codes "meta") (key_column (codes "one") ∷ number_column (codes "version") ∷ text_column
+    (codes "base") ∷ []) [] []
+
+abbrev pub resource : Table
+resource = numbered_table (codes "resource")
+    (key_column (codes "num") ∷ number_column (codes "kind") ∷ key_column (codes "scheme") ∷ number_column
+    (codes "live")
+    ∷ key_column (codes "replaced") ∷ []) [] []
+
+abbrev pub outside : Table
+outside =
+    numbered_table (codes "outside") (key_column (codes "num") ∷ text_column (codes "iri") ∷ []) ((2 ∷ []) ∷ [])
+    (plain ∷ [])
+
+abbrev pub label : Table
+label = set_table (codes "label")
+    (number_column (codes "owner") ∷ number_column (codes "kind") ∷ text_column (codes "tag") ∷ text_column
+    (codes "text") ∷ [])
+    (1 ∷ 2 ∷ 3 ∷ 4 ∷ [])
+
+abbrev pub link : Table
+link = set_table (codes "link") (number_column (codes "kind") ∷ number_column (codes "a") ∷ number_column
+    (codes "b") ∷ []) (1 ∷ 2 ∷ 3 ∷ [])
+
+abbrev pub hier : Table
+hier = set_table (codes "hier") (number_column (codes "a") ∷ number_column (codes "b") ∷ number_column
+    (codes "typ") ∷ []) (1 ∷ 2 ∷ 3 ∷ [])
+
+abbrev pub posting : Table
+posting = numbered_table (codes "posting")
+    (key_column (codes "num") ∷ text_column (codes "pkey") ∷ text_column (codes "record") ∷ number_column
+    (codes "first_at")
+    ∷ number_column (codes "at") ∷ number_column (codes "withdrawn") ∷ []) ((2 ∷ []) ∷ []) (plain ∷ [])
+
+abbrev pub move : Table
+move = numbered_table (codes "move")
+    (key_column (codes "num") ∷ number_column (codes "posting") ∷ number_column (codes "source") ∷ number_column
+    (codes "target") ∷ []) [] []
+
+abbrev pub index_of : List ℕ → ℕ → List ℕ → Index
+index_of name table columns =
+    record { name = name; tree = 0; table = table; columns = columns; order = plain; is_unique = false }
+
+-- postings by the concept at which they stand, and moves by their posting
+abbrev pub posting_at : Index
+posting_at = index_of (codes "posting_at") 10 (5 ∷ [])
+
+abbrev pub move_posting : Index
+move_posting = index_of (codes "move_posting") 12 (2 ∷ [])
+
+-- the schema after each of the ten texts that make it
+abbrev pub schema_0 : Schema
+schema_0 = record { tables = []; indexes = []; views = [] }
+
+abbrev pub schema_1 : Schema
+schema_1 = created schema_0 meta
+
+abbrev pub schema_2 : Schema
+schema_2 = created schema_1 resource
+
+abbrev pub schema_3 : Schema
+schema_3 = created schema_2 outside
+
+abbrev pub schema_4 : Schema
+schema_4 = created schema_3 label
+
+abbrev pub schema_5 : Schema
+schema_5 = created schema_4 link
+
+abbrev pub schema_6 : Schema
+schema_6 = created schema_5 hier
+
+abbrev pub schema_7 : Schema
+schema_7 = created schema_6 posting
+
+abbrev pub schema_8 : Schema
+schema_8 = created schema_7 move
+
+abbrev pub schema_9 : Schema
+schema_9 = indexed schema_8 (record posting { tree = 10 }) posting_at
+
+abbrev pub store_schema : Schema
+store_schema = indexed schema_9 (record move { tree = 12 }) move_posting

@@ -1,0 +1,117 @@
+-- The tables as the database's trees hold them.
+use Rattle.std.specs.Prelude.{◌≡◌, ◌<◌, ◌+◌, ℕ, pos, List, [], ◌∷◌, map, ⊤}
+use Rattle.sqlite.specs.declared.types.Value.{Value}
+use Rattle.sqlite.specs.declared.types.Value.TheVariants.{Null, Int, Text as Words, Blob}
+use Rattle.sqlite.specs.Order.{Row}
+use Rattle.sqlite.specs.Tree.{Trees}
+use Rattle.sqlite.specs.Effect.{Database}
+use Rattle.thes_base.specs.declared.data.Resource.{Resource}
+use Rattle.thes_base.specs.declared.data.Link.{Link}
+use Rattle.thes_base.specs.Labels.{Label}
+use Rattle.thes_rows.specs.declared.rows.HierRow.{HierRow}
+use Rattle.thes_rows.specs.declared.rows.PostingRow.{PostingRow}
+use Rattle.thes_rows.specs.declared.rows.MoveRow.{MoveRow}
+use Rattle.thes_rows.specs.declared.cells.Cell.{Cell}
+use Rattle.thes_rows.specs.declared.cells.Cell.TheVariants as cells
+use Rattle.thes_rows.specs.Tables.{Tables}
+use Rattle.thes_rows.specs.Cells.{resource_cells, label_cells, link_cells, hier_cells, posting_cells, move_cells}
+use Rattle.thes_rows.specs.Cells.{outside_cells, meta_cells}
+use Rattle.thes_sql.specs.Schema.{store_schema}
+
+-- what the database holds of a cell
+abbrev pub value_of : Cell → Value
+value_of (cells.Int n) = Int n
+value_of (cells.Text text) = Words text
+value_of (cells.Bytes bytes) = Blob bytes
+value_of cells.Null = Null
+
+abbrev pub values : List Cell → List Value
+values row = map value_of row
+
+-- a row of a table whose number is the row's first cell: the number's own column is empty
+abbrev pub keyed : List Value → Row
+keyed [] = []
+keyed (id ∷ rest) = id ∷ Null ∷ rest
+
+abbrev pub stored_meta : List ℕ → Row
+stored_meta base = keyed (values (meta_cells base))
+
+abbrev pub stored_resource : ℕ × Resource → Row
+stored_resource row = keyed (values (resource_cells row.0 row.1))
+
+abbrev pub stored_outside : ℕ × List ℕ → Row
+stored_outside row = keyed (values (outside_cells row))
+
+abbrev pub stored_posting : PostingRow → Row
+stored_posting row = keyed (values (posting_cells row))
+
+abbrev pub stored_move : MoveRow → Row
+stored_move row = keyed (values (move_cells row))
+
+abbrev pub label_values : Label → List Value
+label_values l = values (label_cells l)
+
+abbrev pub link_values : Link → List Value
+link_values l = values (link_cells l)
+
+abbrev pub hier_values : HierRow → List Value
+hier_values row = values (hier_cells row)
+
+-- numbers that rise from above this one
+abbrev pub Rising : {A : Type 0} → (A → ℕ) → ℕ → List A → Type 0
+Rising num above [] = ⊤
+Rising num above (x ∷ xs) = (above < num x) × Rising num (num x) xs
+
+-- the tree holds these rows, in the order of their numbers
+pub record AreKeyed {A : Type 0} (stored : A → Row) (num : A → ℕ) (xs : List A) (tree : List Row) : Type 0 where
+  pub rises : Rising num 0 xs
+  pub rows : tree ≡ map stored xs
+
+-- a row of a table without a number of its own: the database gives it one
+abbrev pub hidden_row : {A : Type 0} → (A → List Value) → ℕ × A → Row
+hidden_row of row = Int (pos row.0) ∷ of row.1
+
+-- the tree holds these rows under numbers of its own, in the order of those
+pub record AreHidden {A : Type 0} (of : A → List Value) (xs : List A) (tree : List Row) : Type 0 where
+  pub given : List (ℕ × A)
+  pub same : map (λ (row : ℕ × A). row.1) given ≡ xs
+  pub held : AreKeyed (hidden_row of) (λ (row : ℕ × A). row.0) given tree
+
+-- a list with its places, from this number on
+abbrev pub numbered_from : {A : Type 0} → ℕ → List A → List (ℕ × A)
+numbered_from n [] = []
+numbered_from n (x ∷ xs) = (n, x) ∷ numbered_from (n + 1) xs
+
+-- the postings are numbered onward
+abbrev pub AreNumbered : ℕ → List PostingRow → Type 0
+AreNumbered n [] = ⊤
+AreNumbered n (row ∷ rows) = (row.number ≡ n) × AreNumbered (n + 1) rows
+
+abbrev pub HoldResources : List Resource → List Row → Type 0
+HoldResources rs tree = AreKeyed stored_resource (λ (row : ℕ × Resource). row.0) (numbered_from 1 rs) tree
+
+abbrev pub HoldOutside : List (ℕ × List ℕ) → List Row → Type 0
+HoldOutside rows tree = AreKeyed stored_outside (λ (row : ℕ × List ℕ). row.0) rows tree
+
+abbrev pub HoldPostings : List PostingRow → List Row → Type 0
+HoldPostings rows tree = AreKeyed stored_posting (λ (row : PostingRow). row.number) rows tree
+
+abbrev pub HoldMoves : List MoveRow → List Row → Type 0
+HoldMoves rows tree = AreKeyed stored_move (λ (row : MoveRow). row.number) rows tree
+
+-- the trees hold these tables
+pub record Hold (db : Trees) (t : Tables) : Type 0 where
+  pub meta : db 0 ≡ stored_meta t.base ∷ []
+  pub resource : HoldResources t.resource (db 1)
+  pub outside : HoldOutside t.outside (db 2)
+  pub label : AreHidden label_values t.label (db 4)
+  pub link : AreHidden link_values t.link (db 6)
+  pub hier : AreHidden hier_values t.hier (db 8)
+  pub posting : HoldPostings t.posting (db 10)
+  pub numbered : AreNumbered 1 t.posting
+  pub move : HoldMoves t.move (db 12)
+
+-- the database has the schema, and holds these tables
+pub record Keeps (db : Database) (t : Tables) : Type 0 where
+  pub schema : db.schema ≡ store_schema
+  pub hold : Hold db.trees t

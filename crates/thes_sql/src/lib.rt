@@ -1,0 +1,6 @@
+//! The tables of a store in a database.
+#![tactic(auto)]
+
+pub mod commit;
+pub mod create;
+mod writes;
