@@ -1,3 +1,5 @@
 pub mod Forms
 pub mod Spelled
 pub mod Taken
+pub mod Fitting
+pub mod Linking

@@ -3,6 +3,8 @@
 
 pub mod cells;
 pub mod ends;
+pub mod links;
 pub mod moves;
 pub mod postings;
+pub mod resources;
 pub mod rows;
