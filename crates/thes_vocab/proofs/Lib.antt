@@ -8,3 +8,4 @@ mod JudgingLemmas
 mod KeptLemmas
 mod TakenLemmas
 mod ForwardingLemmas
+mod LoadingLemmas

@@ -9,3 +9,4 @@ pub mod Named
 pub mod Listed
 pub mod Numbered
 pub mod Kept
+pub mod Loading

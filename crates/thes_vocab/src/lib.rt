@@ -7,10 +7,12 @@ pub mod forwarding;
 mod iris;
 mod judging;
 mod labels;
+pub mod load;
 mod names;
 mod row;
 pub mod vocab;
 
 pub use forwarding::Forwarding;
+pub use load::VocabLoad;
 pub use thes_base::data::NewResource;
 pub use vocab::Vocab;

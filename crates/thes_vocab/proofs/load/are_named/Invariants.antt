@@ -1,0 +1,5 @@
+use Rattle.thes_vocab.specs.Loading.{AreNamedTo}
+use Rattle.thes_vocab.proofs.load.are_named.Given as goal
+
+abbrev pub invariant-loop-i : goal.invariant-loop-i
+invariant-loop-i l = AreNamedTo l.i l.resources l.labels

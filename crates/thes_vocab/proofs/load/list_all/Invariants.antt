@@ -1,0 +1,9 @@
+use Rattle.std.specs.Prelude.{take}
+use Rattle.std.specs.Ordering.{nat_cmp}
+use Rattle.thes_lists.specs.Lists.{AreListings}
+use Rattle.thes_vocab.specs.Vocabulary.{IsConceptOf}
+use Rattle.thes_vocab.proofs.load.list_all.Given as goal
+
+-- those so far are listed
+abbrev pub invariant-loop-i : goal.invariant-loop-i
+invariant-loop-i l = AreListings nat_cmp (IsConceptOf (take l.i l.resources)) l.concepts
