@@ -4,3 +4,6 @@ pub mod MoveTaking
 pub mod Six
 pub mod Replacing
 pub mod Linking
+pub mod ReadingLemmas
+pub mod RowForms
+pub mod Naming

@@ -3,3 +3,5 @@ pub mod Spelled
 pub mod Taken
 pub mod Fitting
 pub mod Linking
+pub mod Reading
+pub mod Naming

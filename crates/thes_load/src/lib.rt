@@ -5,6 +5,7 @@ pub mod cells;
 pub mod ends;
 pub mod links;
 pub mod moves;
+pub mod names;
 pub mod postings;
 pub mod resources;
 pub mod rows;

@@ -1,5 +1,5 @@
 //! The rows of link and of hier.
-ghost use Rattle.std.specs.Prelude.{◌≡◌, ◌↔◌, ◌<◌, ◌^◌, [], List, IsTrue, IfOk, length};
+ghost use Rattle.std.specs.Prelude.{◌≡◌, ◌↔◌, ◌<◌, ◌^◌, [], List, IsTrue, IfOk, length, map};
 ghost use Rattle.thes_base.specs.declared.data.Resource.{Resource};
 ghost use Rattle.thes_base.specs.declared.data.Link.{Link};
 ghost use Rattle.thes_base.specs.Links.{norm};
@@ -8,15 +8,19 @@ ghost use Rattle.thes_rows.specs.Tables.{hier_kind, hier_link};
 ghost use Rattle.thes_graph.specs.Net.{is_marked};
 ghost use Rattle.thes_tables.specs.Rules.{LinkRule, HierRule};
 ghost use Rattle.thes_load.specs.Forms.{HasLinkForm};
+ghost use Rattle.thes_rows.specs.Cells.{link_cells, hier_cells};
+ghost use Rattle.thes_load.specs.Reading.{Reads};
 ghost use Rattle.thes_load.specs.Taken.{Takes};
 ghost use Rattle.thes_load.specs.Linking.{AreMarked, IsAdded, HasLinks};
 
 use crate::ends::{is_fit, is_outside};
+use crate::rows::{hier_in, link_in};
 use std::alloc::{AllocError, Global};
 use thes_base::data::{Link, LinkKind, Resource};
 use thes_base::number::ResNo;
 use thes_graph::graph::Graph;
 use thes_graph::judge::in_order;
+use thes_rows::cells::Cell;
 use thes_rows::rows::{HierRow, HierType};
 
 /// What is kept of the rows of link and of hier: their links.
@@ -58,6 +62,38 @@ impl LinkLoad {
     {
         let good = add_legal(&mut self.graph, resources, &link_of(row))?;
         Ok(good)
+    }
+
+    /// Reads the next row of link, or answers false if it breaks the rule or is none.
+    pub fn read(&mut self, resources: &[Resource], cells: &[Cell]) -> Result<bool, AllocError>
+        requires { length resources.now < 2 ^ 32 }
+        ensures { IfOk result (λ good. (rows : List Link) → HasLinks resources.now self.old.graph rows []
+            → Reads (map link_cells) (λ more. HasLinks resources.now self.new.graph more [])
+            (LinkRule resources.now) rows cells.now good) }
+    {
+        match link_in(cells) {
+            Some(link) => {
+                let good = self.take(resources, &link)?;
+                Ok(good)
+            }
+            None => Ok(false),
+        }
+    }
+
+    /// Reads the next row of hier, or answers false if it breaks the rule or is none.
+    pub fn read_hier(&mut self, resources: &[Resource], cells: &[Cell]) -> Result<bool, AllocError>
+        requires { length resources.now < 2 ^ 32 }
+        ensures { IfOk result (λ good. (links : List Link) (rows : List HierRow) → HasLinks resources.now self.old.graph links rows
+            → Reads (map hier_cells) (HasLinks resources.now self.new.graph links)
+            (HierRule resources.now links) rows cells.now good) }
+    {
+        match hier_in(cells) {
+            Some(row) => {
+                let good = self.take_hier(resources, &row)?;
+                Ok(good)
+            }
+            None => Ok(false),
+        }
     }
 
     /// Checks whether no rule is broken by the links of both tables together.

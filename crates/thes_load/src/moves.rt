@@ -1,16 +1,20 @@
 //! The rows of move.
-ghost use Rattle.std.specs.Prelude.{◌≡◌, ◌<◌, ◌+◌, ◌↔◌, List, IsTrue, length, map};
+ghost use Rattle.std.specs.Prelude.{◌≡◌, ◌<◌, ◌+◌, ◌↔◌, List, IsTrue, length, map, ◌^◌};
 ghost use Rattle.thes_base.specs.declared.data.Resource.{Resource};
 ghost use Rattle.thes_base.specs.Resources.{numbered};
 ghost use Rattle.thes_rows.specs.declared.rows.PostingRow.{PostingRow};
 ghost use Rattle.thes_rows.specs.declared.rows.MoveRow.{MoveRow};
-ghost use Rattle.thes_tables.specs.Rules.{MoveRule};
+ghost use Rattle.thes_tables.specs.Rules.{PostingRule, MoveRule};
 ghost use Rattle.thes_load.specs.Forms.{HasMoveForm};
+ghost use Rattle.thes_rows.specs.Cells.{move_cells};
+ghost use Rattle.thes_load.specs.Reading.{Reads};
 ghost use Rattle.thes_load.specs.Taken.{Takes, HasMoves, IsNextMove, AreAt};
 
 use crate::ends::is_concept;
+use crate::rows::move_in;
 use thes_base::data::Resource;
 use thes_base::number::{PostNo, ResNo};
+use thes_rows::cells::Cell;
 use thes_rows::rows::MoveRow;
 
 /// What is kept of the rows of move: how many there were, and the place of each posting to which they lead.
@@ -72,6 +76,21 @@ impl MoveLoad {
             true
         } else {
             false
+        }
+    }
+
+    /// Reads the next row, or answers false if it breaks the rule or is none.
+    pub fn read(&mut self, resources: &[Resource], cells: &[Cell]) -> bool
+        requires few { length resources.now < 2 ^ 32 }
+        requires room { self.old.taken < u64.MAX }
+        ensures { (postings : List PostingRow) (rows : List MoveRow) → PostingRule resources.now postings
+            → HasMoves resources.now postings self.old.taken self.old.places.items rows
+            → Reads (map move_cells) (HasMoves resources.now postings self.new.taken self.new.places.items)
+            (MoveRule resources.now postings) rows cells.now result }
+    {
+        match move_in(cells) {
+            Some(row) => self.take(resources, &row),
+            None => false,
         }
     }
 

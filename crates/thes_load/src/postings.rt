@@ -1,16 +1,20 @@
 //! The rows of posting.
-ghost use Rattle.std.specs.Prelude.{◌<◌, ◌↔◌, List, IsTrue, IfOk, length};
+ghost use Rattle.std.specs.Prelude.{◌<◌, ◌↔◌, List, IsTrue, IfOk, length, map, ◌^◌};
 ghost use Rattle.thes_rows.specs.declared.rows.PostingRow.{PostingRow};
 ghost use Rattle.thes_tables.specs.Rules.{PostingRule};
 ghost use Rattle.thes_load.specs.Forms.{HasPostingForm};
+ghost use Rattle.thes_rows.specs.Cells.{posting_cells};
+ghost use Rattle.thes_load.specs.Reading.{Reads};
 ghost use Rattle.thes_load.specs.Taken.{Takes, HasPostings, IsNextPosting, KeyIsTaken};
 
 use crate::ends::{is_concept, is_live};
-use std::alloc::AllocError;
+use crate::rows::posting_in;
+use std::alloc::{AllocError, Global};
 use std::collections::BTreeSet;
 use thes_base::data::Resource;
 use thes_base::number::ResNo;
 use thes_base::text::Key;
+use thes_rows::cells::Cell;
 use thes_rows::rows::PostingRow;
 
 /// What is kept of the rows of posting: their keys, their first concepts and their places.
@@ -59,6 +63,24 @@ impl PostingLoad {
             }
         } else {
             Ok(false)
+        }
+    }
+
+    /// Reads the next row, or answers false if it breaks the rule or is none.
+    pub fn read(&mut self, alloc: Global, resources: &[Resource], cells: &[Cell]) -> Result<bool, AllocError>
+        requires few { length resources.now < 2 ^ 32 }
+        requires room { length self.old.firsts.items < usize.MAX }
+        ensures { IfOk result (λ good. (rows : List PostingRow)
+            → HasPostings resources.now self.old.keys.keys self.old.firsts.items self.old.ats.items rows
+            → Reads (map posting_cells) (HasPostings resources.now self.new.keys.keys self.new.firsts.items self.new.ats.items)
+            (PostingRule resources.now) rows cells.now good) }
+    {
+        match posting_in(alloc, cells)? {
+            Some(row) => {
+                let good = self.take(resources, row)?;
+                Ok(good)
+            }
+            None => Ok(false),
         }
     }
 }

@@ -3,15 +3,18 @@ ghost use Rattle.std.specs.Prelude.{◌≡◌, ◌<◌, ◌^◌, ◌↔◌, List
 ghost use Rattle.thes_base.specs.declared.data.Resource.{Resource};
 ghost use Rattle.thes_base.specs.Resources.{IsScheme, scheme_of, replacement_of};
 ghost use Rattle.thes_tables.specs.Rules.{ResourceRule};
+ghost use Rattle.thes_rows.specs.Cells.{resource_rows};
+ghost use Rattle.thes_load.specs.Reading.{Reads};
 ghost use Rattle.thes_load.specs.Fitting.{IsNextResource, SchemeFits, ReplacementFits, Fits, EachFits, AreApart, HasReturn, is_cycle};
 
 use crate::ends::{is_concept, resource_at};
-use crate::rows::ResourceRow;
+use crate::rows::{ResourceRow, resource_in};
 use std::alloc::{AllocError, Global};
 use thes_base::data::{Link, LinkKind, Resource, ResourceKind};
 use thes_base::fault::Refusal;
 use thes_base::number::ResNo;
 use thes_graph::graph::Graph;
+use thes_rows::cells::Cell;
 
 /// What is kept of the rows of resource: all of them.
 #[derive(Drop)]
@@ -39,6 +42,20 @@ impl ResourceLoad {
             Ok(true)
         } else {
             Ok(false)
+        }
+    }
+
+    /// Reads the next row, or answers false if it breaks the rule or is none.
+    pub fn read(&mut self, cells: &[Cell]) -> Result<bool, AllocError>
+        ensures { IfOk result (Reads (resource_rows 1) (λ rows. rows ≡ self.new.resources.items) ResourceRule
+            self.old.resources.items cells.now) }
+    {
+        match resource_in(cells) {
+            Some(row) => {
+                let good = self.take(&row)?;
+                Ok(good)
+            }
+            None => Ok(false),
         }
     }
 

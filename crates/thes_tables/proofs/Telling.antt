@@ -34,7 +34,7 @@ row_one : (x y : MoveRow) → x.posting ≡ y.posting → step_of x ≡ step_of 
 row_one x y p e = λ i. record { number = ap (λ (m : Move). m.number) e i; posting = p i; source = ap (λ (m : Move). m.source) e i; target = ap (λ (m : Move). m.target) e i }
 
 -- a move's source is a concept, where its posting's first is
-sources : (rs : List Resource) (above from : ℕ) (moves : List Move) → IsConcept rs from → Follows above from moves → AllMoves (λ (m : Move). IsConcept rs m.target × (m.source ≢ m.target)) moves → AllMoves (IsLegalMove rs) moves
+pub sources : (rs : List Resource) (above from : ℕ) (moves : List Move) → IsConcept rs from → Follows above from moves → AllMoves (λ (m : Move). IsConcept rs m.target × (m.source ≢ m.target)) moves → AllMoves (IsLegalMove rs) moves
 sources rs above from [] at follows all = tt
 sources rs above from (m ∷ moves) at follows all = ((subst (IsConcept rs) (sym follows.1) at, all.0.0, all.0.1), sources rs m.number m.target moves all.0.0 follows.2 all.1)
 
