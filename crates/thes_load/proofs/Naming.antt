@@ -41,8 +41,7 @@ ascends_front above (r ∷ rows) more up = (up.0, ascends_front r.0 rows more up
 after_rows : (above : ℕ) (rows : List Row) (x : Row) (more : List Row) → Ascends above (rows ++ x ∷ more) → (above < x.0) × EachRow (λ r. r.0 < x.0) rows
 after_rows above [] x more up = (up.0, λ r h. absurd h)
 after_rows above (r ∷ rows) x more up =
-    let rest = after_rows r.0 rows x more up.1 in
-    (
+    let rest = after_rows r.0 rows x more up.1 in (
       (let a = up.0 in let b = rest.0 in omega (arith, a, b)),
       λ y h. elim h [ inl e ↦ subst (λ (z : Row). z.0 < x.0) (sym e) rest.0 | inr later ↦ rest.1 y later ],
     )

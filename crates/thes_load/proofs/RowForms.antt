@@ -97,8 +97,7 @@ module _ (rs : List Resource) (few : length rs < 2 ^ 32) where
       let all = sources rs 0 p.0.first (moves_of p.0.number rows) (posting.concepts p.0 there).0 (rule.well_formed p.0 there)
       (all_of_in _ (moves_of p.0.number rows) (λ m i. let r = row_of_move p.0.number m rows i in subst (λ (x : Move). IsConcept rs x.target × (x.source ≢ x.target)) r.3 (rule.ends r.0 r.1))) in
       let own = subst (λ n. IsIn (step_of row) (moves_of n rows)) (sym (posting.numbers row.posting p.0 p.1)) (move_of_row rows row h) in
-      let legal : IsLegalMove rs (step_of row) = in_all (IsLegalMove rs) (step_of row) (moves_of p.0.number rows) all own in
-      (
+      let legal : IsLegalMove rs (step_of row) = in_all (IsLegalMove rs) (step_of row) (moves_of p.0.number rows) all own in (
         subst IsNumber (sym (rule.numbers at.0 row at.1)) (number_of rows at.0 row rule.few at.1),
         number_of ps row.posting p.0 posting.few p.1,
         number_of rs row.source legal.0.0 few legal.0.1,

@@ -5,3 +5,4 @@ pub mod Fitting
 pub mod Linking
 pub mod Reading
 pub mod Naming
+pub mod Version

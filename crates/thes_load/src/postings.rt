@@ -67,7 +67,12 @@ impl PostingLoad {
     }
 
     /// Reads the next row, or answers false if it breaks the rule or is none.
-    pub fn read(&mut self, alloc: Global, resources: &[Resource], cells: &[Cell]) -> Result<bool, AllocError>
+    pub fn read(
+        &mut self,
+        alloc: Global,
+        resources: &[Resource],
+        cells: &[Cell],
+    ) -> Result<bool, AllocError>
         requires few { length resources.now < 2 ^ 32 }
         requires room { length self.old.firsts.items < usize.MAX }
         ensures { IfOk result (λ good. (rows : List PostingRow)
