@@ -1,5 +1,5 @@
 -- One more row of move.
-use Rattle.std.proofs.Common.{◌≡◌, ◌≢◌, ◌<◌, ℕ, zero, suc, ◌-◌, ◌+◌, length, List, [], ◌∷◌, ◌++◌, map, refl, sym, ap, ◌∙◌, subst, arith, inl, inr, Bool, true, false, cond, eqb, eqb-true, length-append}
+use Rattle.std.proofs.Common.{◌≡◌, ◌≢◌, ◌<◌, ℕ, zero, suc, ◌-◌, ◌+◌, length, List, [], ◌∷◌, ◌++◌, map, refl, sym, ap, ◌∙◌, subst, arith, inl, inr, Bool, true, false, cond, eqb, eqb-true, length-append, lit<, ◌^◌}
 use Rattle.std.proofs.lemmas.Bool.{cases_Bool, eq-eqb, eqb-false}
 use Rattle.std.proofs.lemmas.List.{append-nil}
 use Rattle.std.proofs.lemmas.Option.{same_Some}
@@ -15,12 +15,12 @@ use Rattle.thes_rows.specs.declared.rows.PostingRow.{PostingRow}
 use Rattle.thes_rows.specs.declared.rows.MoveRow.{MoveRow}
 use Rattle.thes_rows.specs.Tables.{IsIn, step_of}
 use Rattle.thes_rows.proofs.MoveRows.{map_numbered}
-use Rattle.thes_tables.specs.Rules.{MoveRule, history_of, moves_of}
+use Rattle.thes_tables.specs.Rules.{AreInOrder, MoveRule, history_of, moves_of}
 use Rattle.thes_tables.proofs.Lists.{in_numbered, numbered_in, numbered_some, numbered_unmap}
 use Rattle.thes_tables.proofs.MoveRows.{hit_is, miss_is, row_of_move, all_of_in}
 use Rattle.thes_load.specs.Forms.{HasMoveForm}
 use Rattle.thes_load.specs.Taken.{AtPlaces, AreAt, HasMoves, IsNextMove}
-use Rattle.thes_load.proofs.Pushing.{numbered_next, in_next, each_push, order_push, few_push}
+use Rattle.thes_load.proofs.Pushing.{length_map, numbered_next, in_next, each_push, order_push, few_push}
 
 -- The moves of a posting, of more rows.
 
@@ -145,3 +145,18 @@ module _ (rs : List Resource) (ps : List PostingRow) (taken : ℕ) (places : Lis
   are_of ats are rule = λ i y e.
       let r = numbered_unmap (λ (p : PostingRow). p.place) ps (suc i) y (ap (λ (l : List ℕ). numbered l (suc i)) (sym are) ∙ e) in
       has.at.at (suc i) r.0 r.1 ∙ ap (λ (x : ℕ). Some x) (rule.places r.0 (numbered_in ps (suc i) r.0 r.1) ∙ sym r.2)
+
+-- no move yet: each posting stands where it stood first
+pub moves_none : (rs : List Resource) (ps : List PostingRow) → length ps < 2 ^ 32 → AreInOrder (λ (p : PostingRow). p.number) ps → HasMoves rs ps 0 (map (λ (p : PostingRow). p.first) ps) []
+moves_none rs ps few order = record {
+  order = order;
+  so_far = record {
+    few = (let z : 0 < 2 ^ 32 = lit< tt in z);
+    numbers = λ n row e. let b = numbered_bound [] n row e in absurd (omega (arith, b));
+    known = λ row h. absurd h;
+    ends = λ row h. absurd h;
+    well_formed = λ p h. tt;
+  };
+  count = refl;
+  at = record { fit = length_map (λ (p : PostingRow). p.first) ps; at = λ n p e. map_numbered (λ (q : PostingRow). q.first) ps n p e };
+}

@@ -1,5 +1,5 @@
 -- One more row of posting.
-use Rattle.std.proofs.Common.{◌≡◌, ◌⊎◌, ℕ, ◌+◌, length, List, [], ◌∷◌, ◌++◌, map, refl, sym, ap, ◌∙◌, arith, inl, inr, Bool, true, false, cond, ◌||◌, not}
+use Rattle.std.proofs.Common.{◌≡◌, ◌⊎◌, ◌<◌, ◌^◌, lit<, ℕ, ◌+◌, length, List, [], ◌∷◌, ◌++◌, map, refl, sym, ap, ◌∙◌, arith, inl, inr, Bool, true, false, cond, ◌||◌, not}
 use Rattle.std.specs.Prelude.{Some}
 use Rattle.std.proofs.lemmas.List.{map-append}
 use Rattle.std.proofs.lemmas.Cmp.{nat_list_cmp_total}
@@ -100,3 +100,19 @@ module _ (rs : List Resource) (keys : List (List ℕ)) (firsts ats : List ℕ) (
         firsts_are = ap (λ (l : List ℕ). l ++ p.first ∷ []) has.firsts_are ∙ sym (map-append (λ (x : PostingRow). x.first) rows (p ∷ []));
         ats_are = ap (λ (l : List ℕ). l ++ p.place ∷ []) has.ats_are ∙ sym (map-append (λ (x : PostingRow). x.place) rows (p ∷ []));
       }
+
+-- no posting yet
+pub postings_none : (rs : List Resource) (keys : List (List ℕ)) (firsts ats : List ℕ) → keys ≡ [] → firsts ≡ [] → ats ≡ [] → HasPostings rs keys firsts ats []
+postings_none rs keys firsts ats no_keys no_firsts no_ats = record {
+  rule = record {
+    few = (let z : 0 < 2 ^ 32 = lit< tt in z);
+    numbers = λ n row e. let b = numbered_bound [] n row e in absurd (omega (arith, b));
+    forms = λ row h. absurd h;
+    keys = λ m n x y e f same. let b = numbered_bound [] m x e in absurd (omega (arith, b));
+    concepts = λ row h. absurd h;
+    live = λ row h. absurd h;
+  };
+  keys_are = λ q. ap (λ (ks : List (List ℕ)). has_key ks q) no_keys;
+  firsts_are = no_firsts;
+  ats_are = no_ats;
+}

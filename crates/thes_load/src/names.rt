@@ -23,6 +23,14 @@ pub struct OutsideLoad {
 }
 
 impl OutsideLoad {
+    /// Starts with no row, and a vocabulary of no IRI.
+    pub fn new(vocab: VocabLoad) -> OutsideLoad
+        ensures { (base : List ℕ) (resources : List Resource) → vocab ≡ vocabulary_of base resources [] []
+            → HasOutside base resources result.vocab result.last [] }
+    {
+        OutsideLoad { vocab, last: 0 }
+    }
+
     /// Takes the next row, or answers false if it breaks the rule.
     pub fn take(&mut self, row: OutsideRow) -> Result<bool, AllocError>
         requires { HasOutsideForm row }

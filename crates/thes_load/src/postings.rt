@@ -1,13 +1,15 @@
 //! The rows of posting.
-ghost use Rattle.std.specs.Prelude.{◌<◌, ◌↔◌, List, IsTrue, IfOk, length, map, ◌^◌};
+ghost use Rattle.std.specs.Prelude.{◌<◌, ◌↔◌, List, IsTrue, IfOk, length, map, ◌^◌, ◌≡◌, []};
+ghost use Rattle.thes_base.specs.declared.data.Resource.{Resource};
 ghost use Rattle.thes_rows.specs.declared.rows.PostingRow.{PostingRow};
 ghost use Rattle.thes_tables.specs.Rules.{PostingRule};
 ghost use Rattle.thes_load.specs.Forms.{HasPostingForm};
 ghost use Rattle.thes_rows.specs.Cells.{posting_cells};
 ghost use Rattle.thes_load.specs.Reading.{Reads};
-ghost use Rattle.thes_load.specs.Taken.{Takes, HasPostings, IsNextPosting, KeyIsTaken};
+ghost use Rattle.thes_load.specs.Taken.{Takes, HasPostings, HasMoves, IsNextPosting, KeyIsTaken};
 
 use crate::ends::{is_concept, is_live};
+use crate::moves::MoveLoad;
 use crate::rows::posting_in;
 use std::alloc::{AllocError, Global};
 use std::collections::BTreeSet;
@@ -23,6 +25,7 @@ pub struct PostingLoad {
     pub keys: BTreeSet<Key>,
     pub firsts: Vec<ResNo>,
     pub ats: Vec<ResNo>,
+    ghost few: { length firsts.items < 2 ^ 32 },
 }
 
 // Whether a row is the next one, but for its key.
@@ -45,10 +48,20 @@ fn take_key(keys: &mut BTreeSet<Key>, key: Key) -> Result<bool, AllocError>
 }
 
 impl PostingLoad {
+    /// Starts with no row.
+    pub fn new(alloc: Global) -> PostingLoad
+        ensures { (resources : List Resource) → HasPostings resources result.keys.keys result.firsts.items result.ats.items [] }
+    {
+        PostingLoad {
+            keys: BTreeSet::new(alloc),
+            firsts: Vec::new(alloc),
+            ats: Vec::new(alloc),
+        }
+    }
+
     /// Takes the next row, or answers false if it breaks the rule.
     pub fn take(&mut self, resources: &[Resource], row: PostingRow) -> Result<bool, AllocError>
-        requires form { HasPostingForm row }
-        requires room { length self.old.firsts.items < usize.MAX }
+        requires { HasPostingForm row }
         ensures { IfOk result (λ good. (rows : List PostingRow) → HasPostings resources.now self.old.keys.keys self.old.firsts.items self.old.ats.items rows → Takes (HasPostings resources.now self.new.keys.keys self.new.firsts.items self.new.ats.items) (PostingRule resources.now) rows row good) }
     {
         if is_next(resources, self.firsts.len(), &row) {
@@ -73,8 +86,7 @@ impl PostingLoad {
         resources: &[Resource],
         cells: &[Cell],
     ) -> Result<bool, AllocError>
-        requires few { length resources.now < 2 ^ 32 }
-        requires room { length self.old.firsts.items < usize.MAX }
+        requires { length resources.now < 2 ^ 32 }
         ensures { IfOk result (λ good. (rows : List PostingRow)
             → HasPostings resources.now self.old.keys.keys self.old.firsts.items self.old.ats.items rows
             → Reads (map posting_cells) (HasPostings resources.now self.new.keys.keys self.new.firsts.items self.new.ats.items)
@@ -87,5 +99,19 @@ impl PostingLoad {
             }
             None => Ok(false),
         }
+    }
+
+    /// Answers what the rows of move go on from: where each posting stood first, and where its row has it.
+    pub fn close(self) -> (MoveLoad, Vec<ResNo>)
+        ensures { (resources : List Resource) (rows : List PostingRow)
+            → HasPostings resources self.keys.keys self.firsts.items self.ats.items rows
+            → HasMoves resources rows result.0.taken result.0.places.items []
+            × (result.1.items ≡ map (λ (row : PostingRow). row.place) rows) }
+    {
+        let moves = MoveLoad {
+            places: self.firsts,
+            taken: 0,
+        };
+        (moves, self.ats)
     }
 }

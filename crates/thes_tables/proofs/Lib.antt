@@ -6,3 +6,4 @@ pub mod MoveRows
 pub mod MoveOrders
 pub mod Telling
 pub mod Holding
+pub mod Judging

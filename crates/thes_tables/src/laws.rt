@@ -1,5 +1,5 @@
 //! What holds of rows, whatever reads them.
-ghost use Rattle.thes_tables.specs.Laws.{OneVerdict, LoadsLegal, LegalLoads};
+ghost use Rattle.thes_tables.specs.Laws.{OneVerdict, LoadsLegal, LegalLoads, JudgesInTurn};
 
 /// Rows have at most one verdict.
 pub fn one_verdict()
@@ -14,4 +14,9 @@ pub fn loads_legal()
 /// The rows of a legal state load, and tell it.
 pub fn legal_loads()
     ensures { LegalLoads }
+{}
+
+/// The tables are judged in turn: the first that has no rows which meet its rule is named.
+pub fn judges_in_turn()
+    ensures { JudgesInTurn }
 {}

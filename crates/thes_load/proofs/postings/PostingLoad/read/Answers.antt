@@ -16,4 +16,4 @@ returns-in_ok-good-in-Some c = λ rows has.
 
 pub returns-in-None : goal.returns-in-None
 returns-in-None c = λ rows has.
-    reads_none posting_cells posting_one (HasPostings c.args.resources.now c.args.self.now.keys.keys c.args.self.now.firsts.items c.args.self.now.ats.items) (PostingRule c.args.resources.now) rows c.args.cells.now HasPostingForm (subst (Spells posting_cells HasPostingForm c.args.cells.now) c.in-None.is c.in_ok-row.ensures) (λ y rest all. posting_form c.args.resources.now c.requires.few (rows ++ y ∷ rest) y all (in_next rows y rest))
+    reads_none posting_cells posting_one (HasPostings c.args.resources.now c.args.self.now.keys.keys c.args.self.now.firsts.items c.args.self.now.ats.items) (PostingRule c.args.resources.now) rows c.args.cells.now HasPostingForm (subst (Spells posting_cells HasPostingForm c.args.cells.now) c.in-None.is c.in_ok-row.ensures) (λ y rest all. posting_form c.args.resources.now c.requires (rows ++ y ∷ rest) y all (in_next rows y rest))

@@ -11,7 +11,7 @@ returns-then-branch c = λ rows has.
     let ats : c.push-then-branch.new.self.items ≡ c.args.self.now.ats.items ++ c.args.row.place ∷ [] = search rules in
     subst (λ (ls : List ℕ × List ℕ). HasPostings c.args.resources.now c.take_key.new.keys.keys ls.0 ls.1 (rows ++ c.args.row ∷ [])) (λ i. (sym firsts i, sym ats i))
     (next_taken c.args.resources.now c.args.self.now.keys.keys c.args.self.now.firsts.items c.args.self.now.ats.items rows c.args.row has c.take_key.new.keys.keys
-    (subst (λ k. IsNextPosting c.args.resources.now k c.args.row) count (c.is_next.ensures.0 c.if-is_next.true)) c.requires.form
+    (subst (λ k. IsNextPosting c.args.resources.now k c.args.row) count (c.is_next.ensures.0 c.if-is_next.true)) c.requires
     (new_key (has_key c.args.self.now.keys.keys c.args.row.key) (sym key.0 ∙ c.if-branch.true)) key.1)
 
 pub returns-then-is_next : goal.returns-then-is_next
