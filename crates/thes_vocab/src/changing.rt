@@ -90,7 +90,10 @@ impl Vocab {
             OnOk result (self.new ≡ with_labels self.old after) }
         ensures err { OnErr result (self.new ≡ self.old) }
     {
-        let old = self.labels.preferred_clone(owner, tag)?;
+        let Some(known) = self.labels.preferred(owner, tag) else {
+            return Ok(());
+        };
+        let old = known.try_clone(self.alloc)?;
         if old == *text {
             return Ok(());
         }

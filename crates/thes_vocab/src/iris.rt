@@ -25,11 +25,11 @@ impl Model for IriTable {
 
     ghost coded = { Prim.hlevel (codes, dict.code) };
 
-    ghost use Rattle.thes_vocab.specs.Numbered.{iris_in, AreTied};
+    ghost use Rattle.thes_vocab.specs.Numbered.{iris_in, AreInverse};
 
     ghost view = { λ a. iris_in a.iris.entries };
 
-    ghost invariant = { λ a. AreTied (iris_in a.iris.entries) a.numbers };
+    ghost invariant = { λ a. AreInverse (iris_in a.iris.entries) a.numbers };
 }
 
 impl IriTable {

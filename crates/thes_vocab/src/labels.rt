@@ -8,7 +8,7 @@ ghost use Rattle.thes_base.specs.Labels.{HasLabel};
 ghost use Rattle.thes_base.specs.Machine.{owned};
 ghost use Rattle.thes_vocab.specs.Rivals.{HasTwoPreferred, Clashes};
 ghost use Rattle.thes_vocab.specs.LabelData.{own_label, has_own, AreLabelsOf};
-ghost use Rattle.thes_vocab.specs.LabelRows.{Owns, OwnsNone, row_of, IsLabelPut, IsLabelDropped, IsMerged, AreSame};
+ghost use Rattle.thes_vocab.specs.LabelRows.{Owns, OwnsNone, owner_row, IsLabelPut, IsLabelDropped, IsMerged, AreSameRows};
 ghost use Rattle.std.specs.Ordering.{nat_cmp};
 ghost use Rattle.std.specs.BTreeMap.{IsOrdered};
 
@@ -108,17 +108,6 @@ impl LabelTable {
         match self.row(owner) {
             Some(row) => row.preferred(tag),
             None => None,
-        }
-    }
-
-    // The text of the owner's preferred label in the language, or of one of them.
-    pub(crate) fn preferred_clone(&self, owner: ResNo, tag: &Tag) -> Result<Text, AllocError>
-        requires { (text : List ℕ) × HasLabel self.now owner Pref tag.now text }
-        ensures { IfOk result (λ text. HasLabel self.now owner Pref tag.now text) }
-    {
-        match self.preferred(owner, tag) {
-            Some(text) => text.try_clone(self.alloc),
-            None => unreachable!(),
         }
     }
 
@@ -238,9 +227,9 @@ fn put(
     owner: ResNo,
     label: Label,
 ) -> Result<bool, AllocError>
-    ensures added { IfOk result (λ added. added ≡ not (has_own (row_of rows.old owner) label)) }
+    ensures added { IfOk result (λ added. added ≡ not (has_own (owner_row rows.old owner) label)) }
     ensures ok { OnOk result (IsLabelPut rows.old rows.new owner label) }
-    ensures err { OnErr result (AreSame rows.old rows.new) }
+    ensures err { OnErr result (AreSameRows rows.old rows.new) }
     ensures ordered { IsOrdered nat_cmp rows.new }
 {
     if let Some(row) = rows.get_mut(&owner) {
@@ -260,7 +249,7 @@ fn take(
     tag: &Tag,
     text: &str,
 ) -> bool
-    ensures taken { result ≡ has_own (row_of rows.old owner) (own_label kind tag.now text.now) }
+    ensures taken { result ≡ has_own (owner_row rows.old owner) (own_label kind tag.now text.now) }
     ensures after { IsLabelDropped rows.old rows.new owner (own_label kind tag.now text.now) }
     ensures ordered { IsOrdered nat_cmp rows.new }
 {

@@ -4,7 +4,7 @@ ghost use Rattle.std.specs.List.Sorted.{IsStrictlySortedBy};
 ghost use Rattle.std.specs.Ordering.{eq_by_cmp};
 ghost use Rattle.thes_base.specs.Data.{LabelData};
 ghost use Rattle.thes_base.specs.Labels.{label_kind_no};
-ghost use Rattle.thes_vocab.specs.Places.{IsPlace, IsPreferredAt};
+ghost use Rattle.thes_vocab.specs.Places.{IsLabelPlace, IsPreferredAt};
 ghost use Rattle.thes_vocab.specs.Taken.{has_own_name, takes_own, taken, gives};
 ghost use Rattle.thes_vocab.specs.LabelData.{data_cmp, language_cmp, own_label, has_own, HasPreferred, HasNoPreferred, HasTwo};
 
@@ -24,7 +24,7 @@ impl Model for Row {
     ghost use Rattle.std.specs.Prelude.{List};
     ghost use Rattle.std.specs.List.Sorted.{IsStrictlySortedBy};
     ghost use Rattle.thes_base.specs.Data.{LabelData};
-    ghost use Rattle.thes_vocab.specs.Places.{IsPlace, IsPreferredAt};
+    ghost use Rattle.thes_vocab.specs.Places.{IsLabelPlace, IsPreferredAt};
     ghost use Rattle.thes_vocab.specs.Taken.{takes_own, taken, gives};
     ghost use Rattle.thes_vocab.specs.LabelData.{data_cmp};
 
@@ -167,14 +167,14 @@ fn taken(alloc: Global, label: &Label) -> Result<Label, AllocError>
 // Where the label stands in the order, or where it would.
 fn search(labels: &[Label], kind: LabelKind, tag: &Tag, text: &str) -> Result<usize, usize>
     requires { IsStrictlySortedBy data_cmp labels.now }
-    ensures { IsPlace labels.now (own_label kind tag.now text.now) result }
+    ensures { IsLabelPlace labels.now (own_label kind tag.now text.now) result }
 {
     labels.binary_search_by(|label| order(label, kind, tag, text))
 }
 
 fn search_label(labels: &[Label], label: &Label) -> Result<usize, usize>
     requires { IsStrictlySortedBy data_cmp labels.now }
-    ensures { IsPlace labels.now label.now result }
+    ensures { IsLabelPlace labels.now label.now result }
 {
     search(labels, label.kind(), &label.tag, label.text())
 }

@@ -47,11 +47,11 @@ impl Model for Vocab {
 
     ghost coded = { Prim.hlevel (codes, set.code, dict.code) };
 
-    ghost use Rattle.thes_vocab.specs.Kept.{IsKept};
+    ghost use Rattle.thes_vocab.specs.Kept.{IsConsistent};
 
     ghost view = { λ a. record { base = a.base; resources = a.resources.items; iris = a.iris; labels = a.labels } };
 
-    ghost invariant = { λ a. IsKept a.base a.resources.items a.iris a.labels a.names a.concepts };
+    ghost invariant = { λ a. IsConsistent a.base a.resources.items a.iris a.labels a.names a.concepts };
 }
 
 impl Vocab {
