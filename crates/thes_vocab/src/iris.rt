@@ -53,7 +53,8 @@ impl IriTable {
 
     // The number of the IRI.
     pub(crate) fn number(&self, iri: &Iri) -> Option<ResNo>
-        ensures { MatchOption result ((n : ℕ) → dict.get self.now n ≢ Some iri.now) (λ n. dict.get self.now n ≡ Some iri.now) }
+        ensures { MatchOption result ((n : ℕ) → dict.get self.now n ≢ Some iri.now)
+            (λ n. dict.get self.now n ≡ Some iri.now) }
     {
         self.numbers.get(iri).copied()
     }

@@ -65,7 +65,8 @@ impl LabelTable {
 
     // The owner's row, if there is one.
     fn row(&self, owner: ResNo) -> Option<&Row>
-        ensures { MatchOption result (OwnsNone self.now owner) (λ row. Owns self.now owner row.now) }
+        ensures { MatchOption result (OwnsNone self.now owner)
+            (λ row. Owns self.now owner row.now) }
     {
         self.rows.get(&owner)
     }
@@ -186,7 +187,8 @@ impl LabelTable {
     }
 
     fn insert_alternative(&mut self, owner: ResNo, tag: &Tag, text: &Text) -> Result<(), AllocError>
-        ensures ok { OnOk result (self.new ≡ set.insert self.old (label owner Alt tag.now text.now)) }
+        ensures ok { OnOk result (self.new ≡
+            set.insert self.old (label owner Alt tag.now text.now)) }
         ensures err { OnErr result (self.new ≡ self.old) }
     {
         let value = LabelValue::Alt(text.try_clone(self.alloc)?);
@@ -194,7 +196,8 @@ impl LabelTable {
     }
 
     fn insert_value(&mut self, owner: ResNo, tag: &Tag, value: LabelValue) -> Result<(), AllocError>
-        ensures ok { OnOk result (self.new ≡ set.insert self.old (label owner (kind_of value) tag.now (text_of value))) }
+        ensures ok { OnOk result (self.new ≡
+            set.insert self.old (label owner (kind_of value) tag.now (text_of value))) }
         ensures err { OnErr result (self.new ≡ self.old) }
     {
         let tag = tag.try_clone(self.alloc)?;
@@ -208,8 +211,10 @@ impl LabelTable {
         target: ResNo,
         gained: u64,
     ) -> Result<(), AllocError>
-        requires { set.len self.old + gained ≡ set.len (set.union self.old (taken_labels source target self.old)) }
-        ensures ok { OnOk result (self.new ≡ set.union self.old (taken_labels source target self.old)) }
+        requires { let taken = taken_labels source target self.old in
+            set.len self.old + gained ≡ set.len (set.union self.old taken) }
+        ensures ok { OnOk result (self.new ≡
+            set.union self.old (taken_labels source target self.old)) }
         ensures err { OnErr result (self.new ≡ self.old) }
     {
         let count = self.count.checked_add(gained).ok_or(AllocError)?;

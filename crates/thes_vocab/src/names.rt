@@ -62,7 +62,8 @@ impl Names {
         text: &Text,
         concept: ResNo,
     ) -> Result<(), AllocError>
-        ensures ok { OnOk result (IsNoted self.old self.new scheme tag.now text.now (Some concept)) }
+        ensures ok { OnOk result
+            (IsNoted self.old self.new scheme tag.now text.now (Some concept)) }
         ensures err { OnErr result (AreSameNames self.old self.new) }
     {
         match scheme {
