@@ -18,5 +18,5 @@ pub record IsConsistent (base : List ℕ) (resources : List Resource) (iris : Ir
   pub legal : LegalResources base resources iris
   pub named : LegalLabels resources labels
   pub found : (scheme n : ℕ) (tag text : List ℕ) → IsHolder resources labels scheme tag text n →
-    holder_in names scheme tag text ≡ Some n
+      holder_in names scheme tag text ≡ Some n
   pub listed : AreListings nat_cmp (IsConceptOf resources) concepts

@@ -50,7 +50,11 @@ impl Model for Vocab {
     ghost use Rattle.thes_vocab.specs.Kept.{IsConsistent};
 
     ghost view = { λ a. record {
-        base = a.base; resources = a.resources.items; iris = a.iris; labels = a.labels } };
+      base = a.base;
+      resources = a.resources.items;
+      iris = a.iris;
+      labels = a.labels;
+    } };
 
     ghost invariant = { λ a. IsConsistent a.base a.resources.items a.iris a.labels a.names a.concepts };
 }
