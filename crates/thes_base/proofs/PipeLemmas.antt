@@ -1,5 +1,5 @@
 -- What reads and writes, one after another, do to the bytes that are known, and to the counts of calls.
-use Rattle.std.proofs.Common.{◌≡◌, ◌∙◌, ℕ, ◌+◌, ◌≤◌, List, ◌++◌, length, take, drop, take_all, le_refl, Option, arith, ◌-◌, length-drop, length-append}
+use Rattle.std.proofs.Common.{◌≡◌, ℕ, ◌+◌, ◌≤◌, List, ◌++◌, length, take, drop, Option, arith, ◌-◌, length-drop, length-append}
 use Rattle.std.proofs.KnownBytes.{Appends-trans}
 use Rattle.std.proofs.Math.Seq.{take-add, take-append-add}
 use Rattle.std.proofs.lemmas.Grind.{common_steps}
@@ -28,10 +28,6 @@ appends_front_then a b c xs ys f s = record {
   within = let h = s.within in rw (length-append xs ys) (omega (arith, h));
   front = rw (take-append-add xs ys s.count) (Appends-trans a b c xs (take s.count ys) f s.front);
 }
-
--- all of a text is a front of it
-pub appends_front : (a b : Option (List ℕ)) (xs : List ℕ) → Appends a b xs → AppendsFront a b xs
-appends_front a b xs f = record { count = length xs; within = omega arith; front = rw (take_all (length xs) xs (le_refl (length xs))) f }
 
 -- An engine's call with two pipes has so much of its budget left.
 pub record HasLeft {R W : Type 0} (reader reader' : Pipe R) (writer writer' : Pipe W) (left : ℕ) : Type 0 where

@@ -6,7 +6,7 @@ use Rattle.thes_base.specs.declared.data.Resource.{Resource}
 use Rattle.thes_base.specs.declared.data.LabelKind.TheVariants.{Pref}
 use Rattle.thes_base.specs.declared.triple.Property.TheVariants as property
 use Rattle.thes_base.specs.declared.triple.Class.TheVariants as class
-use Rattle.thes_base.specs.Resources.{numbered, Exists, IsConcept, IsCollection, IsLive, IsLiveConcept, scheme_of, is_concept_kind}
+use Rattle.thes_base.specs.Resources.{Exists, IsConcept, IsCollection, IsLive, IsLiveConcept, scheme_of, is_concept_kind}
 use Rattle.thes_base.specs.Labels.{Label, HasLabel, UniquePreferred}
 use Rattle.thes_base.specs.State.{State}
 use Rattle.thes_base.specs.Triples.{Triple, iri_of, Asserted}

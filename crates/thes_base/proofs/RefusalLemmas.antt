@@ -1,5 +1,5 @@
 -- What refuses a link and a merge can be read off the triples of the state that would be.
-use Rattle.std.proofs.Common.{◌≡◌, ◌⊎◌, ℕ, ◌++◌, ◌∷◌, [], List, refl, arith, length-append, sym, subst, inl, inr, Bool, true, false, not, ◌&&◌, ◌||◌, nat_lt}
+use Rattle.std.proofs.Common.{◌≡◌, ◌⊎◌, ℕ, ◌++◌, ◌∷◌, [], List, refl, arith, length-append, sym, subst, inl, inr, Bool, true, false, ◌&&◌, ◌||◌, nat_lt}
 use Rattle.std.specs.Prelude.{◌↔◌, Option, None, Some, if◌then◌else◌, ◌==◌}
 use Rattle.thes_base.specs.declared.data.Resource.{Resource}
 use Rattle.thes_base.specs.declared.data.Link.{Link}
@@ -12,7 +12,7 @@ use Rattle.thes_base.specs.Links.{HeldIn, NoCycle, S27, S46, form_of, is_symmetr
 use Rattle.thes_base.specs.State.{State}
 use Rattle.thes_base.specs.Triples.{Triple, Asserted}
 use Rattle.thes_base.specs.Skos as skos
-use Rattle.thes_base.specs.Changes.{label, next_number, made, concept_resource, label_added, renamed, link_added, dead, merged}
+use Rattle.thes_base.specs.Changes.{label, next_number, made, concept_resource, renamed, link_added, dead, merged}
 use Rattle.thes_base.specs.Refusals.{Setting, unless_scheme, unless_unique, unless_owner, unless_label, unless_relabelled, unless_ends, unless_pair, unless_live_concept, unless_listed, unless_within}
 use Rattle.thes_base.specs.Machine.{next_state, owned, link}
 use Rattle.thes_base.specs.declared.request.Command.{Command}

@@ -1,6 +1,6 @@
 -- A part of a row, judged alone, carries into the row: where it refuses, the row refuses with that name whatever
 -- its rest is; and where it refuses nothing, the row says what its rest says, and no more.
-use Rattle.std.proofs.Common.{◌≡◌, ◌≢◌, ◌⊎◌, ℕ, inl, inr, refl}
+use Rattle.std.proofs.Common.{ℕ, inl, inr, refl}
 use Rattle.std.specs.Prelude.{Option, None, Some, List}
 use Rattle.std.specs.FinMap as dict
 use Rattle.thes_base.specs.declared.data.Resource.{Resource}
@@ -8,10 +8,10 @@ use Rattle.thes_base.specs.declared.data.Link.{Link}
 use Rattle.thes_base.specs.declared.data.History.{History}
 use Rattle.thes_base.specs.declared.fault.Refusal.{Refusal}
 use Rattle.thes_base.specs.declared.fault.Refusal.TheVariants as no
-use Rattle.thes_base.specs.Rows.{Row, refused_if, refused_unless, refused_for, accepted}
-use Rattle.thes_base.specs.Resources.{Iris, IsScheme}
-use Rattle.thes_base.specs.Labels.{Label, Labels}
-use Rattle.thes_base.specs.Refusals.{unless_unique, unless_known, unless_scheme, unless_foreign, unless_owner, unless_label, unless_dropped, unless_relabelled, unless_ends, unless_live_concept, unless_pair, unless_listed}
+use Rattle.thes_base.specs.Rows.{Row, refused_if, refused_unless, accepted}
+use Rattle.thes_base.specs.Resources.{IsScheme}
+use Rattle.thes_base.specs.Labels.{Labels}
+use Rattle.thes_base.specs.Refusals.{unless_unique, unless_known, unless_scheme, unless_owner, unless_relabelled, unless_ends, unless_live_concept, unless_pair, unless_listed}
 
 -- a part of a row, as what it makes of the row's rest
 pub record IsPart (part : Row → Row) : Type 1 where
@@ -64,26 +64,6 @@ then_unless condition name part is = record { stops = stops; passes = passes; op
     past rest answer (inr (holds, part_passes)) (inl (holds_not, e)) = absurd (holds_not holds)
     past rest answer (inr (holds, part_passes)) (inr (_, says)) = is.past rest answer part_passes says
 
-then_for : (sentence : ℕ → Type 0) (name : ℕ → Refusal) (part : Row → Row) → IsPart part → IsPart (λ rest. refused_for sentence name (part rest))
-then_for sentence name part is = record { stops = stops; passes = passes; opens = opens; past = past }
-  where
-    stops : (rest : Row) (other : Refusal) → refused_for sentence name (part accepted) (Some other) → refused_for sentence name (part rest) (Some other)
-    stops rest other (inl found) = inl found
-    stops rest other (inr (holds_not, says)) = inr (holds_not, is.stops rest other says)
-
-    passes : (rest : Row) (answer : Option Refusal) → refused_for sentence name (part accepted) None → rest answer → refused_for sentence name (part rest) answer
-    passes rest answer (inl (n, holds, e)) says = absurd (cc)
-    passes rest answer (inr (holds_not, part_passes)) says = inr (holds_not, is.passes rest answer part_passes says)
-
-    opens : (rest : Row) → refused_for sentence name (part rest) None → refused_for sentence name (part accepted) None × rest None
-    opens rest (inl (n, holds, e)) = absurd (cc)
-    opens rest (inr (holds_not, says)) = let o = is.opens rest says in (inr (holds_not, o.0), o.1)
-
-    past : (rest : Row) (answer : Option Refusal) → refused_for sentence name (part accepted) None → refused_for sentence name (part rest) answer → rest answer
-    past rest answer (inl (n, holds, e)) says = absurd (cc)
-    past rest answer (inr (holds_not, part_passes)) (inl (n, holds, e)) = absurd (holds_not n holds)
-    past rest answer (inr (holds_not, part_passes)) (inr (_, says)) = is.past rest answer part_passes says
-
 -- The parts of the rows.
 
 pub unique_part : (resources : List Resource) (labels : Labels) → IsPart (unless_unique resources labels)
@@ -95,21 +75,8 @@ known_part is_right resources n = then_unless _ _ (λ rest. refused_unless (is_r
 pub scheme_part : (resources : List Resource) (n : ℕ) → IsPart (unless_scheme resources n)
 scheme_part resources n = known_part (IsScheme resources) resources n
 
--- a new concept of the scheme
-pub concept_part : (resources : List Resource) (n : ℕ) (after : List Resource) (labels : Labels) → IsPart (λ rest. unless_scheme resources n (unless_unique after labels rest))
-concept_part resources n after labels = then_unless _ _ _ (then_unless _ _ _ (unique_part after labels))
-
-pub foreign_part : (base : List ℕ) (iris : Iris) (iri : List ℕ) → IsPart (unless_foreign base iris iri)
-foreign_part base iris iri = then_if _ _ (refused_for (λ n. dict.get iris n ≡ Some iri) no.OutsideKnown) (then_for (λ n. dict.get iris n ≡ Some iri) no.OutsideKnown (λ rest. rest) nothing)
-
 pub owner_part : (resources : List Resource) (n : ℕ) → IsPart (unless_owner resources n)
 owner_part resources n = then_unless _ _ _ (then_unless _ _ _ (then_unless _ _ (λ rest. rest) nothing))
-
-pub label_part : (labels : Labels) (resources : List Resource) (after : Labels) (l : Label) → IsPart (unless_label labels resources after l)
-label_part labels resources after l = then_if _ _ _ (then_unless _ _ _ (then_unless _ _ _ (unique_part resources after)))
-
-pub dropped_part : (labels : Labels) (l : Label) → IsPart (unless_dropped labels l)
-dropped_part labels l = then_unless _ _ _ (then_unless _ _ (λ rest. rest) nothing)
 
 pub relabelled_part : (labels : Labels) (resources : List Resource) (after : Labels) (owner : ℕ) (tag : List ℕ) → IsPart (unless_relabelled labels resources after owner tag)
 relabelled_part labels resources after owner tag = then_unless _ _ _ (then_unless _ _ _ (unique_part resources after))

@@ -85,9 +85,6 @@ module _ {K : Type 0} {R : K → K → Ordering} (total : IsTotalOrder R) (exact
   pub union_cases : (s t : FinSet R) (q : K) → contains (union s t) q ≡ true → (contains s q ≡ true) ⊎ (contains t q ≡ true)
   union_cases s t q e = or_cases _ _ (sym (contains-union total s t q) ∙ e)
 
-  pub union_first : (s t : FinSet R) (q : K) → contains s q ≡ true → contains (union s t) q ≡ true
-  union_first s t q e = contains-union total s t q ∙ or_left _ _ e
-
   -- sets with the same members are one
   pub same_members : (s t : FinSet R) → ((q : K) → contains s q ≡ true → contains t q ≡ true) → ((q : K) → contains t q ≡ true → contains s q ≡ true) → s ≡ t
   same_members s t to from = same_set total exact s t (λ q. same_test _ _ (to q) (from q))

@@ -1,5 +1,5 @@
 -- Each request whose texts have their forms leaves each text of the state its form.
-use Rattle.std.proofs.Common.{◌≡◌, ◌⊎◌, ℕ, zero, suc, ◌+◌, length, List, [], ◌∷◌, ◌++◌, refl, sym, ap, ◌∙◌, subst, inl, inr, true}
+use Rattle.std.proofs.Common.{◌≡◌, ◌⊎◌, ℕ, zero, suc, ◌+◌, List, [], ◌∷◌, ◌++◌, refl, sym, subst, inl, inr, true}
 use Rattle.std.specs.Prelude.{Option, None, Some, Bool, count_by}
 use Rattle.std.specs.Ordering.{nat_cmp}
 use Rattle.std.specs.FinSet as set
@@ -14,17 +14,17 @@ use Rattle.thes_base.specs.declared.request.Answer.{Answer}
 use Rattle.thes_base.specs.Forms.{IsBase, IsIri}
 use Rattle.thes_base.specs.Resources.{Iris, numbered, set_numbered}
 use Rattle.thes_base.specs.Labels.{Label, Labels, label_cmp, preferred_in, is_name}
-use Rattle.thes_base.specs.Postings.{move_count, withdraw, moved, moved_those}
+use Rattle.thes_base.specs.Postings.{withdraw, moved_those}
 use Rattle.thes_base.specs.State.{State, empty_state}
-use Rattle.thes_base.specs.Texts.{IsLabelText, IsLabelForm, IsPostingForm, HasForms, HaveForms}
-use Rattle.thes_base.specs.Changes.{label, next_number, renamed, taken_kind, taken_labels, histories_withdrawn}
+use Rattle.thes_base.specs.Texts.{IsLabelForm, IsPostingForm, HasForms, HaveForms}
+use Rattle.thes_base.specs.Changes.{label, next_number, renamed, taken_kind, taken_labels}
 use Rattle.thes_base.specs.Refusals.{Setting}
 use Rattle.thes_base.specs.Machine.{Step, next_state, owned}
 use Rattle.thes_base.proofs.NumberedLemmas.{numbered_bound, push_cases, set_cases}
 use Rattle.thes_base.proofs.MoveLemmas.{Moved, numbered_moved}
 use Rattle.thes_base.proofs.LabelSets.{inserted_cases, removed_cases}
 use Rattle.thes_base.proofs.Renamed.{renamed_cases}
-use Rattle.thes_base.proofs.MergedLabels.{union_cases, given}
+use Rattle.thes_base.proofs.MergedLabels.{union_cases}
 use Rattle.thes_base.proofs.PreferredLemmas.{preferred_found}
 use Rattle.thes_base.proofs.ResourcesKept.{iri_cases}
 

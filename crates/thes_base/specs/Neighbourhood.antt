@@ -24,10 +24,10 @@ links_after is_outside (Merge source target) links = contracted is_outside sourc
 links_after is_outside (Check pivot) links = links
 
 -- the links held before, and the new one
-abbrev pub IsGiven : Edit → Links → Link → Type 0
-IsGiven (Add new) links l = (l ≡ new) ⊎ HeldIn links l
-IsGiven (Merge source target) links l = HeldIn links l
-IsGiven (Check pivot) links l = HeldIn links l
+abbrev pub IsHeldOrNew : Edit → Links → Link → Type 0
+IsHeldOrNew (Add new) links l = (l ≡ new) ⊎ HeldIn links l
+IsHeldOrNew (Merge source target) links l = HeldIn links l
+IsHeldOrNew (Check pivot) links l = HeldIn links l
 
 module _ (is_outside : ℕ → Bool) (edit : Edit) (links : Links) where
   abbrev Would : Link → Type 0
@@ -39,7 +39,7 @@ module _ (is_outside : ℕ → Bool) (edit : Edit) (links : Links) where
 
   -- the link was held before, or is the new one, and has an end near an edited node
   abbrev pub IsNeighbouring : Link → Type 0
-  IsNeighbouring l = IsGiven edit links l × ((n : ℕ) × (m : ℕ) × IsEdited edit n × IsNear n m × HasEnd m l)
+  IsNeighbouring l = IsHeldOrNew edit links l × ((n : ℕ) × (m : ℕ) × IsEdited edit n × IsNear n m × HasEnd m l)
 
   -- Each link of the neighbourhood is one of these. The shortest such list is the neighbourhood itself, each link once, so
   -- that a bound by the length of every such list is one by the number of links in the neighbourhood.

@@ -204,7 +204,8 @@ fn is_tag(text: &str) -> bool
 
 // Parts with a hyphen between two.
 fn are_parts(text: &str) -> bool
-    ensures { IsTrue result ↔ All (IsPart IsAsciiAlphanumeric) (slice_split (λ b. b == 45) text.now) }
+    ensures { IsTrue result ↔
+        All (IsPart IsAsciiAlphanumeric) (slice_split (λ b. b == 45) text.now) }
 {
     text.split('-').all(is_part)
 }

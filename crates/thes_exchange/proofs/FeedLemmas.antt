@@ -5,8 +5,8 @@ use Rattle.std.proofs.lemmas.Bool.{false_from_ne_true}
 use Rattle.std.proofs.lemmas.List.{get_or-take, length-take, length-take-le, take-append-drop, drop-drop, drop-take}
 use Rattle.memchr.specs.Find.{IsFirstByte, Passes, is_byte}
 use Rattle.std.proofs.KnownBytes.{Consumes-trans}
-use Rattle.std.specs.Io.KnownBytes.{Consumes, Keeps, prepend_known}
-use Rattle.thes_exchange.specs.Feed.{has_newline, TakesRun, TakesPart}
+use Rattle.std.specs.Io.KnownBytes.{Consumes, prepend_known}
+use Rattle.thes_exchange.specs.Feed.{has_newline, TakesRun}
 use Rattle.thes_exchange.specs.declared.feed.Run.{Run}
 
 has_newline-append : (raw run : List ℕ) → has_newline raw ≡ false → has_newline run ≡ false → has_newline (raw ++ run) ≡ false
@@ -73,17 +73,3 @@ front_run old unread held rest line line' kept run taken front taking =
     let consumes = subst (λ (t : List ℕ). Consumes (prepend_known t unread) (prepend_known rest unread) bytes) parts (consumes_held bytes rest unread) in
     let more = front_more old (prepend_known held unread) (prepend_known rest unread) line line' bytes kept run.kept taken front consumes taking.one taking.added in
     subst (λ (n : ℕ). TakesFront old (prepend_known rest unread) line' run.kept (taken + n)) (length-take-le run.count held taking.within) more
-
-part_bytes : (old mid new : Option (List ℕ)) (raw : List ℕ) → Consumes old mid raw → Keeps mid (prepend_known [] new) → Consumes old new raw
-part_bytes None mid new raw f k = tt
-part_bytes (Some xs) None new raw f k = absurd f
-part_bytes (Some xs) (Some m) None raw f k = absurd k
-part_bytes (Some xs) (Some m) (Some n) raw f k = f ∙ ap (λ t. raw ++ t) (sym k)
-
--- nothing is held, and the reader gives no more
-pub front_part : (old mid new : Option (List ℕ)) (line rest : List ℕ) (held : Bool) (taken : ℕ) → TakesFront old mid line held taken → Keeps mid (prepend_known rest new) → rest ≡ [] → TakesPart old new
-front_part old mid new line rest held taken f k e = record {
-  raw = f.raw;
-  bytes = part_bytes old mid new f.raw f.bytes (subst (λ (r : List ℕ). Keeps mid (prepend_known r new)) e k);
-  one = f.one;
-}

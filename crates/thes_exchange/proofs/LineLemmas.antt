@@ -2,7 +2,7 @@
 use Rattle.std.proofs.Common.{◌≡◌, ◌≢◌, inl, inr, ◌∙◌, sym, ap, refl, ℕ, List, [], ◌∷◌, ◌++◌, ◌==◌, map, append_assoc, append-nil, Bool, true, false, cond, rules}
 use Rattle.std.specs.List.{slice_split, onto_first}
 use Rattle.std.specs.Str.Lines.{lines, lines_of_parts, strip_carriage_return}
-use Rattle.thes_exchange.specs.Feed.{has_newline, line_bytes, line_text}
+use Rattle.thes_exchange.specs.Feed.{has_newline, line_bytes, line_content}
 use Rattle.thes_exchange.specs.Script.{EndsLine, whole_lines, whole_lines_of}
 
 abbrev at_newline : ℕ → Bool
@@ -51,7 +51,7 @@ whole_last [] h n = absurd (n refl)
 whole_last (x ∷ raw) h n = let some : whole_lines_of ((x ∷ raw) ∷ []) ≡ (x ∷ raw) ∷ [] = search rules in rw (split_last (x ∷ raw) h) some
 
 -- the bytes of a line, whether or not the input ends with it
-line_lines : (raw : List ℕ) (ended : Bool) → has_newline raw ≡ false → (ended ≡ true → raw ≢ []) → lines (line_bytes raw ended) ≡ line_text raw ended ∷ []
+line_lines : (raw : List ℕ) (ended : Bool) → has_newline raw ≡ false → (ended ≡ true → raw ≢ []) → lines (line_bytes raw ended) ≡ line_content raw ended ∷ []
 line_lines raw true h some = lines_last raw h (some refl)
 line_lines raw false h some = lines_line raw [] h
 
@@ -97,7 +97,7 @@ whole_lines-append xs ys (inl none) = rw none refl
 whole_lines-append xs ys (inr (front, e)) = rw (e, append_assoc front (10 ∷ []) ys, whole_front front ys, whole_front front [], append-nil (slice_split at_newline front)) refl
 
 -- a line after bytes that end a line
-pub lines-more : (xs raw : List ℕ) (ended : Bool) → EndsLine xs → has_newline raw ≡ false → (ended ≡ true → raw ≢ []) → lines (xs ++ line_bytes raw ended) ≡ lines xs ++ line_text raw ended ∷ []
+pub lines-more : (xs raw : List ℕ) (ended : Bool) → EndsLine xs → has_newline raw ≡ false → (ended ≡ true → raw ≢ []) → lines (xs ++ line_bytes raw ended) ≡ lines xs ++ line_content raw ended ∷ []
 lines-more xs raw ended e h some = lines-append xs (line_bytes raw ended) e ∙ ap (λ t. lines xs ++ t) (line_lines raw ended h some)
 
 pub whole_lines-more : (xs raw : List ℕ) (ended : Bool) → EndsLine xs → has_newline raw ≡ false → (ended ≡ true → raw ≢ []) → whole_lines (xs ++ line_bytes raw ended) ≡ whole_lines xs ++ raw ∷ []

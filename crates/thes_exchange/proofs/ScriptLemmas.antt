@@ -5,7 +5,7 @@ use Rattle.std.proofs.lemmas.Grind.{flat_map-append, fold-append}
 use Rattle.std.proofs.lemmas.List.Elements.{All-push, All-nil, All-head, All-tail}
 use Rattle.std.specs.List.{All}
 use Rattle.std.specs.Str.Lines.{lines}
-use Rattle.std.specs.Io.KnownBytes.{Appends, Consumes, IsAtEnd, prepend_known}
+use Rattle.std.specs.Io.KnownBytes.{Consumes, IsAtEnd, prepend_known}
 use Rattle.thes_base.specs.Pipe.{failed_of, ended_of, denied_of, unread, written, reading_fault}
 use Rattle.thes_base.specs.declared.fault.Fault.TheVariants.{OutOfMemory}
 use Rattle.thes_base.specs.declared.pipe.Stop.{Stop}
@@ -14,7 +14,7 @@ use Rattle.thes_base.specs.declared.fault.PipeFault.{PipeFault}
 use Rattle.thes_base.specs.declared.fault.PipeFault.TheVariants.{Read, Write, TooLong, Fault}
 use Rattle.thes_base.specs.declared.pipe.Pipe.{Pipe}
 use Rattle.thes_base.proofs.PipeLemmas.{appends_front_then}
-use Rattle.thes_exchange.specs.Feed.{left, line_bytes, line_text, line_limit, TakesLine, TakesPart, IsTooLong, FindsEnd}
+use Rattle.thes_exchange.specs.Feed.{left, line_bytes, line_content, line_limit, TakesLine, TakesPart, IsTooLong, FindsEnd}
 use Rattle.thes_exchange.specs.Serving.{Serving}
 use Rattle.thes_exchange.specs.Script.{Fate, StepLine, RunLines, AreAllowed, lines_limit, EndsLine, whole_lines, ServesLines, outcome_of, text_told, script_text, noted, ended_with, nothing_noted, Scene, scene, IsBeyond, IsCause, Completes, Stops}
 use Rattle.thes_exchange.specs.Served.{ServesLine, StopsAfter, StopsAtLine, Served}
@@ -47,11 +47,11 @@ some_last : {old new : Option (List ℕ)} {raw : List ℕ} {e : Bool} → TakesL
 some_last k ended = let l = k.last ended in l.0
 
 lines_served : {S : Type 0} {serves : Serving S} {bytes : List ℕ} {fates : List Fate} {old mid new : S} {before after : Option (List ℕ)} {raw : List ℕ} {e : Bool} (fate : Fate)
-    → ServesLines serves bytes fates old mid → EndsLine bytes → length (whole_lines bytes) < lines_limit → TakesLine before after raw e → StepLine serves mid (line_text raw e) fate new
+    → ServesLines serves bytes fates old mid → EndsLine bytes → length (whole_lines bytes) < lines_limit → TakesLine before after raw e → StepLine serves mid (line_content raw e) fate new
     → ServesLines serves (bytes ++ line_bytes raw e) (fates ++ fate ∷ []) old new
 lines_served {S} {serves} {bytes} {fates} {old} {mid} {new} {before} {after} {raw} {e} fate s whole few k step = record {
   allowed = rw (whole_lines-more bytes raw e whole k.one (some_last k)) (allowed_more (whole_lines bytes) raw s.allowed few k.short);
-  run = rw (lines-more bytes raw e whole k.one (some_last k)) (run_more serves old (lines bytes) fates mid new (line_text raw e) fate s.run step);
+  run = rw (lines-more bytes raw e whole k.one (some_last k)) (run_more serves old (lines bytes) fates mid new (line_content raw e) fate s.run step);
 }
 
 -- Before the first line.
@@ -99,7 +99,7 @@ module _ {R W S : Type 0} (remaining : R → Option (List ℕ)) (contents : W �
       (s : Served remaining contents serves old (scene reader writer desk) held count ended) where
     -- one more line was answered
     pub served_more : (reader' : Pipe R) (writer' : Pipe W) (desk' : S) (held' : List ℕ) (ended' : Ended) (raw : List ℕ) → ended_of reader ≡ false → count < lines_limit → TakesLine (left remaining held reader) (left remaining held' reader') raw (ended_of reader')
-        → ServesLine contents serves is_open (line_text raw (ended_of reader')) desk desk' writer writer' ended ended'
+        → ServesLine contents serves is_open (line_content raw (ended_of reader')) desk desk' writer writer' ended ended'
         → Served remaining contents serves old (scene reader' writer' desk') held' (count + 1) ended'
     served_more reader' writer' desk' held' ended' raw goes few k v = let whole = s.whole goes in let c = s.so_many in let line = line_bytes raw (ended_of reader') in record {
       bytes = s.bytes ++ line;
@@ -152,7 +152,7 @@ module _ {R W S : Type 0} (remaining : R → Option (List ℕ)) (contents : W �
 
     -- it stopped at a line
     pub served_cut : (reader' : Pipe R) (writer' : Pipe W) (desk' : S) (held' : List ℕ) (fault : PipeFault) (raw : List ℕ) → ended_of reader ≡ false → count < lines_limit → TakesLine (left remaining held reader) (left remaining held' reader') raw (ended_of reader')
-        → failed_of reader' ≡ false → StopsAtLine contents serves is_open (line_text raw (ended_of reader')) desk desk' writer writer' fault
+        → failed_of reader' ≡ false → StopsAtLine contents serves is_open (line_content raw (ended_of reader')) desk desk' writer writer' fault
         → Stops remaining contents serves is_open old (scene reader' writer' desk') fault
     served_cut reader' writer' desk' held' fault raw goes few k fine v =
         let whole = s.whole goes in let c = s.so_many in let line = line_bytes raw (ended_of reader') in record {
@@ -172,20 +172,20 @@ module _ {R W S : Type 0} (remaining : R → Option (List ℕ)) (contents : W �
         by_end true f g = inr (g refl, refl)
         by_end false f g = inl (f refl)
 
-        after : (fault : PipeFault) → StopsAfter contents serves is_open (line_text raw (ended_of reader')) desk desk' writer writer' fault (text_told (outcome_of v.fate))
+        after : (fault : PipeFault) → StopsAfter contents serves is_open (line_content raw (ended_of reader')) desk desk' writer writer' fault (text_told (outcome_of v.fate))
             → IsCause remaining contents serves is_open old (scene reader' writer' desk') fault (s.bytes ++ line_bytes raw (ended_of reader')) (left remaining held' reader') (script_text s.fates ++ text_told (outcome_of v.fate))
         after Read h = absurd h
         after Write h = appends_front_then (written contents old.writer) (written contents writer) (written contents writer') (script_text s.fates) (text_told (outcome_of v.fate)) s.text h.0
         after TooLong h = inl (appends_front_then (written contents old.writer) (written contents writer) (written contents writer') (script_text s.fates) (text_told (outcome_of v.fate)) s.text h.0, h.2)
         after (Fault f) h = (Appends-trans (written contents old.writer) (written contents writer) (written contents writer') (script_text s.fates) (text_told (outcome_of v.fate)) s.text h.0, h.2, inr h.3)
 
-        never_read : (fault : PipeFault) → StopsAfter contents serves is_open (line_text raw (ended_of reader')) desk desk' writer writer' fault (text_told (outcome_of v.fate)) → (fault ≡ Read) ↔ (failed_of reader' ≡ true)
+        never_read : (fault : PipeFault) → StopsAfter contents serves is_open (line_content raw (ended_of reader')) desk desk' writer writer' fault (text_told (outcome_of v.fate)) → (fault ≡ Read) ↔ (failed_of reader' ≡ true)
         never_read Read h = absurd h
         never_read Write h = (λ e. cc, λ e. let f = fine in cc)
         never_read TooLong h = (λ e. cc, λ e. let f = fine in cc)
         never_read (Fault g) h = (λ e. cc, λ e. let f = fine in cc)
 
-        wrote_only : (fault : PipeFault) → StopsAfter contents serves is_open (line_text raw (ended_of reader')) desk desk' writer writer' fault (text_told (outcome_of v.fate)) → (fault ≡ Write) ↔ (failed_of writer' ≡ true)
+        wrote_only : (fault : PipeFault) → StopsAfter contents serves is_open (line_content raw (ended_of reader')) desk desk' writer writer' fault (text_told (outcome_of v.fate)) → (fault ≡ Write) ↔ (failed_of writer' ≡ true)
         wrote_only Read h = absurd h
         wrote_only Write h = (λ e. h.1, λ e. refl)
         wrote_only TooLong h = (λ e. cc, λ e. let f = h.1 in cc)

@@ -6,7 +6,7 @@ use Rattle.thes_base.specs.declared.data.History.{History}
 use Rattle.thes_base.specs.declared.data.Move.{Move}
 use Rattle.thes_base.specs.Postings.{led}
 use Rattle.thes_base.specs.Views.{ConceptShown}
-use Rattle.thes_exchange.specs.ConceptMembers.{with_labels, with_links, with_facts}
+use Rattle.thes_exchange.specs.ConceptMembers.{labels_put, links_put, facts_put}
 use Rattle.thes_exchange.specs.ViewTexts.{num, number_or_null, listed, tagged_data, mapping_data, typed_data, move_data, row_data, concept_data, postings_data, posting_data}
 
 list_has_none : {A : Type 0} (show : A → Data) → ((x : A) → has_float (show x) ≡ false) → (xs : List A) → has_float (listed show xs) ≡ false
@@ -42,9 +42,9 @@ pub posting_has_no_float : (h : History) → has_float (posting_data h) ≡ fals
 posting_has_no_float h = rw (list_has_none move_data (λ m. refl) h.moves) refl
 
 -- the members of a concept's view, put in group by group
-pub concept_members : (c : ConceptShown) (empty labels links facts : Members) → empty ≡ no_members → labels ≡ with_labels c empty → links ≡ with_links c labels → facts ≡ with_facts c links
+pub concept_members : (c : ConceptShown) (empty labels links facts : Members) → empty ≡ no_members → labels ≡ labels_put c empty → links ≡ links_put c labels → facts ≡ facts_put c links
     → object facts ≡ concept_data c
-unfolding concept_data with_labels with_links with_facts
+unfolding concept_data labels_put links_put facts_put
 concept_members c empty labels links facts e f g h = rw (h, g, f, e) refl
 
 pub led_last : (from : ℕ) (moves : List Move) (m : Move) → slice_get moves (length moves - 1) ≡ Some m → led from moves ≡ m.target

@@ -21,8 +21,8 @@ abbrev pub line_bytes : List ℕ → Bool → List ℕ
 line_bytes raw ended = if ended then raw else raw ++ 10 ∷ []
 
 -- what stands on a line: the carriage return before a newline is no part of it
-abbrev pub line_text : List ℕ → Bool → List ℕ
-line_text raw ended = if ended then raw else strip_carriage_return raw
+abbrev pub line_content : List ℕ → Bool → List ℕ
+line_content raw ended = if ended then raw else strip_carriage_return raw
 
 -- the most bytes of a line, its carriage return among them
 abbrev pub line_limit : ℕ
@@ -66,7 +66,7 @@ pub record TakesRun (old new line line' : List ℕ) (kept : Bool) (run : Run) : 
 -- a line, whose text is held unless there was no memory for it
 abbrev pub FindsLine : Found → List ℕ → Option (List ℕ) → Option (List ℕ) → Bool → Type 0
 FindsLine found held old new ended =
-    (raw : List ℕ) × TakesLine old new raw ended × (found ≡ Line → line_text raw ended ≡ held)
+    (raw : List ℕ) × TakesLine old new raw ended × (found ≡ Line → line_content raw ended ≡ held)
 
 -- the end of the input
 abbrev pub FindsEnd : Option (List ℕ) → Option (List ℕ) → Bool → Type 0

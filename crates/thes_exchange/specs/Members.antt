@@ -10,8 +10,8 @@ has_count n None = false
 has_count n (Some ms) = members_len ms == n
 
 -- an object with just so many members
-abbrev pub members_of : ℕ → Data → Option ⊤
-members_of n d = if has_count n (as_object d) then Some tt else None
+abbrev pub counted_members : ℕ → Data → Option ⊤
+counted_members n d = if has_count n (as_object d) then Some tt else None
 
 abbrev pub number_in : List ℕ → Data → Option Num
 number_in name d = option_and_then as_number (get name d)

@@ -12,16 +12,16 @@ pub data Reading (A : Type 0) : Type 1 where
   unless : (rule : Type 0) → FormFault → Reading A → Reading A
 
 -- the reading has this outcome
-abbrev pub Reaches : {A : Type 0} → Reading A → Result A FormFault → Type 0
-Reaches (reads x) outcome = outcome ≡ Ok x
-Reaches (fails f) outcome = outcome ≡ Err f
-Reaches (unless rule f rest) outcome =
-    ((¬ rule) × (outcome ≡ Err f)) ⊎ (rule × Reaches rest outcome)
+abbrev pub ReadsAs : {A : Type 0} → Reading A → Result A FormFault → Type 0
+ReadsAs (reads x) outcome = outcome ≡ Ok x
+ReadsAs (fails f) outcome = outcome ≡ Err f
+ReadsAs (unless rule f rest) outcome =
+    ((¬ rule) × (outcome ≡ Err f)) ⊎ (rule × ReadsAs rest outcome)
 
 -- A call that may run out of memory answers with what the reading reaches.
 pub record Gives {A : Type 0} (reading : Reading A) (result : Result A ReadStop) : Type 0 where
-  pub value : (x : A) → result ≡ Ok x → Reaches reading (Ok x)
-  pub fault : (f : FormFault) → result ≡ Err (Form f) → Reaches reading (Err f)
+  pub value : (x : A) → result ≡ Ok x → ReadsAs reading (Ok x)
+  pub fault : (f : FormFault) → result ≡ Err (Form f) → ReadsAs reading (Err f)
 
 -- one reading, and then another of its value
 infixl 10 ◌>>=◌

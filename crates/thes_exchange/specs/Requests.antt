@@ -17,7 +17,7 @@ use Rattle.thes_base.specs.declared.fault.FormFault.TheVariants as bad
 use Rattle.thes_base.specs.declared.request.Command.{Command}
 use Rattle.thes_base.specs.declared.request.Command.TheVariants as request
 use Rattle.thes_exchange.specs.Readings.{Reading, reads, fails, ◌>>=◌, shaped, formed}
-use Rattle.thes_exchange.specs.Members.{members_of, number_in, text_in, truth_in, numbers_in}
+use Rattle.thes_exchange.specs.Members.{counted_members, number_in, text_in, truth_in, numbers_in}
 use Rattle.thes_exchange.specs.Words.{label_kind_named, link_kind_named, verb_named, noun_named}
 use Rattle.thes_exchange.specs.declared.words.Verb.{Verb}
 use Rattle.thes_exchange.specs.declared.words.Verb.TheVariants as does
@@ -104,12 +104,12 @@ some_postings = record { found = numbers_in (codes "postings"); form = numbers_f
 
 unfoldable pub line0 : {C : Type 0} → C → Data → Reading C
 line0 makes d = do
-  _ ← shaped (members_of 1 d)
+  _ ← shaped (counted_members 1 d)
   reads makes
 
 unfoldable pub line1 : {X A C : Type 0} → (A → C) → Member X A → Data → Reading C
 line1 makes m d = do
-  _ ← shaped (members_of 2 d)
+  _ ← shaped (counted_members 2 d)
   x ← shaped (m.found d)
   a ← m.form x
   reads (makes a)
@@ -117,7 +117,7 @@ line1 makes m d = do
 unfoldable pub line2 : {X A Y B C : Type 0}
     → (A → B → C) → Member X A → Member Y B → Data → Reading C
 line2 makes m n d = do
-  _ ← shaped (members_of 3 d)
+  _ ← shaped (counted_members 3 d)
   x ← shaped (m.found d)
   y ← shaped (n.found d)
   a ← m.form x
@@ -127,7 +127,7 @@ line2 makes m n d = do
 unfoldable pub line3 : {X A Y B Z D C : Type 0}
     → (A → B → D → C) → Member X A → Member Y B → Member Z D → Data → Reading C
 line3 makes m n o d = do
-  _ ← shaped (members_of 4 d)
+  _ ← shaped (counted_members 4 d)
   x ← shaped (m.found d)
   y ← shaped (n.found d)
   z ← shaped (o.found d)
@@ -139,7 +139,7 @@ line3 makes m n o d = do
 unfoldable pub line4 : {X A Y B Z D U E C : Type 0}
     → (A → B → D → E → C) → Member X A → Member Y B → Member Z D → Member U E → Data → Reading C
 line4 makes m n o p d = do
-  _ ← shaped (members_of 5 d)
+  _ ← shaped (counted_members 5 d)
   x ← shaped (m.found d)
   y ← shaped (n.found d)
   z ← shaped (o.found d)
@@ -155,7 +155,7 @@ line4 makes m n o p d = do
 -- a label with its owner: the form of its text is that of its kind
 unfoldable pub label_line : Data → Reading (ℕ × LabelData)
 label_line d = do
-  _ ← shaped (members_of 5 d)
+  _ ← shaped (counted_members 5 d)
   owner ← shaped (number_in (codes "owner") d)
   kind ← shaped (option_and_then label_kind_named (text_in (codes "kind") d))
   tag ← shaped (text_in (codes "tag") d)
@@ -176,39 +176,39 @@ made_of makes line = do
   reads (makes x)
 
 -- The table: what stands at `do`, and the other members in the order in which their forms are looked at.
-abbrev pub command_of : Verb → Data → Reading Command
-command_of does.Scheme d = line2 request.Scheme a_tag a_text d
-command_of does.Concept d = line3 request.Concept (number_at (codes "scheme")) a_tag a_text d
-command_of does.Collection d = line3 request.Collection (number_at (codes "scheme")) a_tag a_text d
-command_of does.Outside d = line1 request.Outside an_iri d
-command_of does.AddLabel d = made_of (λ l. request.AddLabel l.0 l.1) (label_line d)
-command_of does.DropLabel d = made_of (λ l. request.DropLabel l.0 l.1) (label_line d)
-command_of does.Relabel d = line4 request.Relabel (number_at (codes "owner")) a_tag a_text a_keep d
-command_of does.Link d = made_of (λ l. request.Link l.kind l.a l.b) (link_line d)
-command_of does.Unlink d = made_of (λ l. request.Unlink l.kind l.a l.b) (link_line d)
-command_of does.Deprecate d = line1 request.Deprecate (number_at (codes "concept")) d
-command_of does.Merge d =
+abbrev pub command_in : Verb → Data → Reading Command
+command_in does.Scheme d = line2 request.Scheme a_tag a_text d
+command_in does.Concept d = line3 request.Concept (number_at (codes "scheme")) a_tag a_text d
+command_in does.Collection d = line3 request.Collection (number_at (codes "scheme")) a_tag a_text d
+command_in does.Outside d = line1 request.Outside an_iri d
+command_in does.AddLabel d = made_of (λ l. request.AddLabel l.0 l.1) (label_line d)
+command_in does.DropLabel d = made_of (λ l. request.DropLabel l.0 l.1) (label_line d)
+command_in does.Relabel d = line4 request.Relabel (number_at (codes "owner")) a_tag a_text a_keep d
+command_in does.Link d = made_of (λ l. request.Link l.kind l.a l.b) (link_line d)
+command_in does.Unlink d = made_of (λ l. request.Unlink l.kind l.a l.b) (link_line d)
+command_in does.Deprecate d = line1 request.Deprecate (number_at (codes "concept")) d
+command_in does.Merge d =
     line2 request.Merge (number_at (codes "source")) (number_at (codes "target")) d
-command_of does.Split d =
+command_in does.Split d =
     line4 request.Split (number_at (codes "source")) a_tag a_text some_postings d
-command_of does.Post d = line3 request.Post a_key a_record (number_at (codes "concept")) d
-command_of does.Withdraw d = line1 request.Withdraw (number_at (codes "posting")) d
+command_in does.Post d = line3 request.Post a_key a_record (number_at (codes "concept")) d
+command_in does.Withdraw d = line1 request.Withdraw (number_at (codes "posting")) d
 
 -- and what stands at `get`
-abbrev pub query_of : Noun → Data → Reading Query
-query_of gets.Totals d = line0 asked.Totals d
-query_of gets.Concept d = line1 asked.Concept (number_at (codes "number")) d
-query_of gets.Postings d = line1 asked.Postings (number_at (codes "concept")) d
-query_of gets.Posting d = line1 asked.Posting (number_at (codes "number")) d
+abbrev pub query_in : Noun → Data → Reading Query
+query_in gets.Totals d = line0 asked.Totals d
+query_in gets.Concept d = line1 asked.Concept (number_at (codes "number")) d
+query_in gets.Postings d = line1 asked.Postings (number_at (codes "concept")) d
+query_in gets.Posting d = line1 asked.Posting (number_at (codes "number")) d
 
 -- Where there is `do`, `get` would be a member too many.
 abbrev pub by_words : Option Data → Option Data → Data → Reading Request
 by_words (Some word) _ d = do
   verb ← shaped (option_and_then verb_named (as_str word))
-  made_of Do (command_of verb d)
+  made_of Do (command_in verb d)
 by_words None (Some word) d = do
   noun ← shaped (option_and_then noun_named (as_str word))
-  made_of Get (query_of noun d)
+  made_of Get (query_in noun d)
 by_words None None d = fails bad.BadShape
 
 unfoldable pub request_in : Data → Reading Request

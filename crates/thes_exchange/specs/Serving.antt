@@ -14,7 +14,7 @@ use Rattle.thes_exchange.specs.declared.request.Request.TheVariants.{Do, Get}
 use Rattle.thes_exchange.specs.declared.serve.Outcome.{Outcome}
 use Rattle.thes_exchange.specs.declared.serve.Outcome.TheVariants.{Told, Shown}
 use Rattle.thes_exchange.specs.AnswerTexts.{reply_text}
-use Rattle.thes_exchange.specs.Readings.{Reaches}
+use Rattle.thes_exchange.specs.Readings.{ReadsAs}
 use Rattle.thes_exchange.specs.Requests.{request_of}
 
 -- what a desk does with a request: its state before, the request, the answer, its state after
@@ -34,10 +34,10 @@ Serving S = S → List ℕ → Outcome → S → Type 0
 
 -- the line asks for this to be done, or to be shown
 abbrev pub AsksToDo : List ℕ → Command → Type 0
-AsksToDo line command = Reaches (request_of line) (Ok (Do command))
+AsksToDo line command = ReadsAs (request_of line) (Ok (Do command))
 
 abbrev pub AsksToSee : List ℕ → Query → Type 0
-AsksToSee line query = Reaches (request_of line) (Ok (Get query))
+AsksToSee line query = ReadsAs (request_of line) (Ok (Get query))
 
 abbrev pub Serves : {S : Type 0} → Performing S → Showing S → Serving S
 Serves performs shows old line (Told (reply.Answer a)) new =
@@ -45,7 +45,7 @@ Serves performs shows old line (Told (reply.Answer a)) new =
     ⊎ ((query : Query) × (r : Refusal) × AsksToSee line query
     × shows old query (Ok (view.No r)) new × (a ≡ answer.No r))
 Serves performs shows old line (Told (reply.Bad f)) new =
-    Reaches (request_of line) (Err f) × (new ≡ old)
+    ReadsAs (request_of line) (Err f) × (new ≡ old)
 Serves performs shows old line (Told (reply.Fault f)) new =
     ((f ≡ OutOfMemory) × (new ≡ old))
     ⊎ (((command : Command) × AsksToDo line command × performs old command (Err f) new)

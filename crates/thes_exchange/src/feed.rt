@@ -26,7 +26,8 @@ impl Model for Feed {
 
     ghost view = { λ f. take (f.filled - f.at) (drop f.at f.buffer.items) };
 
-    ghost invariant = { λ f. (f.at ≤ f.filled) × (f.filled ≤ vec_len f.buffer) × (0 < vec_len f.buffer) };
+    ghost invariant = { λ f. (f.at ≤ f.filled) × (f.filled ≤ vec_len f.buffer)
+        × (0 < vec_len f.buffer) };
 }
 
 /// What was found where a line was looked for.
@@ -70,7 +71,8 @@ impl Feed {
     ) -> Result<Option<u8>, Stop>
         requires { IsFresh reader.old }
         ensures byte { IfOk result (λ found. TakesByte found
-            (left R.remaining self.old reader.old) (left R.remaining self.new reader.new) (ended_of reader.new)) }
+            (left R.remaining self.old reader.old) (left R.remaining self.new reader.new)
+            (ended_of reader.new)) }
         ensures err { OnErr result (Keeps (left R.remaining self.old reader.old)
             (left R.remaining self.new reader.new)
             × (ended_of reader.new ≡ false)) }
@@ -94,9 +96,11 @@ impl Feed {
     ) -> Result<Found, Stop>
         requires { IsFresh reader.old }
         ensures line { IfOk result (λ found. found ≢ Found.End → FindsLine found line.new.items
-            (left R.remaining self.old reader.old) (left R.remaining self.new reader.new) (ended_of reader.new)) }
+            (left R.remaining self.old reader.old) (left R.remaining self.new reader.new)
+            (ended_of reader.new)) }
         ensures end { IfOk result (λ found. found ≡ Found.End → FindsEnd
-            (left R.remaining self.old reader.old) (left R.remaining self.new reader.new) (ended_of reader.new)) }
+            (left R.remaining self.old reader.old) (left R.remaining self.new reader.new)
+            (ended_of reader.new)) }
         ensures broken { IsErrOf result Stop.Failed →
             TakesPart (left R.remaining self.old reader.old) (unread R.remaining reader.new) }
         ensures failed { IsErrOf result Stop.Failed ↔ (failed_of reader.new ≡ true) }

@@ -42,9 +42,11 @@ impl Lines {
         requires fresh { IsFresh reader.old }
         requires within { self.old.count ≤ lines_limit }
         ensures line { IfOk result (λ found. found ≢ Found.End → FindsLine found self.new.line.items
-            (left R.remaining self.old.feed reader.old) (left R.remaining self.new.feed reader.new) (ended_of reader.new)) }
+            (left R.remaining self.old.feed reader.old) (left R.remaining self.new.feed reader.new)
+            (ended_of reader.new)) }
         ensures end { IfOk result (λ found. found ≡ Found.End → FindsEnd
-            (left R.remaining self.old.feed reader.old) (left R.remaining self.new.feed reader.new) (ended_of reader.new)) }
+            (left R.remaining self.old.feed reader.old) (left R.remaining self.new.feed reader.new)
+            (ended_of reader.new)) }
         ensures count { IfOk result (λ found. found ≢ Found.End →
             (self.new.count ≡ self.old.count + 1) × (self.new.count ≤ lines_limit)) }
         ensures broken { IsErrOf result Stop.Failed →
@@ -53,7 +55,8 @@ impl Lines {
         ensures too_long { IsErrOf result Stop.TooLong → (denied_of reader.new ≡ true)
             ⊎ (IsTooLong (left R.remaining self.old.feed reader.old)
             ⊎ ((self.old.count ≡ lines_limit) × (raw : List ℕ) × TakesLine
-            (left R.remaining self.old.feed reader.old) (left R.remaining self.new.feed reader.new) raw (ended_of reader.new))) }
+            (left R.remaining self.old.feed reader.old) (left R.remaining self.new.feed reader.new)
+            raw (ended_of reader.new))) }
         ensures denied { denied_of reader.new ≡ true → IsErrOf result Stop.TooLong }
         ensures paid { PaysCalls reader.old reader.new budget.old budget.new }
     {

@@ -4,7 +4,7 @@ ghost use Rattle.serde_json.specs.View.{number_view};
 ghost use Rattle.serde_json.specs.Find.{as_object, as_str};
 ghost use Rattle.thes_exchange.specs.Tree.{view, items_view};
 ghost use Rattle.thes_exchange.specs.Words.{label_kind_named, link_kind_named, verb_named, noun_named};
-ghost use Rattle.thes_exchange.specs.Members.{has_count, members_of, number_in, text_in, truth_in, all_numbers, numbers_in};
+ghost use Rattle.thes_exchange.specs.Members.{has_count, counted_members, number_in, text_in, truth_in, all_numbers, numbers_in};
 
 use crate::tree::Value;
 use crate::words::{Noun, Verb, label_kind_named, link_kind_named, noun_named, verb_named};

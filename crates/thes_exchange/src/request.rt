@@ -7,7 +7,7 @@ ghost use Rattle.thes_base.specs.Texts.{IsLabelText};
 ghost use Rattle.thes_base.specs.declared.fault.FormFault.TheVariants.{BadNumber, BadText, NotJson};
 ghost use Rattle.thes_base.specs.Data.{kind_of, text_of};
 ghost use Rattle.thes_exchange.specs.Readings.{Gives};
-ghost use Rattle.thes_exchange.specs.Requests.{whole, AreNumbers, label_line, link_line, made_of, command_of, query_of, request_in, json_in, request_of};
+ghost use Rattle.thes_exchange.specs.Requests.{whole, AreNumbers, label_line, link_line, made_of, command_in, query_in, request_in, json_in, request_of};
 ghost use Rattle.thes_exchange.specs.Tree.{view};
 ghost use Rattle.thes_exchange.specs.declared.request.Request.TheVariants.{Do, Get};
 
@@ -83,7 +83,7 @@ fn post_nos(alloc: Global, numbers: &[&Number]) -> Result<PostNos, ReadStop>
 // A new scheme.
 #[tactic(auto, unfolding(crate::specs::Requests::line2))]
 fn scheme_in(alloc: Global, value: &Value<'_>) -> Result<Command, ReadStop>
-    ensures { Gives (command_of Verb.Scheme (view value.now)) result }
+    ensures { Gives (command_in Verb.Scheme (view value.now)) result }
 {
     has_members(3, value)?;
     let tag = text_in("tag", value)?;
@@ -94,7 +94,7 @@ fn scheme_in(alloc: Global, value: &Value<'_>) -> Result<Command, ReadStop>
 // A new concept.
 #[tactic(auto, unfolding(crate::specs::Requests::line3))]
 fn concept_in(alloc: Global, value: &Value<'_>) -> Result<Command, ReadStop>
-    ensures { Gives (command_of Verb.Concept (view value.now)) result }
+    ensures { Gives (command_in Verb.Concept (view value.now)) result }
 {
     has_members(4, value)?;
     let scheme = number_in("scheme", value)?;
@@ -110,7 +110,7 @@ fn concept_in(alloc: Global, value: &Value<'_>) -> Result<Command, ReadStop>
 // A new collection.
 #[tactic(auto, unfolding(crate::specs::Requests::line3))]
 fn collection_in(alloc: Global, value: &Value<'_>) -> Result<Command, ReadStop>
-    ensures { Gives (command_of Verb.Collection (view value.now)) result }
+    ensures { Gives (command_in Verb.Collection (view value.now)) result }
 {
     has_members(4, value)?;
     let scheme = number_in("scheme", value)?;
@@ -126,7 +126,7 @@ fn collection_in(alloc: Global, value: &Value<'_>) -> Result<Command, ReadStop>
 // A new outside concept.
 #[tactic(auto, unfolding(crate::specs::Requests::line1))]
 fn outside_in(alloc: Global, value: &Value<'_>) -> Result<Command, ReadStop>
-    ensures { Gives (command_of Verb.Outside (view value.now)) result }
+    ensures { Gives (command_in Verb.Outside (view value.now)) result }
 {
     has_members(2, value)?;
     let iri = text_in("iri", value)?;
@@ -165,7 +165,7 @@ fn label_in(alloc: Global, value: &Value<'_>) -> Result<(ResNo, Label), ReadStop
 // A label to be added.
 #[tactic(auto, using(crate::proofs::ReadingLemmas::stopped), unfolding(crate::specs::Requests::made_of))]
 fn add_label_in(alloc: Global, value: &Value<'_>) -> Result<Command, ReadStop>
-    ensures { Gives (command_of Verb.AddLabel (view value.now)) result }
+    ensures { Gives (command_in Verb.AddLabel (view value.now)) result }
 {
     let (owner, label) = label_in(alloc, value)?;
     Ok(Command::AddLabel(owner, label))
@@ -174,7 +174,7 @@ fn add_label_in(alloc: Global, value: &Value<'_>) -> Result<Command, ReadStop>
 // A label to be dropped.
 #[tactic(auto, using(crate::proofs::ReadingLemmas::stopped), unfolding(crate::specs::Requests::made_of))]
 fn drop_label_in(alloc: Global, value: &Value<'_>) -> Result<Command, ReadStop>
-    ensures { Gives (command_of Verb.DropLabel (view value.now)) result }
+    ensures { Gives (command_in Verb.DropLabel (view value.now)) result }
 {
     let (owner, label) = label_in(alloc, value)?;
     Ok(Command::DropLabel(owner, label))
@@ -183,7 +183,7 @@ fn drop_label_in(alloc: Global, value: &Value<'_>) -> Result<Command, ReadStop>
 // A new preferred label.
 #[tactic(auto, unfolding(crate::specs::Requests::line4))]
 fn relabel_in(alloc: Global, value: &Value<'_>) -> Result<Command, ReadStop>
-    ensures { Gives (command_of Verb.Relabel (view value.now)) result }
+    ensures { Gives (command_in Verb.Relabel (view value.now)) result }
 {
     has_members(5, value)?;
     let owner = number_in("owner", value)?;
@@ -217,7 +217,7 @@ fn link_in(value: &Value<'_>) -> Result<Link, ReadStop>
 // A link to be made.
 #[tactic(auto, using(crate::proofs::ReadingLemmas::stopped), unfolding(crate::specs::Requests::made_of))]
 fn add_link_in(value: &Value<'_>) -> Result<Command, ReadStop>
-    ensures { Gives (command_of Verb.Link (view value.now)) result }
+    ensures { Gives (command_in Verb.Link (view value.now)) result }
 {
     let link = link_in(value)?;
     Ok(Command::Link(link.kind, link.a, link.b))
@@ -226,7 +226,7 @@ fn add_link_in(value: &Value<'_>) -> Result<Command, ReadStop>
 // A link to be undone.
 #[tactic(auto, using(crate::proofs::ReadingLemmas::stopped), unfolding(crate::specs::Requests::made_of))]
 fn unlink_in(value: &Value<'_>) -> Result<Command, ReadStop>
-    ensures { Gives (command_of Verb.Unlink (view value.now)) result }
+    ensures { Gives (command_in Verb.Unlink (view value.now)) result }
 {
     let link = link_in(value)?;
     Ok(Command::Unlink(link.kind, link.a, link.b))
@@ -235,7 +235,7 @@ fn unlink_in(value: &Value<'_>) -> Result<Command, ReadStop>
 // A concept to be deprecated.
 #[tactic(auto, unfolding(crate::specs::Requests::line1))]
 fn deprecate_in(value: &Value<'_>) -> Result<Command, ReadStop>
-    ensures { Gives (command_of Verb.Deprecate (view value.now)) result }
+    ensures { Gives (command_in Verb.Deprecate (view value.now)) result }
 {
     has_members(2, value)?;
     let concept = number_in("concept", value)?;
@@ -245,7 +245,7 @@ fn deprecate_in(value: &Value<'_>) -> Result<Command, ReadStop>
 // Two concepts to be merged.
 #[tactic(auto, unfolding(crate::specs::Requests::line2))]
 fn merge_in(value: &Value<'_>) -> Result<Command, ReadStop>
-    ensures { Gives (command_of Verb.Merge (view value.now)) result }
+    ensures { Gives (command_in Verb.Merge (view value.now)) result }
 {
     has_members(3, value)?;
     let source = number_in("source", value)?;
@@ -256,7 +256,7 @@ fn merge_in(value: &Value<'_>) -> Result<Command, ReadStop>
 // A concept to be split.
 #[tactic(auto, unfolding(crate::specs::Requests::line4))]
 fn split_in(alloc: Global, value: &Value<'_>) -> Result<Command, ReadStop>
-    ensures { Gives (command_of Verb.Split (view value.now)) result }
+    ensures { Gives (command_in Verb.Split (view value.now)) result }
 {
     has_members(5, value)?;
     let source = number_in("source", value)?;
@@ -272,7 +272,7 @@ fn split_in(alloc: Global, value: &Value<'_>) -> Result<Command, ReadStop>
 // A new posting.
 #[tactic(auto, unfolding(crate::specs::Requests::line3))]
 fn post_in(alloc: Global, value: &Value<'_>) -> Result<Command, ReadStop>
-    ensures { Gives (command_of Verb.Post (view value.now)) result }
+    ensures { Gives (command_in Verb.Post (view value.now)) result }
 {
     has_members(4, value)?;
     let key = text_in("key", value)?;
@@ -288,7 +288,7 @@ fn post_in(alloc: Global, value: &Value<'_>) -> Result<Command, ReadStop>
 // A posting to be withdrawn.
 #[tactic(auto, unfolding(crate::specs::Requests::line1))]
 fn withdraw_in(value: &Value<'_>) -> Result<Command, ReadStop>
-    ensures { Gives (command_of Verb.Withdraw (view value.now)) result }
+    ensures { Gives (command_in Verb.Withdraw (view value.now)) result }
 {
     has_members(2, value)?;
     let posting = number_in("posting", value)?;
@@ -297,7 +297,7 @@ fn withdraw_in(value: &Value<'_>) -> Result<Command, ReadStop>
 
 // What a word at `do` asks for.
 fn command_in(alloc: Global, verb: Verb, value: &Value<'_>) -> Result<Command, ReadStop>
-    ensures { Gives (command_of verb (view value.now)) result }
+    ensures { Gives (command_in verb (view value.now)) result }
 {
     match verb {
         Verb::Scheme => scheme_in(alloc, value),
@@ -320,7 +320,7 @@ fn command_in(alloc: Global, verb: Verb, value: &Value<'_>) -> Result<Command, R
 // The totals.
 #[tactic(auto, unfolding(crate::specs::Requests::line0))]
 fn totals_in(value: &Value<'_>) -> Result<Query, ReadStop>
-    ensures { Gives (query_of Noun.Totals (view value.now)) result }
+    ensures { Gives (query_in Noun.Totals (view value.now)) result }
 {
     has_members(1, value)?;
     Ok(Query::Totals)
@@ -329,7 +329,7 @@ fn totals_in(value: &Value<'_>) -> Result<Query, ReadStop>
 // A concept to be shown.
 #[tactic(auto, unfolding(crate::specs::Requests::line1))]
 fn shown_concept_in(value: &Value<'_>) -> Result<Query, ReadStop>
-    ensures { Gives (query_of Noun.Concept (view value.now)) result }
+    ensures { Gives (query_in Noun.Concept (view value.now)) result }
 {
     has_members(2, value)?;
     let number = number_in("number", value)?;
@@ -339,7 +339,7 @@ fn shown_concept_in(value: &Value<'_>) -> Result<Query, ReadStop>
 // A concept whose postings are to be shown.
 #[tactic(auto, unfolding(crate::specs::Requests::line1))]
 fn shown_postings_in(value: &Value<'_>) -> Result<Query, ReadStop>
-    ensures { Gives (query_of Noun.Postings (view value.now)) result }
+    ensures { Gives (query_in Noun.Postings (view value.now)) result }
 {
     has_members(2, value)?;
     let concept = number_in("concept", value)?;
@@ -349,7 +349,7 @@ fn shown_postings_in(value: &Value<'_>) -> Result<Query, ReadStop>
 // A posting to be shown.
 #[tactic(auto, unfolding(crate::specs::Requests::line1))]
 fn shown_posting_in(value: &Value<'_>) -> Result<Query, ReadStop>
-    ensures { Gives (query_of Noun.Posting (view value.now)) result }
+    ensures { Gives (query_in Noun.Posting (view value.now)) result }
 {
     has_members(2, value)?;
     let number = number_in("number", value)?;
@@ -358,7 +358,7 @@ fn shown_posting_in(value: &Value<'_>) -> Result<Query, ReadStop>
 
 // What a word at `get` asks for.
 fn query_in(noun: Noun, value: &Value<'_>) -> Result<Query, ReadStop>
-    ensures { Gives (query_of noun (view value.now)) result }
+    ensures { Gives (query_in noun (view value.now)) result }
 {
     match noun {
         Noun::Totals => totals_in(value),
@@ -371,7 +371,7 @@ fn query_in(noun: Noun, value: &Value<'_>) -> Result<Query, ReadStop>
 // A request with this word at `do`.
 #[tactic(auto, using(crate::proofs::ReadingLemmas::stopped), unfolding(crate::specs::Requests::made_of))]
 fn do_in(alloc: Global, verb: Verb, value: &Value<'_>) -> Result<Request, ReadStop>
-    ensures { Gives (made_of Do (command_of verb (view value.now))) result }
+    ensures { Gives (made_of Do (command_in verb (view value.now))) result }
 {
     Ok(Request::Do(command_in(alloc, verb, value)?))
 }
@@ -379,7 +379,7 @@ fn do_in(alloc: Global, verb: Verb, value: &Value<'_>) -> Result<Request, ReadSt
 // A request with this word at `get`.
 #[tactic(auto, using(crate::proofs::ReadingLemmas::stopped), unfolding(crate::specs::Requests::made_of))]
 fn get_in(noun: Noun, value: &Value<'_>) -> Result<Request, ReadStop>
-    ensures { Gives (made_of Get (query_of noun (view value.now))) result }
+    ensures { Gives (made_of Get (query_in noun (view value.now))) result }
 {
     Ok(Request::Get(query_in(noun, value)?))
 }

@@ -2,7 +2,7 @@
 ghost use Rattle.std.specs.Prelude.{◌≡◌, ◌⊎◌, ◌↔◌, ℕ, List, true, false, IsTrue, OnOk, OnErr, IsErrOf};
 ghost use Rattle.std.specs.Io.KnownBytes.{Appends};
 ghost use Rattle.thes_base.specs.Pipe.{failed_of, ended_of, denied_of, written, AppendsFront, PaysCalls};
-ghost use Rattle.thes_exchange.specs.Readings.{Reaches};
+ghost use Rattle.thes_exchange.specs.Readings.{ReadsAs};
 ghost use Rattle.thes_exchange.specs.Requests.{request_of};
 ghost use Rattle.thes_exchange.specs.Serving.{Serves, outcome_text};
 ghost use Rattle.thes_exchange.specs.declared.request.Request.TheVariants.{Do, Get};
@@ -39,7 +39,7 @@ pub fn serve<D: Desk>(memory: &mut Memory, desk: &mut D, line: &[u8]) -> Outcome
 // What a request is answered with, whatever line asked for it.
 fn answer_command<D: Desk>(desk: &mut D, command: &Command) -> Outcome
     requires { D.is_open desk.old ≡ true }
-    ensures { (line : List ℕ) → Reaches (request_of line) (Ok (Do command.now)) →
+    ensures { (line : List ℕ) → ReadsAs (request_of line) (Ok (Do command.now)) →
         Serves D.performs D.shows desk.old line result desk.new }
 {
     match desk.perform(command) {
@@ -51,7 +51,7 @@ fn answer_command<D: Desk>(desk: &mut D, command: &Command) -> Outcome
 // What a query is answered with, whatever line asked for it.
 fn answer_query<D: Desk>(alloc: Global, desk: &mut D, query: &Query) -> Outcome
     requires { D.is_open desk.old ≡ true }
-    ensures { (line : List ℕ) → Reaches (request_of line) (Ok (Get query.now)) →
+    ensures { (line : List ℕ) → ReadsAs (request_of line) (Ok (Get query.now)) →
         Serves D.performs D.shows desk.old line result desk.new }
 {
     match desk.show(alloc, query) {

@@ -4,7 +4,7 @@ ghost use Rattle.serde_json.specs.View.{view, members_view};
 ghost use Rattle.serde_json.specs.Written.{has_float};
 ghost use Rattle.thes_base.specs.Postings.{place};
 ghost use Rattle.thes_core.specs.Shown.{tagged};
-ghost use Rattle.thes_exchange.specs.ConceptMembers.{with_labels, with_links, with_facts};
+ghost use Rattle.thes_exchange.specs.ConceptMembers.{labels_put, links_put, facts_put};
 ghost use Rattle.thes_exchange.specs.ViewTexts.{num, listed, number_or_null, tagged_data, mapping_data, typed_data, word_data, move_data, row_data, totals_data, concept_data, postings_data, posting_data, line_text, view_text};
 
 use crate::answer::refusal_line;
@@ -170,13 +170,13 @@ fn typed_value(alloc: Global, typed: &[(TypedKind, ResNo)]) -> Result<Value, All
 }
 
 // Adds the labels of a concept to the members of its view.
-#[tactic(auto, unfolding(crate::specs::ConceptMembers::with_labels))]
+#[tactic(auto, unfolding(crate::specs::ConceptMembers::labels_put))]
 fn put_labels(
     members: &mut Map<String, Value>,
     alloc: Global,
     concept: &ConceptView,
 ) -> Result<(), AllocError>
-    ensures { OnOk result (members_view members.new.entries ≡ with_labels concept.now
+    ensures { OnOk result (members_view members.new.entries ≡ labels_put concept.now
         (members_view members.old.entries)) }
 {
     put(members, alloc, "alt", labels_value(alloc, &concept.alt)?)?;
@@ -196,13 +196,13 @@ fn put_labels(
 }
 
 // Adds its links.
-#[tactic(auto, unfolding(crate::specs::ConceptMembers::with_links))]
+#[tactic(auto, unfolding(crate::specs::ConceptMembers::links_put))]
 fn put_links(
     members: &mut Map<String, Value>,
     alloc: Global,
     concept: &ConceptView,
 ) -> Result<(), AllocError>
-    ensures { OnOk result (members_view members.new.entries ≡ with_links concept.now
+    ensures { OnOk result (members_view members.new.entries ≡ links_put concept.now
         (members_view members.old.entries)) }
 {
     put(
@@ -239,13 +239,13 @@ fn put_links(
 }
 
 // Adds what else is shown of it.
-#[tactic(auto, unfolding(crate::specs::ConceptMembers::with_facts))]
+#[tactic(auto, unfolding(crate::specs::ConceptMembers::facts_put))]
 fn put_facts(
     members: &mut Map<String, Value>,
     alloc: Global,
     concept: &ConceptView,
 ) -> Result<(), AllocError>
-    ensures { OnOk result (members_view members.new.entries ≡ with_facts concept.now
+    ensures { OnOk result (members_view members.new.entries ≡ facts_put concept.now
         (members_view members.old.entries)) }
 {
     put(members, alloc, "live", Value::from(concept.live))?;

@@ -9,7 +9,7 @@ use Rattle.std.specs.BTreeMap.{get, UpdatesBy}
 use Rattle.std.proofs.lemmas.Bool.{cases_eq}
 use borrow.Author.Tests.{ne_eqb}
 use Rattle.thes_lists.specs.declared.lists.Lists.{Lists}
-use Rattle.thes_lists.specs.Lists.{listed_at, HasList, HasRoom, AreSame, KeepsLists, KeepsRooms, ChangesAt}
+use Rattle.thes_lists.specs.Lists.{listed_at, HasList, HasSpare, AreSame, KeepsLists, KeepsRooms, ChangesAt}
 
 abbrev IsRoomy : {A : Type 0} → Vec A Global → Type 0
 IsRoomy v = vec_len v < vec_capacity v
@@ -24,7 +24,7 @@ module _ {A : Type 0} (old new : Lists A) (n : ℕ) (v : Vec A Global) (updates 
     others = λ m apart. ap (λ o. option_map_or (λ (w : Vec A Global). w.items) o []) (elsewhere m apart);
   }
 
-  pub rooms_elsewhere : (m : ℕ) → m ≢ n → HasRoom old m → HasRoom new m
+  pub rooms_elsewhere : (m : ℕ) → m ≢ n → HasSpare old m → HasSpare new m
   rooms_elsewhere m apart room = subst (λ o. IsSomeAnd o IsRoomy) (sym (elsewhere m apart)) room
 
   pub lists_kept : KeepsLists old new
@@ -41,9 +41,9 @@ module _ {A : Type 0} (old new : Lists A) (n : ℕ) (v : Vec A Global) (updates 
   ]
 
   -- with as much room
-  rooms_written : (HasRoom old n → IsRoomy v) → KeepsRooms old new
+  rooms_written : (HasSpare old n → IsRoomy v) → KeepsRooms old new
   rooms_written keeps m room = elim (cases_eq m n) [
-    | inl here ↦ subst (HasRoom new) (sym here) (subst (λ o. IsSomeAnd o IsRoomy) (sym updates.1) (keeps (subst (HasRoom old) here room)))
+    | inl here ↦ subst (HasSpare new) (sym here) (subst (λ o. IsSomeAnd o IsRoomy) (sym updates.1) (keeps (subst (HasSpare old) here room)))
     | inr apart ↦ rooms_elsewhere m apart room
   ]
 

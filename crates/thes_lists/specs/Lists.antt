@@ -19,8 +19,8 @@ module _ {A : Type 0} where
   HasList lists n = IsSome (get nat_cmp lists.lists n)
 
   -- and in its list is room for one value more
-  abbrev pub HasRoom : Lists A → ℕ → Type 0
-  HasRoom lists n = IsSomeAnd (get nat_cmp lists.lists n) (λ v. vec_len v < vec_capacity v)
+  abbrev pub HasSpare : Lists A → ℕ → Type 0
+  HasSpare lists n = IsSomeAnd (get nat_cmp lists.lists n) (λ v. vec_len v < vec_capacity v)
 
   abbrev pub AreSame : Lists A → Lists A → Type 0
   AreSame old new = (n : ℕ) → listed_at new n ≡ listed_at old n
@@ -29,7 +29,7 @@ module _ {A : Type 0} where
   KeepsLists old new = (n : ℕ) → HasList old n → HasList new n
 
   abbrev pub KeepsRooms : Lists A → Lists A → Type 0
-  KeepsRooms old new = (n : ℕ) → HasRoom old n → HasRoom new n
+  KeepsRooms old new = (n : ℕ) → HasSpare old n → HasSpare new n
 
   -- the values of this number alone have changed, to these
   pub record ChangesAt (old new : Lists A) (n : ℕ) (values : List A) : Type 0 where

@@ -5,7 +5,7 @@ ghost use Rattle.std.specs.BTreeMap.{is_at};
 ghost use Rattle.std.specs.BTreeSet.{insert_key};
 ghost use Rattle.std.specs.Set.{remove_key};
 ghost use Rattle.std.specs.Vec.{vec_len, vec_capacity};
-ghost use Rattle.thes_lists.specs.Lists.{listed_at, HasList, HasRoom, AreSame, KeepsLists, KeepsRooms, ChangesAt};
+ghost use Rattle.thes_lists.specs.Lists.{listed_at, HasList, HasSpare, AreSame, KeepsLists, KeepsRooms, ChangesAt};
 
 use std::alloc::{AllocError, Global};
 use std::collections::BTreeMap;
@@ -56,7 +56,7 @@ impl<T: Ord + Drop> Lists<T> {
     pub fn make_room(&mut self, n: ResNo) -> Result<(), AllocError>
         ensures same { AreSame self.old self.new }
         ensures rooms { KeepsRooms self.old self.new }
-        ensures room { OnOk result (HasRoom self.new n) }
+        ensures room { OnOk result (HasSpare self.new n) }
     {
         if self.reserve_in(n)? {
             return Ok(());
@@ -70,8 +70,8 @@ impl<T: Ord + Drop> Lists<T> {
     fn reserve_in(&mut self, n: ResNo) -> Result<bool, AllocError>
         ensures same { AreSame self.old self.new }
         ensures rooms { KeepsRooms self.old self.new }
-        ensures room { IfOk result (λ has. has ≡ true → HasRoom self.new n) }
-        ensures open { OnOk result (HasList self.old n → HasRoom self.new n) }
+        ensures room { IfOk result (λ has. has ≡ true → HasSpare self.new n) }
+        ensures open { OnOk result (HasList self.old n → HasSpare self.new n) }
     {
         match self.lists.get_mut(&n) {
             Some(list) => {
@@ -96,10 +96,10 @@ impl<T: Ord + Drop> Lists<T> {
 
     /// Inserts a value at its place in the order, unless an equal one is there.
     pub fn insert(&mut self, n: ResNo, x: T)
-        requires room { HasRoom self.old n }
+        requires room { HasSpare self.old n }
         requires rises { IsStrictlySortedBy T.cmp (listed_at self.old n) }
         ensures list { ChangesAt self.old self.new n (insert_key T.cmp (listed_at self.old n) x) }
-        ensures rooms { (m : ℕ) → m ≢ n → HasRoom self.old m → HasRoom self.new m }
+        ensures rooms { (m : ℕ) → m ≢ n → HasSpare self.old m → HasSpare self.new m }
     {
         match self.lists.get_mut(&n) {
             Some(list) => insert_in(list, x),

@@ -13,7 +13,7 @@ use Rattle.thes_base.specs.declared.data.Link.{Link}
 use Rattle.thes_base.specs.declared.data.LabelKind.TheVariants.{Pref, Alt}
 use Rattle.thes_base.specs.declared.request.Command.{Command}
 use Rattle.thes_base.specs.declared.request.Command.TheVariants as request
-use Rattle.thes_base.specs.Resources.{numbered, scheme_of, replacements, is_outside, CanOwn}
+use Rattle.thes_base.specs.Resources.{numbered, set_numbered, scheme_of, replacements, is_outside, CanOwn}
 use Rattle.thes_base.specs.Labels.{Label, Labels, label_cmp, preferred_in, HasLabel}
 use Rattle.thes_base.specs.Links.{Links, norm, without_node, contracted, HeldIn}
 use Rattle.thes_base.specs.Postings.{stands_at, move_count, withdraw}
@@ -33,7 +33,7 @@ use Rattle.thes_rows.specs.declared.rows.PostingRow.{PostingRow}
 use Rattle.thes_rows.specs.declared.rows.MoveRow.{MoveRow}
 use Rattle.thes_rows.specs.declared.change.Change.{Change}
 use Rattle.thes_rows.specs.declared.change.Change.TheVariants as change
-use Rattle.thes_rows.specs.Tables.{Tables, IsRowsOf, IsIn, Lists, IsLabelOf, AreIris, Ascends, Rises, posting_row}
+use Rattle.thes_rows.specs.Tables.{Tables, IsRowsOf, IsIn, Lists, IsLabelOf, AreIris, AreMoves, Ascends, Rises, posting_row}
 use Rattle.thes_rows.specs.Rows.{changed, all_changed, FitAll, without_row, with_posting, withdrawn_row, placed_row, moved_row}
 use Rattle.thes_rows.specs.Changes.{changes_of, changes_made, changes_relabelled, new_moves, move_row, add_link, drop_link, coming, links_changed}
 use Rattle.thes_rows.specs.Leads.{Leads}
@@ -96,6 +96,19 @@ fit_moves bound (row ∷ rows) t below rises = (λ other m. (let b = below other
     more other m = elim (in_append other t.move (row ∷ []) m) [ inl old ↦ (let b = below other old in let lt = rises.0 in omega (arith, b, lt)) | inr new ↦ elim new [ inl e ↦ (let q = ap (λ (r : MoveRow). r.number) e in omega (arith, q)) | inr never ↦ absurd never ] ]
 
 -- Requests.
+
+-- the rows of a state with other histories
+with_histories : (base : List ℕ) (s : State) (t : Tables) → IsRowsOf base s t → (hs : List History) (posting : List PostingRow) (move : List MoveRow) → posting ≡ map posting_row hs → AreMoves hs move → IsRowsOf base (record s { histories = hs }) (record t { posting = posting; move = move })
+with_histories base s t is hs posting move same moves = record {
+  base_is = is.base_is;
+  resource = is.resource;
+  outside = is.outside;
+  label = is.label;
+  link = is.link;
+  hier = is.hier;
+  posting = same;
+  move = moves;
+}
 
 module _ (base : List ℕ) (s : State) (legal : Legal base s) where
   number_free : (l : Label) → l.owner ≡ next_number s → set.contains s.labels l ≡ false
@@ -321,16 +334,11 @@ module _ (base : List ℕ) (s : State) (legal : Legal base s) where
       linked_rows t is = relinked_rows state_labelled (labelled t) (linked t) links_after (labelled_rows t is) (turned_only s.links links_after (labelled t)) (turned_rows s.links links_after (labelled t) (links_of (labelled_rows t is)))
 
       moved_rows : (t : Tables) → IsRowsOf base s t → IsRowsOf base (merged source target s) (record (linked t) { posting = map (moved_row source target) (linked t).posting; move = (linked t).move ++ rows })
-      moved_rows t is = let l = linked_rows t is in record {
-        base_is = l.base_is;
-        resource = l.resource;
-        outside = l.outside;
-        label = l.label;
-        link = l.link;
-        hier = l.hier;
-        posting = ap (map (moved_row source target)) l.posting ∙ rows_moved source target first_move s.histories;
-        move = moves_more s.resources s.histories legal.postings (stands_at source) target (linked t).move l.move;
-      }
+      moved_rows t is =
+          let l = linked_rows t is in
+          with_histories base (record state_labelled { links = links_after }) (linked t) l (merged source target s).histories (map (moved_row source target) (linked t).posting) ((linked t).move ++ rows)
+          (ap (map (moved_row source target)) l.posting ∙ rows_moved source target first_move s.histories)
+          (moves_more s.resources s.histories legal.postings (stands_at source) target (linked t).move l.move)
 
       head_done : (t : Tables) → all_changed head t ≡ linked t
       head_done t = all_append adds turns (dead t) ∙ ap (all_changed turns) (labels_added_all (coming s.labels taken) (dead t))
@@ -343,16 +351,11 @@ module _ (base : List ℕ) (s : State) (legal : Legal base s) where
 
   pub leads_split : (source : ℕ) (tag text : List ℕ) (postings : List ℕ) → Leads base (changes_of (request.Split source tag text postings) s) s (split_off source tag text postings s)
   leads_split source tag text postings = record {
-    rows = λ t is. subst (IsRowsOf base (split_off source tag text postings s)) (sym (done t)) (record {
-      base_is = is.base_is;
-      resource = ap (λ l. l ++ new ∷ []) is.resource;
-      outside = is.outside;
-      label = listed_push labels_total labels_exact s.labels t.label (label (next_number s) Pref tag text) is.label (number_free (label (next_number s) Pref tag text) refl);
-      link = is.link;
-      hier = is.hier;
-      posting = ap (placed_all rows) is.posting ∙ rows_placed (is_listed postings) (next_number s) first_move [] s.histories numbers;
-      move = moves_more s.resources s.histories legal.postings (is_listed postings) (next_number s) t.move is.move;
-    });
+    rows = λ t is.
+        subst (IsRowsOf base (split_off source tag text postings s)) (sym (done t))
+        (with_histories base (made new tag text s) (with_new t) ((leads_made new tag text).rows t is) (split_off source tag text postings s).histories (placed_all rows t.posting) (t.move ++ rows)
+        (ap (placed_all rows) is.posting ∙ rows_placed (is_listed postings) (next_number s) first_move [] s.histories numbers)
+        (moves_more s.resources s.histories legal.postings (is_listed postings) (next_number s) t.move is.move));
     fit = λ t is.
         fit_append (makes ++ sets) moves t
         (fit_append makes sets t ((leads_made new tag text).fit t is) (fit_places rows (all_changed makes t)))
@@ -390,16 +393,11 @@ module _ (base : List ℕ) (s : State) (legal : Legal base s) where
 
   pub leads_posted : (key rec : List ℕ) (concept : ℕ) → ((h : History) → ¬ IsOfKey key s.histories h) → Leads base (changes_of (request.Post key rec concept) s) s (posted key rec concept s)
   leads_posted key rec concept fresh = record {
-    rows = λ t is. subst (IsRowsOf base (posted key rec concept s)) (sym (moves_added_all rows (entered t))) (record {
-      base_is = is.base_is;
-      resource = is.resource;
-      outside = is.outside;
-      label = is.label;
-      link = is.link;
-      hier = is.hier;
-      posting = ap (λ l. l ++ posting_row new ∷ []) is.posting ∙ sym (map-append posting_row s.histories (new ∷ []));
-      move = moves_posted s.resources s.histories legal.postings new refl t.move rising is.move;
-    });
+    rows = λ t is.
+        subst (IsRowsOf base (posted key rec concept s)) (sym (moves_added_all rows (entered t)))
+        (with_histories base s t is (s.histories ++ new ∷ []) (entered t).posting (t.move ++ rows)
+        (ap (λ l. l ++ posting_row new ∷ []) is.posting ∙ sym (map-append posting_row s.histories (new ∷ [])))
+        (moves_posted s.resources s.histories legal.postings new refl t.move rising is.move));
     fit = λ t is. (
       (ap (λ n. n + 1) (sym (length_map s.histories)) ∙ ap (λ (l : List PostingRow). length l + 1) (sym is.posting), λ other m. key_free key fresh other (subst (IsIn other) is.posting m)),
       fit_moves (move_count s.histories) rows (entered t) (bounded s.resources s.histories legal.postings t.move is.move) rising,
@@ -424,16 +422,10 @@ module _ (base : List ℕ) (s : State) (legal : Legal base s) where
 
   pub leads_withdrawn : (n : ℕ) (h : History) → numbered s.histories n ≡ Some h → Leads base (change.Withdraw n ∷ []) s (history_withdrawn n s)
   leads_withdrawn n h e = subst (Leads base (change.Withdraw n ∷ []) s) (sym (withdrawn_at s n h e)) (record {
-    rows = λ t is. record {
-      base_is = is.base_is;
-      resource = is.resource;
-      outside = is.outside;
-      label = is.label;
-      link = is.link;
-      hier = is.hier;
-      posting = ap (with_posting withdrawn_row n) is.posting ∙ with_at withdrawn_row n (map posting_row s.histories) (posting_row h) (map_numbered posting_row s.histories n h e) ∙ sym (map_set posting_row s.histories (n - 1) (withdraw h));
-      move = moves_set s.histories n h (withdraw h) t.move e refl is.move;
-    };
+    rows = λ t is.
+        with_histories base s t is (set_numbered s.histories n (withdraw h)) (with_posting withdrawn_row n t.posting) t.move
+        (ap (with_posting withdrawn_row n) is.posting ∙ with_at withdrawn_row n (map posting_row s.histories) (posting_row h) (map_numbered posting_row s.histories n h e) ∙ sym (map_set posting_row s.histories (n - 1) (withdraw h)))
+        (moves_set s.histories n h (withdraw h) t.move e refl is.move);
     fit = λ t is. (tt, tt);
   })
 

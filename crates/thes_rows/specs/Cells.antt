@@ -51,7 +51,9 @@ abbrev pub meta_cells : List ℕ → List Cell
 meta_cells base = number_cell 1 ∷ number_cell 2 ∷ Text base ∷ []
 
 abbrev pub resource_cells : ℕ → Resource → List Cell
-resource_cells n r = number_cell n ∷ number_cell (resource_kind_no r.kind) ∷ optional_cell r.scheme ∷ flag_cell r.live ∷ optional_cell r.replaced ∷ []
+resource_cells n r =
+    number_cell n ∷ number_cell (resource_kind_no r.kind) ∷ optional_cell r.scheme ∷ flag_cell r.live
+    ∷ optional_cell r.replaced ∷ []
 
 -- the resources, numbered from this number on
 abbrev pub resource_rows : ℕ → List Resource → List (List Cell)
@@ -77,7 +79,9 @@ abbrev pub hier_cells : HierRow → List Cell
 hier_cells row = number_cell row.a ∷ number_cell row.b ∷ number_cell (hier_type_no row.typ) ∷ []
 
 abbrev pub posting_cells : PostingRow → List Cell
-posting_cells row = number_cell row.number ∷ Text row.key ∷ Text row.rec ∷ number_cell row.first ∷ number_cell row.place ∷ flag_cell row.withdrawn ∷ []
+posting_cells row =
+    number_cell row.number ∷ Text row.key ∷ Text row.rec ∷ number_cell row.first ∷ number_cell row.place
+    ∷ flag_cell row.withdrawn ∷ []
 
 abbrev pub move_cells : MoveRow → List Cell
 move_cells row = number_cell row.number ∷ number_cell row.posting ∷ number_cell row.source ∷ number_cell row.target ∷ []

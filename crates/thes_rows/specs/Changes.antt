@@ -28,7 +28,8 @@ use Rattle.thes_rows.specs.declared.change.Change.TheVariants as change
 abbrev pub new_moves : (History → Bool) → ℕ → ℕ → List History → List MoveRow
 new_moves passes target number [] = []
 new_moves passes target number (h ∷ hs) =
-    if passes h then record { number = number; posting = h.number; source = place h; target = target } ∷ new_moves passes target (number + 1) hs else new_moves passes target number hs
+    let move : MoveRow = record { number = number; posting = h.number; source = place h; target = target } in
+    if passes h then move ∷ new_moves passes target (number + 1) hs else new_moves passes target number hs
 
 -- the row of a posting's move
 abbrev pub move_row : ℕ → Move → MoveRow
@@ -63,13 +64,17 @@ abbrev pub links_going : Links → Links → List Link
 links_going old new = filter (λ l. not (set.contains new l)) (set.items old)
 
 abbrev pub links_changed : Links → Links → List Change
-links_changed old new = map drop_link (links_going old new) ++ map add_link (coming (without_all (links_going old new) old) (set.items new))
+links_changed old new =
+    map drop_link (links_going old new)
+    ++ map add_link (coming (without_all (links_going old new) old) (set.items new))
 
 abbrev pub changes_relabelled : ℕ → List ℕ → List ℕ → Bool → Labels → List Change
 changes_relabelled owner tag text keep labels =
     elim (preferred_in labels owner tag) [
       | None ↦ []
-      | Some old ↦ change.DropLabel (label owner Pref tag old) ∷ change.AddLabel (label owner Pref tag text) ∷ (if keep then change.AddLabel (label owner Alt tag old) ∷ [] else [])
+      | Some old ↦
+          change.DropLabel (label owner Pref tag old) ∷ change.AddLabel (label owner Pref tag text)
+          ∷ (if keep then change.AddLabel (label owner Alt tag old) ∷ [] else [])
     ]
 
 abbrev pub changes_of : Command → State → List Change
@@ -84,11 +89,16 @@ changes_of (request.Link kind a b) s = add_link (norm (is_outside s.resources) (
 changes_of (request.Unlink kind a b) s = drop_link (norm (is_outside s.resources) (link kind a b)) ∷ []
 changes_of (request.Deprecate concept) s = change.Retire concept ∷ links_changed s.links (without_node concept s.links)
 changes_of (request.Merge source target) s =
-    change.Replace source target ∷ map change.AddLabel (coming s.labels (set.items (taken_labels source target s.labels))) ++ links_changed s.links (contracted (is_outside s.resources) source target s.links)
-    ++ change.MoveAll source target ∷ map change.AddMove (new_moves (stands_at source) target (move_count s.histories + 1) s.histories)
+    let taken = set.items (taken_labels source target s.labels) in
+    let moves = new_moves (stands_at source) target (move_count s.histories + 1) s.histories in
+    change.Replace source target ∷ map change.AddLabel (coming s.labels taken)
+    ++ links_changed s.links (contracted (is_outside s.resources) source target s.links)
+    ++ change.MoveAll source target ∷ map change.AddMove moves
 changes_of (request.Split source tag text postings) s =
     let moves = new_moves (is_listed postings) (next_number s) (move_count s.histories + 1) s.histories in
-    changes_made (concept_resource (scheme_of s.resources source)) tag text s ++ map (λ (m : MoveRow). change.SetPlace m.posting m.target) moves ++ map change.AddMove moves
+    changes_made (concept_resource (scheme_of s.resources source)) tag text s
+    ++ map (λ (m : MoveRow). change.SetPlace m.posting m.target) moves
+    ++ map change.AddMove moves
 changes_of (request.Post key rec concept) s =
     let h = new_history key rec concept (replacements s.resources concept) s.histories in
     change.AddPosting (posting_row h) ∷ map change.AddMove (map (move_row h.number) h.moves)

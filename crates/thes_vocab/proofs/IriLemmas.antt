@@ -13,7 +13,7 @@ use Rattle.std.proofs.lemmas.Cmp.{nat_list_cmp_total}
 use Rattle.std.proofs.lemmas.Map.Lookups.{exact_unsigned, exact_bytes}
 use Rattle.thes_base.specs.Resources.{Iris}
 use Rattle.std.proofs.lemmas.Option.{none-some, same_Some}
-use Rattle.thes_vocab.specs.Numbered.{iris_in, AreTied}
+use Rattle.thes_vocab.specs.Numbered.{iris_in, AreInverse}
 use Rattle.thes_vocab.proofs.NameLemmas.{IsSet, same_or_not}
 
 abbrev Numbers : Type 0
@@ -30,7 +30,7 @@ find_is (e ∷ es) n = ap (cond (is_at (nat_cmp n) e.0) (Some e.1)) (find_is es 
 pub got : (m : BTreeMap ℕ (List ℕ)) (n : ℕ) → dict.get (iris_in m.entries) n ≡ get nat_cmp m n
 got m n = dict.get-from_entries nat_cmp_total m.entries n ∙ find_is m.entries n
 
-pub number_found : (iris : Iris) (numbers : Numbers) (iri : List ℕ) (o : Option ℕ) → AreTied iris numbers → o ≡ get iri_cmp numbers iri → MatchOption o ((n : ℕ) → dict.get iris n ≢ Some iri) (λ n. dict.get iris n ≡ Some iri)
+pub number_found : (iris : Iris) (numbers : Numbers) (iri : List ℕ) (o : Option ℕ) → AreInverse iris numbers → o ≡ get iri_cmp numbers iri → MatchOption o ((n : ℕ) → dict.get iris n ≢ Some iri) (λ n. dict.get iris n ≡ Some iri)
 number_found iris numbers iri None tied e = λ n has. let at = tied.number n iri has in none-some _ (e ∙ at)
 number_found iris numbers iri (Some n) tied e = tied.iri n iri (sym e)
 
@@ -39,12 +39,12 @@ inserted old new n iri u = dict.same_map nat_cmp_total dict.nat_cmp-IsAntisymmet
     got new q ∙ u.0 q ∙ ap (λ b. cond b (Some iri) (get nat_cmp old q)) ((eq_by_cmp_equiv nat_cmp_total).symm n q)
     ∙ sym (dict.get-insert nat_cmp_total (iris_in old.entries) n iri q ∙ ap (cond (eq_by_cmp nat_cmp q n) (Some iri)) (got old q)))
 
-module _ (iris : Iris) (numbers more : Numbers) (n : ℕ) (iri : List ℕ) (tied : AreTied iris numbers) (set : IsSet iri_cmp numbers more iri (Some n)) (free : (m : ℕ) → dict.get iris m ≢ Some iri) where
+module _ (iris : Iris) (numbers more : Numbers) (n : ℕ) (iri : List ℕ) (tied : AreInverse iris numbers) (set : IsSet iri_cmp numbers more iri (Some n)) (free : (m : ℕ) → dict.get iris m ≢ Some iri) where
   other_iri : (m : ℕ) (i : List ℕ) → dict.get iris m ≡ Some i → i ≡ iri → ⊥
   other_iri m i has same = free m (has ∙ ap Some same)
 
   -- a new number and its IRI
-  pub tied_more : dict.get iris n ≡ None → AreTied (dict.insert iris n iri) more
+  pub tied_more : dict.get iris n ≡ None → AreInverse (dict.insert iris n iri) more
   tied_more none = record {
     number = λ m i e. number_at m i (cases m i e);
     iri = λ m i e. iri_at m i e (same_or_not iri_cmp nat_list_cmp_total exact_bytes i iri);
@@ -81,7 +81,7 @@ module _ (iris : Iris) (numbers more : Numbers) (n : ℕ) (iri : List ℕ) (tied
       iri_at m i e (inr apart) = kept m i (tied.iri m i (sym (set.others i apart) ∙ e))
 
   -- the number is taken back
-  pub tied_back : (back : Numbers) → IsSet iri_cmp more back iri None → AreTied iris back
+  pub tied_back : (back : Numbers) → IsSet iri_cmp more back iri None → AreInverse iris back
   tied_back back unset = record {
     number = λ m i has. unset.others i (other_iri m i has) ∙ set.others i (other_iri m i has) ∙ tied.number m i has;
     iri = λ m i e. iri_at m i e (same_or_not iri_cmp nat_list_cmp_total exact_bytes i iri);
@@ -91,7 +91,7 @@ module _ (iris : Iris) (numbers more : Numbers) (n : ℕ) (iri : List ℕ) (tied
       iri_at m i e (inl same) = absurd (none-some _ (sym unset.at ∙ ap (get iri_cmp back) (sym same) ∙ e))
       iri_at m i e (inr apart) = tied.iri m i (sym (set.others i apart) ∙ sym (unset.others i apart) ∙ e)
 
-pub none_tied : (iris : Iris) (numbers : Numbers) → ((n : ℕ) → dict.get iris n ≡ None) → ((i : List ℕ) → get iri_cmp numbers i ≡ None) → AreTied iris numbers
+pub none_tied : (iris : Iris) (numbers : Numbers) → ((n : ℕ) → dict.get iris n ≡ None) → ((i : List ℕ) → get iri_cmp numbers i ≡ None) → AreInverse iris numbers
 none_tied iris numbers none no_number = record { number = λ n i e. absurd (none-some _ (sym (none n) ∙ e)); iri = λ n i e. absurd (none-some _ (sym (no_number i) ∙ e)) }
 
 pub empty_get : (m : BTreeMap ℕ (List ℕ)) → m.entries ≡ [] → (n : ℕ) → dict.get (iris_in m.entries) n ≡ None

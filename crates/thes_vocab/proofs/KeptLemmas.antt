@@ -40,10 +40,10 @@ use Rattle.thes_lists.specs.Lists as lists
 use Rattle.thes_lists.specs.Lists.{listed_at, AreListings}
 use Rattle.thes_lists.proofs.ListingLemmas.{listing_none, listings_same}
 use Rattle.thes_vocab.specs.Vocabulary.{Vocabulary, IsConceptIn, IsConceptOf, IsHolder, IsReplacement}
-use Rattle.thes_vocab.specs.Named.{holder_in, IsPut, AreSame, IsNoted, IsKindNoted, IsLabelNoted}
+use Rattle.thes_vocab.specs.Named.{holder_in, IsPut, AreSameNames, IsNoted, IsKindNoted, IsLabelNoted}
 use Rattle.thes_vocab.specs.Listed.{IsAdded, IsRemoved}
 use Rattle.thes_vocab.specs.Requests.{IsNamed, IsFree}
-use Rattle.thes_vocab.specs.Kept.{IsKept}
+use Rattle.thes_vocab.specs.Kept.{IsConsistent}
 use Rattle.thes_vocab.proofs.NameLemmas.{same_or_not as same_key}
 use Rattle.thes_vocab.proofs.ListedLemmas.{scheme_at, concept_cases, listed_made, listed_dead}
 use Rattle.thes_vocab.proofs.TableLemmas.{put_back}
@@ -242,7 +242,7 @@ module _ (rs : List Resource) (labels : Labels) (r : Resource) (tag text : List 
 -- Everything.
 
 pub kept_named : (base : List ℕ) (rs : List Resource) (iris : Iris) (labels : Labels) (names : Names) (concepts : Lists ℕ) (r : Resource) (tag text : List ℕ) → LegalResources base rs iris → LegalLabels rs labels → IsNamed rs r → IsFree rs labels r tag text → length rs + 1 < 2 ^ 32 → Finds (rs ++ r ∷ []) (set.insert labels (label (length rs + 1) Pref tag text)) names
-    → AreListings nat_cmp (IsConceptOf (rs ++ r ∷ [])) concepts → IsKept base (rs ++ r ∷ []) iris (set.insert labels (label (length rs + 1) Pref tag text)) names concepts
+    → AreListings nat_cmp (IsConceptOf (rs ++ r ∷ [])) concepts → IsConsistent base (rs ++ r ∷ []) iris (set.insert labels (label (length rs + 1) Pref tag text)) names concepts
 kept_named base rs iris labels names concepts r tag text legal named is free few finds listed = record {
   legal = resources_push base rs iris r legal (record { live = is.live; replaced = is.replaced; scheme = is.scheme; no_scheme = no_scheme }) few inside;
   named = labels_made rs labels r tag text named is.owner (made_unique rs labels r tag text (owners_bound rs labels named) named.unique (λ scheme live e. free scheme (live, e)));
@@ -265,8 +265,8 @@ kept_named base rs iris labels names concepts r tag text legal named is free few
     no_scheme (inl e) = is.no_scheme e
     no_scheme (inr e) = absurd (let f = inside in cc)
 
-pub kept_outside : (base : List ℕ) (rs : List Resource) (iris : Iris) (labels : Labels) (names : Names) (concepts : Lists ℕ) (iri : List ℕ) → IsKept base rs iris labels names concepts → length rs + 1 < 2 ^ 32 → (BeginsWith iri base → ⊥) → ((n : ℕ) → dict.get iris n ≢ Some iri)
-    → IsKept base (rs ++ outside_resource ∷ []) (dict.insert iris (length rs + 1) iri) labels names concepts
+pub kept_outside : (base : List ℕ) (rs : List Resource) (iris : Iris) (labels : Labels) (names : Names) (concepts : Lists ℕ) (iri : List ℕ) → IsConsistent base rs iris labels names concepts → length rs + 1 < 2 ^ 32 → (BeginsWith iri base → ⊥) → ((n : ℕ) → dict.get iris n ≢ Some iri)
+    → IsConsistent base (rs ++ outside_resource ∷ []) (dict.insert iris (length rs + 1) iri) labels names concepts
 kept_outside base rs iris labels names concepts iri kept few foreign fresh = record {
   legal = resources_push_outside base rs iris outside_resource kept.legal (outside_fit rs) iri few refl foreign fresh;
   named = labels_push rs labels outside_resource outside_owns_none kept.named;
@@ -285,8 +285,8 @@ no_iri base rs iris legal = go (dict.get iris (length rs + 1)) refl
     go None e = e
     go (Some iri) e = absurd (let at = legal.outside.only (length rs + 1) iri e in let b = numbered_bound rs (length rs + 1) at.0 at.1 in omega (arith, b.1))
 
-pub kept_dead : (base : List ℕ) (rs : List Resource) (iris : Iris) (labels : Labels) (names : Names) (old new : Lists ℕ) (n : ℕ) (replaced : Option ℕ) (r : Resource) → IsKept base rs iris labels names old → numbered rs n ≡ Some r → IsLiveConcept rs n → IsReplacement rs n replaced
-    → IsRemoved old new r.scheme n → IsKept base (set_numbered rs n (dead replaced r)) iris labels names new
+pub kept_dead : (base : List ℕ) (rs : List Resource) (iris : Iris) (labels : Labels) (names : Names) (old new : Lists ℕ) (n : ℕ) (replaced : Option ℕ) (r : Resource) → IsConsistent base rs iris labels names old → numbered rs n ≡ Some r → IsLiveConcept rs n → IsReplacement rs n replaced
+    → IsRemoved old new r.scheme n → IsConsistent base (set_numbered rs n (dead replaced r)) iris labels names new
 kept_dead base rs iris labels names old new n replaced r kept at live fit removed = record {
   legal = resources_dead base rs iris n replaced r at kept.legal concept (fits replaced fit);
   named = labels_dead rs n replaced r at labels kept.named;
@@ -306,7 +306,7 @@ kept_dead base rs iris labels names old new n replaced r kept at live fit remove
 abbrev pub IsSchemeOf : List Resource → ℕ → Option ℕ → Type 0
 IsSchemeOf rs n o = MatchOption o ((scheme : ℕ) → IsConceptOf rs scheme n → ⊥) (λ scheme. IsConceptOf rs scheme n)
 
-finds_same : (rs : List Resource) (labels : Labels) (old new : Names) → AreSame old new → Finds rs labels old → Finds rs labels new
+finds_same : (rs : List Resource) (labels : Labels) (old new : Names) → AreSameNames old new → Finds rs labels old → Finds rs labels new
 finds_same rs labels old new same finds s n t x h = same s t x ∙ finds s n t x h
 
 module _ (rs : List Resource) (labels : Labels) (l : Label) (old new : Names) (finds : Finds rs labels old) (unique : UniquePreferred rs (set.insert labels l)) where
@@ -354,9 +354,9 @@ module _ (rs : List Resource) (labels : Labels) (r : Resource) (tag text : List 
 
 -- All of it, by the calls.
 
-module _ (base : List ℕ) (rs : List Resource) (iris : Iris) (labels : Labels) (old new : Names) (concepts : Lists ℕ) (kept : IsKept base rs iris labels old concepts) where
+module _ (base : List ℕ) (rs : List Resource) (iris : Iris) (labels : Labels) (old new : Names) (concepts : Lists ℕ) (kept : IsConsistent base rs iris labels old concepts) where
   abbrev Same : Type 0
-  Same = IsKept base rs iris labels new concepts
+  Same = IsConsistent base rs iris labels new concepts
 
   kept_finding : Finds rs labels new → Same
   kept_finding finds = record { legal = kept.legal; named = kept.named; found = finds; listed = kept.listed }
@@ -373,7 +373,7 @@ module _ (base : List ℕ) (rs : List Resource) (iris : Iris) (labels : Labels) 
         pub kept_noted : Same
         kept_noted = kept_finding (finds_label_noted rs labels l old new kept.found row_s13.1.1 o at noted)
 
-        pub kept_added : IsKept base rs iris (set.insert labels l) new concepts
+        pub kept_added : IsConsistent base rs iris (set.insert labels l) new concepts
         kept_added = record {
           legal = kept.legal;
           named = labels_added rs labels l can row_s13.0 row_s13.1.0 row_s13.1.1 kept.named;
@@ -381,7 +381,7 @@ module _ (base : List ℕ) (rs : List Resource) (iris : Iris) (labels : Labels) 
           listed = kept.listed;
         }
 
-      pub kept_dropped : unless_dropped labels l accepted None → IsLabelNoted old new o d None → IsKept base rs iris (set.remove labels l) new concepts
+      pub kept_dropped : unless_dropped labels l accepted None → IsLabelNoted old new o d None → IsConsistent base rs iris (set.remove labels l) new concepts
       kept_dropped row noted =
           let there = passed_unless row in
           let leaves = passed_unless there.1 in
@@ -402,7 +402,7 @@ module _ (base : List ℕ) (rs : List Resource) (iris : Iris) (labels : Labels) 
       pub kept_name_noted : Same
       kept_name_noted = kept_finding (finds_name_noted rs labels owner tag text was keep old new kept.found renamed_row.1 o at noted)
 
-      pub kept_renamed : CanOwn rs owner → was ≢ text → (last : Names) → IsNoted new last o tag was None → IsKept base rs iris (renamed owner tag text keep was labels) last concepts
+      pub kept_renamed : CanOwn rs owner → was ≢ text → (last : Names) → IsNoted new last o tag was None → IsConsistent base rs iris (renamed owner tag text keep was labels) last concepts
       kept_renamed can differ last gone = record {
         legal = kept.legal;
         named = labels_renamed rs labels owner tag text keep was kept.named has can renamed_row.0 renamed_row.1;
@@ -414,13 +414,13 @@ module _ (base : List ℕ) (rs : List Resource) (iris : Iris) (labels : Labels) 
     pub kept_new_noted : Same
     kept_new_noted = kept_finding (finds_new_noted rs labels r tag text old new kept.named kept.found free o at noted)
 
-    pub kept_new : length rs + 1 < 2 ^ 32 → (grown : Lists ℕ) → IsAdded concepts grown o (length rs + 1) → IsKept base (rs ++ r ∷ []) iris (set.insert labels (label (length rs + 1) Pref tag text)) new grown
+    pub kept_new : length rs + 1 < 2 ^ 32 → (grown : Lists ℕ) → IsAdded concepts grown o (length rs + 1) → IsConsistent base (rs ++ r ∷ []) iris (set.insert labels (label (length rs + 1) Pref tag text)) new grown
     kept_new few grown added =
         kept_named base rs iris labels new grown r tag text kept.legal kept.named is free few (finds_new rs labels r tag text old new kept.named kept.found free o at noted)
         (listed_made rs r concepts grown o at added kept.listed)
 
 -- The indexes find and list the same as before.
-pub kept_same : (base : List ℕ) (rs : List Resource) (iris : Iris) (labels : Labels) (old new : Names) (was is : Lists ℕ) → IsKept base rs iris labels old was → AreSame old new → lists.AreSame was is → IsKept base rs iris labels new is
+pub kept_same : (base : List ℕ) (rs : List Resource) (iris : Iris) (labels : Labels) (old new : Names) (was is : Lists ℕ) → IsConsistent base rs iris labels old was → AreSameNames old new → lists.AreSame was is → IsConsistent base rs iris labels new is
 kept_same base rs iris labels old new was is kept same listed = record {
   legal = kept.legal;
   named = kept.named;
@@ -434,7 +434,7 @@ free_concept rs labels scheme tag text row s is taken =
     taken_breaks rs labels scheme (concept_resource (Some scheme)) tag text refl refl (subst (λ k. IsTaken rs labels k tag text) (sym (same_Some _ _ is.1)) taken) (passed_unless (passed_unless (passed_unless row).1).1).0
 
 -- Nothing at all.
-pub kept_empty : (base : List ℕ) (names : Names) (concepts : Lists ℕ) → ((s : ℕ) → listed_at concepts s ≡ []) → IsKept base [] dict.empty set.empty names concepts
+pub kept_empty : (base : List ℕ) (names : Names) (concepts : Lists ℕ) → ((s : ℕ) → listed_at concepts s ≡ []) → IsConsistent base [] dict.empty set.empty names concepts
 kept_empty base names concepts bare = record {
   legal = record {
     few = omega arith;
@@ -498,7 +498,7 @@ one_scheme_of rs n (Some s) (Some t) a b = ap Some (one_scheme rs n t s b a.1)
 
 -- The same, where a call knows the vocabulary that its parts are seen as.
 
-module _ (base : List ℕ) (rs : List Resource) (iris : Iris) (labels : Labels) (old new : Names) (concepts : Lists ℕ) (kept : IsKept base rs iris labels old concepts) (v : Vocabulary) (seen : vocabulary base rs iris labels ≡ v) where
+module _ (base : List ℕ) (rs : List Resource) (iris : Iris) (labels : Labels) (old new : Names) (concepts : Lists ℕ) (kept : IsConsistent base rs iris labels old concepts) (v : Vocabulary) (seen : vocabulary base rs iris labels ≡ v) where
   module _ (owner : ℕ) (o : Option ℕ) (xs : List Resource) (same : xs ≡ rs) (at : IsSchemeOf xs owner o) where
     at_owner : IsSchemeOf rs owner o
     at_owner = subst (λ ys. IsSchemeOf ys owner o) same at
@@ -506,10 +506,10 @@ module _ (base : List ℕ) (rs : List Resource) (iris : Iris) (labels : Labels) 
     can_own : CanOwn v.resources owner → CanOwn rs owner
     can_own = subst (λ (w : Vocabulary). CanOwn w.resources owner) (sym seen)
 
-    pub seen_label : (d : LabelData) → CanOwn v.resources owner → unless_label v.labels v.resources (set.insert v.labels (owned owner d)) (owned owner d) accepted None → IsLabelNoted old new o d (Some owner) → (now : Labels) → (now ≡ labels) ⊎ (now ≡ set.insert labels (owned owner d)) → IsKept base rs iris now new concepts
+    pub seen_label : (d : LabelData) → CanOwn v.resources owner → unless_label v.labels v.resources (set.insert v.labels (owned owner d)) (owned owner d) accepted None → IsLabelNoted old new o d (Some owner) → (now : Labels) → (now ≡ labels) ⊎ (now ≡ set.insert labels (owned owner d)) → IsConsistent base rs iris now new concepts
     seen_label d can row noted now is = elim is [
-      | inl e ↦ subst (λ ls. IsKept base rs iris ls new concepts) (sym e) (kept_noted base rs iris labels old new concepts kept owner o at_owner d (can_own can) row_here noted)
-      | inr e ↦ subst (λ ls. IsKept base rs iris ls new concepts) (sym e) (kept_added base rs iris labels old new concepts kept owner o at_owner d (can_own can) row_here noted)
+      | inl e ↦ subst (λ ls. IsConsistent base rs iris ls new concepts) (sym e) (kept_noted base rs iris labels old new concepts kept owner o at_owner d (can_own can) row_here noted)
+      | inr e ↦ subst (λ ls. IsConsistent base rs iris ls new concepts) (sym e) (kept_added base rs iris labels old new concepts kept owner o at_owner d (can_own can) row_here noted)
     ]
       where
         row_here : unless_label labels rs (set.insert labels (owned owner d)) (owned owner d) accepted None
@@ -519,15 +519,15 @@ module _ (base : List ℕ) (rs : List Resource) (iris : Iris) (labels : Labels) 
       row_seen : unless_relabelled labels rs (labels_relabelled owner tag text keep labels) owner tag accepted None
       row_seen = subst (λ (w : Vocabulary). unless_relabelled w.labels w.resources (labels_relabelled owner tag text keep w.labels) owner tag accepted None) (sym seen) row
 
-      pub seen_name_noted : IsKept base rs iris labels new concepts
+      pub seen_name_noted : IsConsistent base rs iris labels new concepts
       seen_name_noted = kept_name_noted base rs iris labels old new concepts kept owner o at_owner tag text was keep has row_seen noted
 
-      pub seen_renamed : CanOwn v.resources owner → was ≢ text → (last : Names) → (p : Option ℕ) → IsSchemeOf xs owner p → IsNoted new last p tag was None → IsKept base rs iris (renamed owner tag text keep was labels) last concepts
+      pub seen_renamed : CanOwn v.resources owner → was ≢ text → (last : Names) → (p : Option ℕ) → IsSchemeOf xs owner p → IsNoted new last p tag was None → IsConsistent base rs iris (renamed owner tag text keep was labels) last concepts
       seen_renamed can differ last p at' gone = kept_renamed base rs iris labels old new concepts kept owner o at_owner tag text was keep has row_seen noted (can_own can) differ last
           (subst (λ q. IsNoted new last q tag was None) (one_scheme_of xs owner p o at' at) gone)
 
   module _ (r : Resource) (tag text : List ℕ) (is : IsNamed v.resources r) (free : IsFree v.resources v.labels r tag text) (o : Option ℕ) (at : MatchOption o ((scheme : ℕ) → IsConceptIn scheme r → ⊥) (λ scheme. IsConceptIn scheme r)) (n : ℕ) (next : n ≡ length rs + 1) (noted : IsNoted old new o tag text (Some n)) (room : Lists ℕ) (roomy : lists.AreSame concepts room) where
-    reserved : IsKept base rs iris labels old room
+    reserved : IsConsistent base rs iris labels old room
     reserved = kept_same base rs iris labels old old concepts room kept (λ s t x. refl) roomy
 
     is_here : IsNamed rs r
@@ -539,16 +539,16 @@ module _ (base : List ℕ) (rs : List Resource) (iris : Iris) (labels : Labels) 
     noted_here : IsNoted old new o tag text (Some (length rs + 1))
     noted_here = subst (λ k. IsNoted old new o tag text (Some k)) next noted
 
-    pub seen_new_noted : IsKept base rs iris labels new room
+    pub seen_new_noted : IsConsistent base rs iris labels new room
     seen_new_noted = kept_new_noted base rs iris labels old new room reserved r tag text is_here free_here o at noted_here
 
-    pub seen_new : length v.resources + 1 < 2 ^ 32 → (grown : Lists ℕ) → IsAdded room grown o n → IsKept base (rs ++ r ∷ []) iris (set.insert labels (label n Pref tag text)) new grown
-    seen_new few grown added = subst (λ k. IsKept base (rs ++ r ∷ []) iris (set.insert labels (label k Pref tag text)) new grown) (sym next)
+    pub seen_new : length v.resources + 1 < 2 ^ 32 → (grown : Lists ℕ) → IsAdded room grown o n → IsConsistent base (rs ++ r ∷ []) iris (set.insert labels (label n Pref tag text)) new grown
+    seen_new few grown added = subst (λ k. IsConsistent base (rs ++ r ∷ []) iris (set.insert labels (label k Pref tag text)) new grown) (sym next)
         (kept_new base rs iris labels old new room reserved r tag text is_here free_here o at noted_here
         (subst (λ (w : Vocabulary). length w.resources + 1 < 2 ^ 32) (sym seen) few) grown (subst (IsAdded room grown o) next added))
 
 -- The target of a merge takes names.
-pub kept_merged : (base : List ℕ) (rs : List Resource) (iris : Iris) (labels : Labels) (names : Names) (concepts : Lists ℕ) (source target : ℕ) → IsKept base rs iris labels names concepts → IsLiveConcept rs target → IsKept base rs iris (set.union labels (taken_labels source target labels)) names concepts
+pub kept_merged : (base : List ℕ) (rs : List Resource) (iris : Iris) (labels : Labels) (names : Names) (concepts : Lists ℕ) (source target : ℕ) → IsConsistent base rs iris labels names concepts → IsLiveConcept rs target → IsConsistent base rs iris (set.union labels (taken_labels source target labels)) names concepts
 kept_merged base rs iris labels names concepts source target kept live = record {
   legal = kept.legal;
   named = labels_merged rs labels source target kept.named (inr (inl (concept_of_live rs target live)));

@@ -11,7 +11,7 @@ use Rattle.std.specs.Option.{IsSome}
 use Rattle.std.specs.Map.{lookup}
 use Rattle.std.proofs.lemmas.Cmp.{nat_list_cmp_total}
 use Rattle.std.proofs.lemmas.Map.Lookups.{exact_unsigned, exact_bytes}
-use Rattle.thes_vocab.specs.Named.{ByText, ByTag, text_holder, tag_holder, IsPut, AreSame, IsTagPut, AreSameTags}
+use Rattle.thes_vocab.specs.Named.{ByText, ByTag, text_holder, tag_holder, IsPut, AreSameNames, IsTagPut, AreSameTags}
 
 module _ {K : Type 0} (R : K → K → Ordering) (o : IsTotalOrder R) (exact : (x y : K) → R x y ≡ Equal → x ≡ y) where
   untied : (key q : K) → (q ≡ key → ⊥) → is_at (R key) q ≡ false
@@ -115,7 +115,7 @@ module _ (alloc : Global) (old new : Schemes) (scheme : ℕ) (was now : ByTag) (
       (λ p apart. put.1 p.0 p.1 apart ∙ sym (before p.0 p.1)) in
       (all.0, λ s t x apart. all.1 s (t, x) (λ h. apart (h.0, h.1.0, h.1.1)))
 
-  pub scheme_kept : AreSameTags was now → AreSame (record { alloc = alloc; schemes = old }) (record { alloc = alloc; schemes = new })
+  pub scheme_kept : AreSameTags was now → AreSameNames (record { alloc = alloc; schemes = old }) (record { alloc = alloc; schemes = new })
   scheme_kept same s t x = kept_found nat_cmp nat_cmp_total exact_unsigned (λ (tags : ByTag) (p : List ℕ × List ℕ). tag_holder tags p.0 p.1) old new scheme now set (λ p. same p.0 p.1 ∙ sym (before p.0 p.1)) s (t, x)
 
 -- Nothing is found in an empty map.

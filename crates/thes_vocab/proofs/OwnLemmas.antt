@@ -26,7 +26,7 @@ use Rattle.thes_base.specs.Labels.{label_kind_no}
 use Rattle.thes_base.specs.Machine.{owned}
 use Rattle.thes_base.proofs.LabelSets.{labels_exact}
 use Rattle.thes_vocab.specs.LabelData.{language_cmp, data_cmp, own_label, has_own, HasPreferred, HasNoPreferred, HasTwo}
-use Rattle.thes_vocab.specs.Places.{IsPlace, IsPreferredAt}
+use Rattle.thes_vocab.specs.Places.{IsLabelPlace, IsPreferredAt}
 use Rattle.thes_lists.proofs.OrderLemmas.{rising, insert_missing, insert_found, insert_sorted, remove_found, remove_missing, remove_sorted}
 use Rattle.thes_lists.proofs.TestLemmas.{has_found, has_missed, has_insert, has_remove}
 
@@ -52,39 +52,39 @@ pub ties : (x y : LabelData) → x ≡ y → eq_by_cmp data_cmp x y ≡ true
 ties x y e = ap (λ z. eq_by_cmp data_cmp x z) (sym e) ∙ ap is_eq (tied_itself data_total x)
 
 -- what a binary search answers
-pub searched : (own : List LabelData) (l : LabelData) (r : Result ℕ ℕ) → IsStrictlySortedBy data_cmp own → IsSearchInRange r (length own) → IsBinarySearchResult (λ x. data_cmp x l) own r → IsPlace own l r
+pub searched : (own : List LabelData) (l : LabelData) (r : Result ℕ ℕ) → IsStrictlySortedBy data_cmp own → IsSearchInRange r (length own) → IsBinarySearchResult (λ x. data_cmp x l) own r → IsLabelPlace own l r
 searched own l (Ok i) sorted bound found = (bound, found)
 searched own l (Err i) sorted bound found = (bound, found (rising data_cmp data_total own l sorted))
 
-pub found_is : (own : List LabelData) (l : LabelData) (r : Result ℕ ℕ) → IsPlace own l r → is_ok r ≡ has_own own l
+pub found_is : (own : List LabelData) (l : LabelData) (r : Result ℕ ℕ) → IsLabelPlace own l r → is_ok r ≡ has_own own l
 found_is own l (Ok i) at = sym (has_found data_cmp data_total own i l at.0 at.1)
 found_is own l (Err i) at = sym (has_missed data_cmp data_total own i l at.1 at.0)
 
 -- A label comes.
 
-pub insert_is : (own : List LabelData) (l : LabelData) (i : ℕ) → IsPlace own l (Err i) → insert own i l ≡ insert_key data_cmp own l
+pub insert_is : (own : List LabelData) (l : LabelData) (i : ℕ) → IsLabelPlace own l (Err i) → insert own i l ≡ insert_key data_cmp own l
 insert_is own l i at = insert_missing data_cmp data_total own i l at.0 at.1
 
-pub sorted_insert : (own : List LabelData) (l : LabelData) (i : ℕ) → IsPlace own l (Err i) → IsStrictlySortedBy data_cmp own → IsStrictlySortedBy data_cmp (insert own i l)
+pub sorted_insert : (own : List LabelData) (l : LabelData) (i : ℕ) → IsLabelPlace own l (Err i) → IsStrictlySortedBy data_cmp own → IsStrictlySortedBy data_cmp (insert own i l)
 sorted_insert own l i at sorted = subst (IsStrictlySortedBy data_cmp) (sym (insert_is own l i at)) (insert_sorted data_cmp data_total own l sorted)
 
-pub has_inserted : (own : List LabelData) (l : LabelData) (i : ℕ) → IsPlace own l (Err i) → (q : LabelData) → has_own (insert own i l) q ≡ (eq_by_cmp data_cmp q l || has_own own q)
+pub has_inserted : (own : List LabelData) (l : LabelData) (i : ℕ) → IsLabelPlace own l (Err i) → (q : LabelData) → has_own (insert own i l) q ≡ (eq_by_cmp data_cmp q l || has_own own q)
 has_inserted own l i at q = ap (λ xs. has_own xs q) (insert_is own l i at) ∙ has_insert data_cmp data_total own l q
 
 -- one that is there makes no change
-pub has_again : (own : List LabelData) (l : LabelData) (i : ℕ) → IsStrictlySortedBy data_cmp own → IsPlace own l (Ok i) → (q : LabelData) → has_own own q ≡ (eq_by_cmp data_cmp q l || has_own own q)
+pub has_again : (own : List LabelData) (l : LabelData) (i : ℕ) → IsStrictlySortedBy data_cmp own → IsLabelPlace own l (Ok i) → (q : LabelData) → has_own own q ≡ (eq_by_cmp data_cmp q l || has_own own q)
 has_again own l i sorted at q = ap (λ xs. has_own xs q) (sym (insert_found data_cmp data_total own i l at.0 sorted at.1)) ∙ has_insert data_cmp data_total own l q
 
 -- A label goes.
 
-pub remove_is : (own : List LabelData) (l : LabelData) (r : Result ℕ ℕ) → IsStrictlySortedBy data_cmp own → IsPlace own l r → elim r [ Ok i ↦ remove own i | Err i ↦ own ] ≡ remove_key (is_at (data_cmp l)) own
+pub remove_is : (own : List LabelData) (l : LabelData) (r : Result ℕ ℕ) → IsStrictlySortedBy data_cmp own → IsLabelPlace own l r → elim r [ Ok i ↦ remove own i | Err i ↦ own ] ≡ remove_key (is_at (data_cmp l)) own
 remove_is own l (Ok i) sorted at = remove_found data_cmp data_total own i l at.0 sorted at.1
 remove_is own l (Err i) sorted at = sym (remove_missing data_cmp data_total own i l at.1)
 
-pub sorted_remove : (own : List LabelData) (l : LabelData) (i : ℕ) → IsPlace own l (Ok i) → IsStrictlySortedBy data_cmp own → IsStrictlySortedBy data_cmp (remove own i)
+pub sorted_remove : (own : List LabelData) (l : LabelData) (i : ℕ) → IsLabelPlace own l (Ok i) → IsStrictlySortedBy data_cmp own → IsStrictlySortedBy data_cmp (remove own i)
 sorted_remove own l i at sorted = subst (IsStrictlySortedBy data_cmp) (sym (remove_is own l (Ok i) sorted at)) (remove_sorted data_cmp data_total own (is_at (data_cmp l)) sorted)
 
-pub has_removed : (own : List LabelData) (l : LabelData) (r : Result ℕ ℕ) → IsStrictlySortedBy data_cmp own → IsPlace own l r → (q : LabelData) → has_own (elim r [ Ok i ↦ remove own i | Err i ↦ own ]) q ≡ (not (eq_by_cmp data_cmp q l) && has_own own q)
+pub has_removed : (own : List LabelData) (l : LabelData) (r : Result ℕ ℕ) → IsStrictlySortedBy data_cmp own → IsLabelPlace own l r → (q : LabelData) → has_own (elim r [ Ok i ↦ remove own i | Err i ↦ own ]) q ≡ (not (eq_by_cmp data_cmp q l) && has_own own q)
 has_removed own l r sorted at q = ap (λ xs. has_own xs q) (remove_is own l r sorted at) ∙ has_remove data_cmp data_total own l q sorted
 
 -- Preferred labels.

@@ -22,7 +22,7 @@ use Rattle.thes_base.specs.Machine.{owned}
 use Rattle.thes_base.proofs.LabelSets.{labels_total, labels_exact}
 use Rattle.thes_vocab.specs.LabelData.{data_cmp, own_label, has_own, HasNoPreferred, HasTwo}
 use Rattle.thes_vocab.specs.Rivals.{HasTwoPreferred}
-use Rattle.thes_vocab.specs.LabelRows.{all_owned, labels_in, row_of, AreRows, Owns, OwnsNone, IsLabelPut, IsLabelDropped, AreSame}
+use Rattle.thes_vocab.specs.LabelRows.{all_owned, labels_in, owner_row, AreRows, Owns, OwnsNone, IsLabelPut, IsLabelDropped, AreSameRows}
 
 then_eq : (r s : Ordering) → is_eq (ordering_then r s) ≡ (is_eq r && is_eq s)
 then_eq Less s = refl
@@ -95,11 +95,11 @@ found_in owner l (e ∷ es) sorted = go (found_in owner l es sorted.1) (eq_by_cm
     go rest false tie = rest
 
 -- what the set has, a row has
-pub has_label : (rows : BTreeMap ℕ (List LabelData)) → IsOrdered nat_cmp rows → (q : Label) → set.contains (labels_in rows.entries) q ≡ has_own (row_of rows q.owner) (data_of q)
+pub has_label : (rows : BTreeMap ℕ (List LabelData)) → IsOrdered nat_cmp rows → (q : Label) → set.contains (labels_in rows.entries) q ≡ has_own (owner_row rows q.owner) (data_of q)
 has_label rows ordered q = set.contains-from_list labels_total (all_owned rows.entries) q ∙ any_owned q rows.entries ∙ found_in q.owner (data_of q) rows.entries ordered
 
 -- rows that hold the same hold one set
-pub same_labels : (old new : BTreeMap ℕ (List LabelData)) → IsOrdered nat_cmp old → IsOrdered nat_cmp new → AreSame old new → labels_in new.entries ≡ labels_in old.entries
+pub same_labels : (old new : BTreeMap ℕ (List LabelData)) → IsOrdered nat_cmp old → IsOrdered nat_cmp new → AreSameRows old new → labels_in new.entries ≡ labels_in old.entries
 same_labels old new o n same = set.same_set labels_total labels_exact _ _ (λ q. has_label new n q ∙ ap (λ row. has_own row (data_of q)) (same q.owner) ∙ sym (has_label old o q))
 
 pub put_labels : (old new : BTreeMap ℕ (List LabelData)) (owner : ℕ) (l : LabelData) → IsOrdered nat_cmp old → IsOrdered nat_cmp new → IsLabelPut old new owner l → labels_in new.entries ≡ set.insert (labels_in old.entries) (owned owner l)
@@ -135,33 +135,33 @@ written old new owner was now w e = turned old new owner now (w.3 (subst (λ o. 
 pub inserted : (old new : BTreeMap ℕ (List LabelData)) (owner : ℕ) (now : List LabelData) → Updates nat_cmp old new owner (Some now) → IsWritten old new owner now
 inserted old new owner now u = turned old new owner now u.0
 
-pub row_after : (old new : BTreeMap ℕ (List LabelData)) (owner : ℕ) (now : List LabelData) → IsWritten old new owner now → (n : ℕ) → row_of new n ≡ cond (eq_by_cmp nat_cmp n owner) now (row_of old n)
+pub row_after : (old new : BTreeMap ℕ (List LabelData)) (owner : ℕ) (now : List LabelData) → IsWritten old new owner now → (n : ℕ) → owner_row new n ≡ cond (eq_by_cmp nat_cmp n owner) now (owner_row old n)
 row_after old new owner now w n = ap (λ o. unwrap_or o []) (w n) ∙ go (eq_by_cmp nat_cmp n owner)
   where
-    go : (b : Bool) → unwrap_or (cond b (Some now) (get nat_cmp old n)) [] ≡ cond b now (row_of old n)
+    go : (b : Bool) → unwrap_or (cond b (Some now) (get nat_cmp old n)) [] ≡ cond b now (owner_row old n)
     go true = refl
     go false = refl
 
-pub row_put : (old new : BTreeMap ℕ (List LabelData)) (owner : ℕ) (now : List LabelData) (l : LabelData) → IsWritten old new owner now → ((q : LabelData) → has_own now q ≡ (eq_by_cmp data_cmp q l || has_own (row_of old owner) q)) → IsLabelPut old new owner l
+pub row_put : (old new : BTreeMap ℕ (List LabelData)) (owner : ℕ) (now : List LabelData) (l : LabelData) → IsWritten old new owner now → ((q : LabelData) → has_own now q ≡ (eq_by_cmp data_cmp q l || has_own (owner_row old owner) q)) → IsLabelPut old new owner l
 row_put old new owner now l w each n q = ap (λ row. has_own row q) (row_after old new owner now w n) ∙ go (eq_by_cmp nat_cmp n owner) refl
   where
-    go : (b : Bool) → eq_by_cmp nat_cmp n owner ≡ b → has_own (cond b now (row_of old n)) q ≡ ((b && eq_by_cmp data_cmp q l) || has_own (row_of old n) q)
-    go true tie = each q ∙ ap (λ k. eq_by_cmp data_cmp q l || has_own (row_of old k) q) (sym (exact_unsigned n owner ((Equal-is (nat_cmp n owner)).0 tie)))
+    go : (b : Bool) → eq_by_cmp nat_cmp n owner ≡ b → has_own (cond b now (owner_row old n)) q ≡ ((b && eq_by_cmp data_cmp q l) || has_own (owner_row old n) q)
+    go true tie = each q ∙ ap (λ k. eq_by_cmp data_cmp q l || has_own (owner_row old k) q) (sym (exact_unsigned n owner ((Equal-is (nat_cmp n owner)).0 tie)))
     go false tie = refl
 
-pub row_taken : (old new : BTreeMap ℕ (List LabelData)) (owner : ℕ) (now : List LabelData) (l : LabelData) → IsWritten old new owner now → ((q : LabelData) → has_own now q ≡ (not (eq_by_cmp data_cmp q l) && has_own (row_of old owner) q)) → IsLabelDropped old new owner l
+pub row_taken : (old new : BTreeMap ℕ (List LabelData)) (owner : ℕ) (now : List LabelData) (l : LabelData) → IsWritten old new owner now → ((q : LabelData) → has_own now q ≡ (not (eq_by_cmp data_cmp q l) && has_own (owner_row old owner) q)) → IsLabelDropped old new owner l
 row_taken old new owner now l w each n q = ap (λ row. has_own row q) (row_after old new owner now w n) ∙ go (eq_by_cmp nat_cmp n owner) refl
   where
-    go : (b : Bool) → eq_by_cmp nat_cmp n owner ≡ b → has_own (cond b now (row_of old n)) q ≡ (not (b && eq_by_cmp data_cmp q l) && has_own (row_of old n) q)
-    go true tie = each q ∙ ap (λ k. not (eq_by_cmp data_cmp q l) && has_own (row_of old k) q) (sym (exact_unsigned n owner ((Equal-is (nat_cmp n owner)).0 tie)))
+    go : (b : Bool) → eq_by_cmp nat_cmp n owner ≡ b → has_own (cond b now (owner_row old n)) q ≡ (not (b && eq_by_cmp data_cmp q l) && has_own (owner_row old n) q)
+    go true tie = each q ∙ ap (λ k. not (eq_by_cmp data_cmp q l) && has_own (owner_row old k) q) (sym (exact_unsigned n owner ((Equal-is (nat_cmp n owner)).0 tie)))
     go false tie = refl
 
 -- a row that is written as it was
-pub row_kept : (old new : BTreeMap ℕ (List LabelData)) (owner : ℕ) (now : List LabelData) → IsWritten old new owner now → now ≡ row_of old owner → AreSame old new
+pub row_kept : (old new : BTreeMap ℕ (List LabelData)) (owner : ℕ) (now : List LabelData) → IsWritten old new owner now → now ≡ owner_row old owner → AreSameRows old new
 row_kept old new owner now w same n = row_after old new owner now w n ∙ go (eq_by_cmp nat_cmp n owner) refl
   where
-    go : (b : Bool) → eq_by_cmp nat_cmp n owner ≡ b → cond b now (row_of old n) ≡ row_of old n
-    go true tie = same ∙ ap (row_of old) (sym (exact_unsigned n owner ((Equal-is (nat_cmp n owner)).0 tie)))
+    go : (b : Bool) → eq_by_cmp nat_cmp n owner ≡ b → cond b now (owner_row old n) ≡ owner_row old n
+    go true tie = same ∙ ap (owner_row old) (sym (exact_unsigned n owner ((Equal-is (nat_cmp n owner)).0 tie)))
     go false tie = refl
 
 -- Preferred labels.
@@ -199,25 +199,25 @@ none_preferred labels owner tag text none has = let e = none (own_label Pref tag
 
 -- Rows and their count.
 
-pub rows_same : (old new : BTreeMap ℕ (List LabelData)) (count : ℕ) → AreRows old count → IsOrdered nat_cmp new → AreSame old new → AreRows new count
+pub rows_same : (old new : BTreeMap ℕ (List LabelData)) (count : ℕ) → AreRows old count → IsOrdered nat_cmp new → AreSameRows old new → AreRows new count
 rows_same old new count rows ordered same = record { ordered = ordered; counted = rows.counted ∙ ap set.len (sym (same_labels old new rows.ordered ordered same)) }
 
 module _ (old new : BTreeMap ℕ (List LabelData)) (count owner : ℕ) (l : LabelData) (rows : AreRows old count) (ordered : IsOrdered nat_cmp new) where
-  was_there : set.contains (labels_in old.entries) (owned owner l) ≡ has_own (row_of old owner) l
+  was_there : set.contains (labels_in old.entries) (owned owner l) ≡ has_own (owner_row old owner) l
   was_there = has_label old rows.ordered (owned owner l)
 
-  pub rows_put : IsLabelPut old new owner l → (added : Bool) → added ≡ not (has_own (row_of old owner) l) → AreRows new (cond added (count + 1) count)
-  rows_put is added e = record { ordered = ordered; counted = go (has_own (row_of old owner) l) refl ∙ sym after }
+  pub rows_put : IsLabelPut old new owner l → (added : Bool) → added ≡ not (has_own (owner_row old owner) l) → AreRows new (cond added (count + 1) count)
+  rows_put is added e = record { ordered = ordered; counted = go (has_own (owner_row old owner) l) refl ∙ sym after }
     where
-      after : set.len (labels_in new.entries) ≡ cond (has_own (row_of old owner) l) (set.len (labels_in old.entries)) (set.len (labels_in old.entries) + 1)
+      after : set.len (labels_in new.entries) ≡ cond (has_own (owner_row old owner) l) (set.len (labels_in old.entries)) (set.len (labels_in old.entries) + 1)
       after = ap set.len (put_labels old new owner l rows.ordered ordered is) ∙ set.len-insert labels_total (labels_in old.entries) (owned owner l)
           ∙ ap (λ b. cond b (set.len (labels_in old.entries)) (set.len (labels_in old.entries) + 1)) was_there
 
-      go : (b : Bool) → has_own (row_of old owner) l ≡ b → cond added (count + 1) count ≡ cond b (set.len (labels_in old.entries)) (set.len (labels_in old.entries) + 1)
+      go : (b : Bool) → has_own (owner_row old owner) l ≡ b → cond added (count + 1) count ≡ cond b (set.len (labels_in old.entries)) (set.len (labels_in old.entries) + 1)
       go true h = ap (λ a. cond a (count + 1) count) (e ∙ ap not h) ∙ rows.counted
       go false h = ap (λ a. cond a (count + 1) count) (e ∙ ap not h) ∙ ap (λ n. n + 1) rows.counted
 
-  pub rows_taken : IsLabelDropped old new owner l → (taken : Bool) → taken ≡ has_own (row_of old owner) l → AreRows new (cond taken (count - 1) count)
+  pub rows_taken : IsLabelDropped old new owner l → (taken : Bool) → taken ≡ has_own (owner_row old owner) l → AreRows new (cond taken (count - 1) count)
   rows_taken is taken e = record {
     ordered = ordered;
     counted = ap (λ n. cond taken (n - 1) n) rows.counted
@@ -226,7 +226,7 @@ module _ (old new : BTreeMap ℕ (List LabelData)) (count owner : ℕ) (l : Labe
   }
 
 -- a label that is there is counted
-pub counted_one : (rows : BTreeMap ℕ (List LabelData)) (count owner : ℕ) (l : LabelData) → AreRows rows count → has_own (row_of rows owner) l ≡ true → 1 ≤ count
+pub counted_one : (rows : BTreeMap ℕ (List LabelData)) (count owner : ℕ) (l : LabelData) → AreRows rows count → has_own (owner_row rows owner) l ≡ true → 1 ≤ count
 counted_one rows count owner l is has = go count refl
   where
     go : (n : ℕ) → count ≡ n → 1 ≤ count

@@ -23,7 +23,7 @@ use Rattle.thes_base.proofs.ResourceLemmas.{left_true, right_true}
 use Rattle.std.proofs.lemmas.Bool.{cases_Bool, not-true}
 use Rattle.thes_vocab.specs.LabelData.{data_cmp, own_label, has_own, AreLabelsOf}
 use Rattle.thes_vocab.specs.Taken.{takes, takes_own, taken, gives}
-use Rattle.thes_vocab.specs.LabelRows.{Owns, labels_in, row_of, IsMerged}
+use Rattle.thes_vocab.specs.LabelRows.{Owns, labels_in, owner_row, IsMerged}
 use Rattle.thes_vocab.proofs.OwnLemmas.{data_total, tied, ties}
 use Rattle.thes_vocab.proofs.TableLemmas.{data_of, owned_tie, has_label, IsWritten, row_after, or_false, and_or, and_false}
 
@@ -276,18 +276,18 @@ module _ (labels : Labels) (source target : ℕ) (s13 : S13 labels) where
 pub union_rows : (old new : BTreeMap ℕ (List LabelData)) (source target : ℕ) (row : List LabelData) → IsOrdered nat_cmp old → IsOrdered nat_cmp new → IsWritten old new target row → IsMerged old source target row → labels_in new.entries ≡ set.union (labels_in old.entries) (taken_labels source target (labels_in old.entries))
 union_rows old new source target row o n written merged = set.same_set labels_total labels_exact _ _ (λ q.
     has_label new n q ∙ ap (λ r. has_own r (data_of q)) (row_after old new target row written q.owner) ∙ at q (eq_by_cmp nat_cmp q.owner target) refl
-    ∙ sym (union_contains (labels_in old.entries) source target (row_of old source) (owns source) q))
+    ∙ sym (union_contains (labels_in old.entries) source target (owner_row old source) (owns source) q))
   where
-    owns : (n : ℕ) → Owns (labels_in old.entries) n (row_of old n)
+    owns : (n : ℕ) → Owns (labels_in old.entries) n (owner_row old n)
     owns n l = sym (has_label old o (owned n l))
 
     at : (q : Label) (b : Bool) → eq_by_cmp nat_cmp q.owner target ≡ b
-        → has_own (cond b row (row_of old q.owner)) (data_of q) ≡ (set.contains (labels_in old.entries) q || (eq_by_cmp nat_cmp q.owner target && list_any (λ d. takes (labels_in old.entries) target d && eq_by_cmp data_cmp (data_of q) (taken d)) (row_of old source)))
+        → has_own (cond b row (owner_row old q.owner)) (data_of q) ≡ (set.contains (labels_in old.entries) q || (eq_by_cmp nat_cmp q.owner target && list_any (λ d. takes (labels_in old.entries) target d && eq_by_cmp data_cmp (data_of q) (taken d)) (owner_row old source)))
     at q true tie =
         let here = exact_unsigned q.owner target ((Equal-is (nat_cmp q.owner target)).0 tie) in
         merged (data_of q)
-        ∙ (λ i. (ap (λ k. has_own (row_of old k) (data_of q)) (sym here) ∙ sym (has_label old o q)) i || gives_is (labels_in old.entries) target (row_of old target) (owns target) (row_of old source) (data_of q) i)
-        ∙ ap (λ b. set.contains (labels_in old.entries) q || (b && list_any (λ d. takes (labels_in old.entries) target d && eq_by_cmp data_cmp (data_of q) (taken d)) (row_of old source))) (sym tie)
+        ∙ (λ i. (ap (λ k. has_own (owner_row old k) (data_of q)) (sym here) ∙ sym (has_label old o q)) i || gives_is (labels_in old.entries) target (owner_row old target) (owns target) (owner_row old source) (data_of q) i)
+        ∙ ap (λ b. set.contains (labels_in old.entries) q || (b && list_any (λ d. takes (labels_in old.entries) target d && eq_by_cmp data_cmp (data_of q) (taken d)) (owner_row old source))) (sym tie)
     at q false apart =
         sym (has_label old o q) ∙ sym (or_false (set.contains (labels_in old.entries) q))
-        ∙ ap (λ b. set.contains (labels_in old.entries) q || (b && list_any (λ d. takes (labels_in old.entries) target d && eq_by_cmp data_cmp (data_of q) (taken d)) (row_of old source))) (sym apart)
+        ∙ ap (λ b. set.contains (labels_in old.entries) q || (b && list_any (λ d. takes (labels_in old.entries) target d && eq_by_cmp data_cmp (data_of q) (taken d)) (owner_row old source))) (sym apart)

@@ -13,8 +13,10 @@ use Rattle.thes_lists.specs.Lists.{AreListings}
 
 -- Resources and labels are legal, the holder of each preferred label is found, and the live concepts of each scheme are
 -- listed.
-pub record IsKept (base : List ℕ) (resources : List Resource) (iris : Iris) (labels : Labels) (names : Names) (concepts : Lists ℕ) : Type 0 where
+pub record IsConsistent (base : List ℕ) (resources : List Resource) (iris : Iris) (labels : Labels)
+    (names : Names) (concepts : Lists ℕ) : Type 0 where
   pub legal : LegalResources base resources iris
   pub named : LegalLabels resources labels
-  pub found : (scheme n : ℕ) (tag text : List ℕ) → IsHolder resources labels scheme tag text n → holder_in names scheme tag text ≡ Some n
+  pub found : (scheme n : ℕ) (tag text : List ℕ) → IsHolder resources labels scheme tag text n →
+      holder_in names scheme tag text ≡ Some n
   pub listed : AreListings nat_cmp (IsConceptOf resources) concepts

@@ -18,8 +18,8 @@ abbrev pub labels_in : List (ℕ × List LabelData) → Labels
 labels_in rows = set.from_list (all_owned rows)
 
 -- the owner's row, or none
-abbrev pub row_of : BTreeMap ℕ (List LabelData) → ℕ → List LabelData
-row_of rows owner = unwrap_or (get nat_cmp rows owner) []
+abbrev pub owner_row : BTreeMap ℕ (List LabelData) → ℕ → List LabelData
+owner_row rows owner = unwrap_or (get nat_cmp rows owner) []
 
 -- the row has just the owner's labels
 abbrev pub Owns : Labels → ℕ → List LabelData → Type 0
@@ -31,19 +31,19 @@ OwnsNone labels owner = (l : LabelData) → set.contains labels (owned owner l) 
 -- the rows with one more label, and with one less
 abbrev pub IsLabelPut : BTreeMap ℕ (List LabelData) → BTreeMap ℕ (List LabelData) → ℕ → LabelData → Type 0
 IsLabelPut old new owner l = (n : ℕ) (q : LabelData) →
-    has_own (row_of new n) q ≡ ((eq_by_cmp nat_cmp n owner && eq_by_cmp data_cmp q l) || has_own (row_of old n) q)
+    has_own (owner_row new n) q ≡ ((eq_by_cmp nat_cmp n owner && eq_by_cmp data_cmp q l) || has_own (owner_row old n) q)
 
 abbrev pub IsLabelDropped : BTreeMap ℕ (List LabelData) → BTreeMap ℕ (List LabelData) → ℕ → LabelData → Type 0
 IsLabelDropped old new owner l = (n : ℕ) (q : LabelData) →
-    has_own (row_of new n) q ≡ (not (eq_by_cmp nat_cmp n owner && eq_by_cmp data_cmp q l) && has_own (row_of old n) q)
+    has_own (owner_row new n) q ≡ (not (eq_by_cmp nat_cmp n owner && eq_by_cmp data_cmp q l) && has_own (owner_row old n) q)
 
 -- the target's row with the names that it takes from the source
 abbrev pub IsMerged : BTreeMap ℕ (List LabelData) → ℕ → ℕ → List LabelData → Type 0
 IsMerged rows source target row = (l : LabelData) →
-    has_own row l ≡ (has_own (row_of rows target) l || gives (row_of rows source) (row_of rows target) l)
+    has_own row l ≡ (has_own (owner_row rows target) l || gives (owner_row rows source) (owner_row rows target) l)
 
-abbrev pub AreSame : BTreeMap ℕ (List LabelData) → BTreeMap ℕ (List LabelData) → Type 0
-AreSame old new = (n : ℕ) → row_of new n ≡ row_of old n
+abbrev pub AreSameRows : BTreeMap ℕ (List LabelData) → BTreeMap ℕ (List LabelData) → Type 0
+AreSameRows old new = (n : ℕ) → owner_row new n ≡ owner_row old n
 
 -- Each owner has one row, and the labels are counted.
 pub record AreRows (rows : BTreeMap ℕ (List LabelData)) (count : ℕ) : Type 0 where

@@ -5,11 +5,11 @@ use Rattle.std.specs.BTreeMap.{is_at}
 use Rattle.std.specs.BTreeSet.{insert_key}
 use Rattle.std.specs.Set.{remove_key}
 use Rattle.thes_lists.specs.declared.lists.Lists.{Lists}
-use Rattle.thes_lists.specs.Lists.{listed_at, HasRoom, AreSame, ChangesAt}
+use Rattle.thes_lists.specs.Lists.{listed_at, HasSpare, AreSame, ChangesAt}
 
 abbrev pub HasRoomIn : Lists ℕ → Option ℕ → Type 0
 HasRoomIn concepts None = Unit {0}
-HasRoomIn concepts (Some scheme) = HasRoom concepts scheme
+HasRoomIn concepts (Some scheme) = HasSpare concepts scheme
 
 -- its list has the number, too
 abbrev pub IsAdded : Lists ℕ → Lists ℕ → Option ℕ → ℕ → Type 0

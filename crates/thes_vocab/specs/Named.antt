@@ -37,20 +37,20 @@ IsPut old new scheme tag text holder =
     (holder_in new scheme tag text ≡ holder)
     × ((s : ℕ) (t x : List ℕ) → ((s ≡ scheme) × (t ≡ tag) × (x ≡ text) → ⊥) → holder_in new s t x ≡ holder_in old s t x)
 
-abbrev pub AreSame : Names → Names → Type 0
-AreSame old new = (scheme : ℕ) (tag text : List ℕ) → holder_in new scheme tag text ≡ holder_in old scheme tag text
+abbrev pub AreSameNames : Names → Names → Type 0
+AreSameNames old new = (scheme : ℕ) (tag text : List ℕ) → holder_in new scheme tag text ≡ holder_in old scheme tag text
 
 -- the same in a scheme, if there is one
 abbrev pub IsNoted : Names → Names → Option ℕ → List ℕ → List ℕ → Option ℕ → Type 0
-IsNoted old new None tag text holder = AreSame old new
+IsNoted old new None tag text holder = AreSameNames old new
 IsNoted old new (Some scheme) tag text holder = IsPut old new scheme tag text holder
 
 -- and of a label, if it is a preferred one
 abbrev pub IsKindNoted : LabelKind → Names → Names → Option ℕ → LabelData → Option ℕ → Type 0
 IsKindNoted Pref old new scheme l holder = IsNoted old new scheme l.tag l.text holder
-IsKindNoted Alt old new scheme l holder = AreSame old new
-IsKindNoted Hidden old new scheme l holder = AreSame old new
-IsKindNoted Scope old new scheme l holder = AreSame old new
+IsKindNoted Alt old new scheme l holder = AreSameNames old new
+IsKindNoted Hidden old new scheme l holder = AreSameNames old new
+IsKindNoted Scope old new scheme l holder = AreSameNames old new
 
 abbrev pub IsLabelNoted : Names → Names → Option ℕ → LabelData → Option ℕ → Type 0
 IsLabelNoted old new scheme l holder = IsKindNoted l.kind old new scheme l holder

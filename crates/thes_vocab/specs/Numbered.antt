@@ -10,6 +10,6 @@ abbrev pub iris_in : List (ℕ × List ℕ) → Iris
 iris_in entries = dict.from_entries entries
 
 -- each IRI is found by its number, and each number by its IRI
-pub record AreTied (iris : Iris) (numbers : BTreeMap (List ℕ) ℕ) : Type 0 where
+pub record AreInverse (iris : Iris) (numbers : BTreeMap (List ℕ) ℕ) : Type 0 where
   pub number : (n : ℕ) (iri : List ℕ) → dict.get iris n ≡ Some iri → get (slice_cmp nat_cmp) numbers iri ≡ Some n
   pub iri : (n : ℕ) (iri : List ℕ) → get (slice_cmp nat_cmp) numbers iri ≡ Some n → dict.get iris n ≡ Some iri

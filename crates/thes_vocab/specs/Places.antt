@@ -8,9 +8,9 @@ use Rattle.thes_base.specs.Data.{LabelData}
 use Rattle.thes_vocab.specs.LabelData.{data_cmp}
 
 -- the label stands at the place, or else those before the place come before it, and those from there on after it
-abbrev pub IsPlace : List LabelData → LabelData → Result ℕ ℕ → Type 0
-IsPlace own l (Ok place) = (place < length own) × HoldsAt (λ x. data_cmp x l ≡ Equal) own place
-IsPlace own l (Err place) = (place ≤ length own) × IsPartitionPoint (λ x. data_cmp x l ≡ Less) (λ x. data_cmp x l ≡ Greater) own place
+abbrev pub IsLabelPlace : List LabelData → LabelData → Result ℕ ℕ → Type 0
+IsLabelPlace own l (Ok place) = (place < length own) × HoldsAt (λ x. data_cmp x l ≡ Equal) own place
+IsLabelPlace own l (Err place) = (place ≤ length own) × IsPartitionPoint (λ x. data_cmp x l ≡ Less) (λ x. data_cmp x l ≡ Greater) own place
 
 -- a preferred label in the language stands at the place
 pub record IsPreferredAt (own : List LabelData) (tag : List ℕ) (place : ℕ) : Type 0 where

@@ -51,8 +51,10 @@ impl Vocab {
     pub fn add_label(&mut self, owner: ResNo, label: &Label) -> Result<(), AllocError>
         requires owner { IsLiveOwner self.old.resources owner }
         requires allowed { let l = owned owner label.now in
-            unless_label self.old.labels self.old.resources (set.insert self.old.labels l) l accepted None }
-        ensures ok { OnOk result (self.new ≡ with_labels self.old (set.insert self.old.labels (owned owner label.now))) }
+            unless_label self.old.labels self.old.resources (set.insert self.old.labels l) l
+            accepted None }
+        ensures ok { OnOk result (self.new ≡
+            with_labels self.old (set.insert self.old.labels (owned owner label.now))) }
         ensures err { OnErr result (self.new ≡ self.old) }
     {
         let copy = label.try_clone(self.alloc)?;
@@ -66,7 +68,8 @@ impl Vocab {
     pub fn drop_label(&mut self, owner: ResNo, label: &Label)
         requires owner { IsLiveOwner self.old.resources owner }
         requires allowed { unless_dropped self.old.labels (owned owner label.now) accepted None }
-        ensures { self.new ≡ with_labels self.old (set.remove self.old.labels (owned owner label.now)) }
+        ensures { self.new ≡
+            with_labels self.old (set.remove self.old.labels (owned owner label.now)) }
     {
         let scheme = concept_scheme(self.resources.as_slice(), owner);
         self.names.forget_label(scheme, label);
@@ -90,7 +93,10 @@ impl Vocab {
             OnOk result (self.new ≡ with_labels self.old after) }
         ensures err { OnErr result (self.new ≡ self.old) }
     {
-        let old = self.labels.preferred_clone(owner, tag)?;
+        let Some(known) = self.labels.preferred(owner, tag) else {
+            return Ok(());
+        };
+        let old = known.try_clone(self.alloc)?;
         if old == *text {
             return Ok(());
         }
@@ -104,7 +110,8 @@ impl Vocab {
 
     /// How many labels the target would take from the source in a merge.
     pub fn taken_count(&self, source: ResNo, target: ResNo) -> u64
-        ensures { set.len self.now.labels + result ≡ set.len (set.union self.now.labels (taken_labels source target self.now.labels)) }
+        ensures { let taken = taken_labels source target self.now.labels in
+            set.len self.now.labels + result ≡ set.len (set.union self.now.labels taken) }
     {
         let mut count = 0u64;
         for label in self.labels.of_owner(source) {
@@ -159,7 +166,8 @@ impl Vocab {
         requires free { IsFree self.old.resources self.old.labels resource tag text }
         requires room { length self.old.resources + 1 < 2 ^ 32 }
         ensures number { IfOk result (λ n. n ≡ length self.old.resources + 1) }
-        ensures ok { OnOk result (self.new ≡ vocabulary_of self.old.base (made resource tag text (bare_state self.old))) }
+        ensures ok { OnOk result (self.new ≡
+            vocabulary_of self.old.base (made resource tag text (bare_state self.old))) }
         ensures err { OnErr result (self.new ≡ self.old) }
     {
         let n = ResNo::new(self.resources.len() as u32 + 1);
@@ -180,7 +188,8 @@ impl Vocab {
         requires free { (n : ℕ) → dict.get self.old.iris n ≢ Some iri }
         requires room { length self.old.resources + 1 < 2 ^ 32 }
         ensures number { IfOk result (λ n. n ≡ length self.old.resources + 1) }
-        ensures ok { OnOk result (self.new ≡ vocabulary_of self.old.base (outside_made iri (bare_state self.old))) }
+        ensures ok { OnOk result (self.new ≡
+            vocabulary_of self.old.base (outside_made iri (bare_state self.old))) }
         ensures err { OnErr result (self.new ≡ self.old) }
     {
         let n = ResNo::new(self.resources.len() as u32 + 1);

@@ -25,11 +25,11 @@ impl Model for IriTable {
 
     ghost coded = { Prim.hlevel (codes, dict.code) };
 
-    ghost use Rattle.thes_vocab.specs.Numbered.{iris_in, AreTied};
+    ghost use Rattle.thes_vocab.specs.Numbered.{iris_in, AreInverse};
 
     ghost view = { λ a. iris_in a.iris.entries };
 
-    ghost invariant = { λ a. AreTied (iris_in a.iris.entries) a.numbers };
+    ghost invariant = { λ a. AreInverse (iris_in a.iris.entries) a.numbers };
 }
 
 impl IriTable {
@@ -53,7 +53,8 @@ impl IriTable {
 
     // The number of the IRI.
     pub(crate) fn number(&self, iri: &Iri) -> Option<ResNo>
-        ensures { MatchOption result ((n : ℕ) → dict.get self.now n ≢ Some iri.now) (λ n. dict.get self.now n ≡ Some iri.now) }
+        ensures { MatchOption result ((n : ℕ) → dict.get self.now n ≢ Some iri.now)
+            (λ n. dict.get self.now n ≡ Some iri.now) }
     {
         self.numbers.get(iri).copied()
     }

@@ -8,7 +8,7 @@ ghost use Rattle.thes_base.specs.Labels.{HasLabel};
 ghost use Rattle.thes_base.specs.Machine.{owned};
 ghost use Rattle.thes_vocab.specs.Rivals.{HasTwoPreferred, Clashes};
 ghost use Rattle.thes_vocab.specs.LabelData.{own_label, has_own, AreLabelsOf};
-ghost use Rattle.thes_vocab.specs.LabelRows.{Owns, OwnsNone, row_of, IsLabelPut, IsLabelDropped, IsMerged, AreSame};
+ghost use Rattle.thes_vocab.specs.LabelRows.{Owns, OwnsNone, owner_row, IsLabelPut, IsLabelDropped, IsMerged, AreSameRows};
 ghost use Rattle.std.specs.Ordering.{nat_cmp};
 ghost use Rattle.std.specs.BTreeMap.{IsOrdered};
 
@@ -65,7 +65,8 @@ impl LabelTable {
 
     // The owner's row, if there is one.
     fn row(&self, owner: ResNo) -> Option<&Row>
-        ensures { MatchOption result (OwnsNone self.now owner) (λ row. Owns self.now owner row.now) }
+        ensures { MatchOption result (OwnsNone self.now owner)
+            (λ row. Owns self.now owner row.now) }
     {
         self.rows.get(&owner)
     }
@@ -108,17 +109,6 @@ impl LabelTable {
         match self.row(owner) {
             Some(row) => row.preferred(tag),
             None => None,
-        }
-    }
-
-    // The text of the owner's preferred label in the language, or of one of them.
-    pub(crate) fn preferred_clone(&self, owner: ResNo, tag: &Tag) -> Result<Text, AllocError>
-        requires { (text : List ℕ) × HasLabel self.now owner Pref tag.now text }
-        ensures { IfOk result (λ text. HasLabel self.now owner Pref tag.now text) }
-    {
-        match self.preferred(owner, tag) {
-            Some(text) => text.try_clone(self.alloc),
-            None => unreachable!(),
         }
     }
 
@@ -197,7 +187,8 @@ impl LabelTable {
     }
 
     fn insert_alternative(&mut self, owner: ResNo, tag: &Tag, text: &Text) -> Result<(), AllocError>
-        ensures ok { OnOk result (self.new ≡ set.insert self.old (label owner Alt tag.now text.now)) }
+        ensures ok { OnOk result (self.new ≡
+            set.insert self.old (label owner Alt tag.now text.now)) }
         ensures err { OnErr result (self.new ≡ self.old) }
     {
         let value = LabelValue::Alt(text.try_clone(self.alloc)?);
@@ -205,7 +196,8 @@ impl LabelTable {
     }
 
     fn insert_value(&mut self, owner: ResNo, tag: &Tag, value: LabelValue) -> Result<(), AllocError>
-        ensures ok { OnOk result (self.new ≡ set.insert self.old (label owner (kind_of value) tag.now (text_of value))) }
+        ensures ok { OnOk result (self.new ≡
+            set.insert self.old (label owner (kind_of value) tag.now (text_of value))) }
         ensures err { OnErr result (self.new ≡ self.old) }
     {
         let tag = tag.try_clone(self.alloc)?;
@@ -219,8 +211,10 @@ impl LabelTable {
         target: ResNo,
         gained: u64,
     ) -> Result<(), AllocError>
-        requires { set.len self.old + gained ≡ set.len (set.union self.old (taken_labels source target self.old)) }
-        ensures ok { OnOk result (self.new ≡ set.union self.old (taken_labels source target self.old)) }
+        requires { let taken = taken_labels source target self.old in
+            set.len self.old + gained ≡ set.len (set.union self.old taken) }
+        ensures ok { OnOk result (self.new ≡
+            set.union self.old (taken_labels source target self.old)) }
         ensures err { OnErr result (self.new ≡ self.old) }
     {
         let count = self.count.checked_add(gained).ok_or(AllocError)?;
@@ -238,9 +232,9 @@ fn put(
     owner: ResNo,
     label: Label,
 ) -> Result<bool, AllocError>
-    ensures added { IfOk result (λ added. added ≡ not (has_own (row_of rows.old owner) label)) }
+    ensures added { IfOk result (λ added. added ≡ not (has_own (owner_row rows.old owner) label)) }
     ensures ok { OnOk result (IsLabelPut rows.old rows.new owner label) }
-    ensures err { OnErr result (AreSame rows.old rows.new) }
+    ensures err { OnErr result (AreSameRows rows.old rows.new) }
     ensures ordered { IsOrdered nat_cmp rows.new }
 {
     if let Some(row) = rows.get_mut(&owner) {
@@ -260,7 +254,7 @@ fn take(
     tag: &Tag,
     text: &str,
 ) -> bool
-    ensures taken { result ≡ has_own (row_of rows.old owner) (own_label kind tag.now text.now) }
+    ensures taken { result ≡ has_own (owner_row rows.old owner) (own_label kind tag.now text.now) }
     ensures after { IsLabelDropped rows.old rows.new owner (own_label kind tag.now text.now) }
     ensures ordered { IsOrdered nat_cmp rows.new }
 {

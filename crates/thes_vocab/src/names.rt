@@ -1,6 +1,6 @@
 // Where the holder of a preferred label is found.
 ghost use Rattle.std.specs.Prelude.{◌≡◌, ℕ, List, OnOk, OnErr, None, Some};
-ghost use Rattle.thes_vocab.specs.Named.{holder_in, IsNoted, IsLabelNoted, IsPut, AreSame, IsTagPut, AreSameTags};
+ghost use Rattle.thes_vocab.specs.Named.{holder_in, IsNoted, IsLabelNoted, IsPut, AreSameNames, IsTagPut, AreSameTags};
 
 use std::alloc::{AllocError, Global};
 use std::collections::BTreeMap;
@@ -46,7 +46,7 @@ impl Names {
         concept: ResNo,
     ) -> Result<(), AllocError>
         ensures ok { OnOk result (IsLabelNoted self.old self.new scheme label.now (Some concept)) }
-        ensures err { OnErr result (AreSame self.old self.new) }
+        ensures err { OnErr result (AreSameNames self.old self.new) }
     {
         match &label.value {
             LabelValue::Pref(text) => self.put(scheme, &label.tag, text, concept),
@@ -62,8 +62,9 @@ impl Names {
         text: &Text,
         concept: ResNo,
     ) -> Result<(), AllocError>
-        ensures ok { OnOk result (IsNoted self.old self.new scheme tag.now text.now (Some concept)) }
-        ensures err { OnErr result (AreSame self.old self.new) }
+        ensures ok { OnOk result
+            (IsNoted self.old self.new scheme tag.now text.now (Some concept)) }
+        ensures err { OnErr result (AreSameNames self.old self.new) }
     {
         match scheme {
             Some(scheme) => self.put_in(scheme, tag, text, concept),
@@ -99,7 +100,7 @@ impl Names {
         concept: ResNo,
     ) -> Result<(), AllocError>
         ensures ok { OnOk result (IsPut self.old self.new scheme tag.now text.now (Some concept)) }
-        ensures err { OnErr result (AreSame self.old self.new) }
+        ensures err { OnErr result (AreSameNames self.old self.new) }
     {
         let tag = tag.try_clone(self.alloc)?;
         let text = text.try_clone(self.alloc)?;

@@ -4,7 +4,7 @@ ghost use Rattle.std.specs.List.Sorted.{IsStrictlySortedBy};
 ghost use Rattle.std.specs.Ordering.{eq_by_cmp};
 ghost use Rattle.thes_base.specs.Data.{LabelData};
 ghost use Rattle.thes_base.specs.Labels.{label_kind_no};
-ghost use Rattle.thes_vocab.specs.Places.{IsPlace, IsPreferredAt};
+ghost use Rattle.thes_vocab.specs.Places.{IsLabelPlace, IsPreferredAt};
 ghost use Rattle.thes_vocab.specs.Taken.{has_own_name, takes_own, taken, gives};
 ghost use Rattle.thes_vocab.specs.LabelData.{data_cmp, language_cmp, own_label, has_own, HasPreferred, HasNoPreferred, HasTwo};
 
@@ -24,7 +24,7 @@ impl Model for Row {
     ghost use Rattle.std.specs.Prelude.{List};
     ghost use Rattle.std.specs.List.Sorted.{IsStrictlySortedBy};
     ghost use Rattle.thes_base.specs.Data.{LabelData};
-    ghost use Rattle.thes_vocab.specs.Places.{IsPlace, IsPreferredAt};
+    ghost use Rattle.thes_vocab.specs.Places.{IsLabelPlace, IsPreferredAt};
     ghost use Rattle.thes_vocab.specs.Taken.{takes_own, taken, gives};
     ghost use Rattle.thes_vocab.specs.LabelData.{data_cmp};
 
@@ -61,7 +61,8 @@ impl Row {
 
     // The preferred label in the language, or one of them.
     pub(crate) fn preferred(&self, tag: &Tag) -> Option<&Text>
-        ensures { MatchOption result (HasNoPreferred self.now tag.now) (λ text. HasPreferred self.now tag.now text.now) }
+        ensures { MatchOption result (HasNoPreferred self.now tag.now)
+            (λ text. HasPreferred self.now tag.now text.now) }
     {
         let place = preferred_place(self.labels.as_slice(), tag)?;
         match &self.labels[place].value {
@@ -100,7 +101,8 @@ impl Row {
     // Adds a label, and answers whether it is new. An `Err` changes nothing.
     pub(crate) fn insert(&mut self, label: Label) -> Result<bool, AllocError>
         ensures added { IfOk result (λ added. added ≡ not (has_own self.old label)) }
-        ensures ok { OnOk result ((l : LabelData) → has_own self.new l ≡ (eq_by_cmp data_cmp l label || has_own self.old l)) }
+        ensures ok { OnOk result ((l : LabelData) →
+            has_own self.new l ≡ (eq_by_cmp data_cmp l label || has_own self.old l)) }
         ensures err { OnErr result (self.new ≡ self.old) }
     {
         match search_label(self.labels.as_slice(), &label) {
@@ -116,7 +118,8 @@ impl Row {
     pub(crate) fn remove(&mut self, kind: LabelKind, tag: &Tag, text: &str) -> bool
         ensures removed { result ≡ has_own self.old (own_label kind tag.now text.now) }
         ensures after { let dropped = own_label kind tag.now text.now in
-            (l : LabelData) → has_own self.new l ≡ (not (eq_by_cmp data_cmp l dropped) && has_own self.old l) }
+            (l : LabelData) →
+            has_own self.new l ≡ (not (eq_by_cmp data_cmp l dropped) && has_own self.old l) }
     {
         match search(self.labels.as_slice(), kind, tag, text) {
             Ok(place) => {
@@ -140,7 +143,8 @@ impl Row {
 
 // The target's labels with those that it takes from the source in a merge.
 pub(crate) fn merged(alloc: Global, source: &Row, target: &Row) -> Result<Row, AllocError>
-    ensures { IfOk result (λ row. (l : LabelData) → has_own row l ≡ (has_own target.now l || gives source.now target.now l)) }
+    ensures { IfOk result (λ row. (l : LabelData) →
+        has_own row l ≡ (has_own target.now l || gives source.now target.now l)) }
 {
     let mut row = target.try_clone(alloc)?;
     for label in source.as_slice() {
@@ -167,14 +171,14 @@ fn taken(alloc: Global, label: &Label) -> Result<Label, AllocError>
 // Where the label stands in the order, or where it would.
 fn search(labels: &[Label], kind: LabelKind, tag: &Tag, text: &str) -> Result<usize, usize>
     requires { IsStrictlySortedBy data_cmp labels.now }
-    ensures { IsPlace labels.now (own_label kind tag.now text.now) result }
+    ensures { IsLabelPlace labels.now (own_label kind tag.now text.now) result }
 {
     labels.binary_search_by(|label| order(label, kind, tag, text))
 }
 
 fn search_label(labels: &[Label], label: &Label) -> Result<usize, usize>
     requires { IsStrictlySortedBy data_cmp labels.now }
-    ensures { IsPlace labels.now label.now result }
+    ensures { IsLabelPlace labels.now label.now result }
 {
     search(labels, label.kind(), &label.tag, label.text())
 }
@@ -182,7 +186,8 @@ fn search_label(labels: &[Label], label: &Label) -> Result<usize, usize>
 // A place of a preferred label in the language.
 fn preferred_place(labels: &[Label], tag: &Tag) -> Option<usize>
     requires { IsStrictlySortedBy data_cmp labels.now }
-    ensures { MatchOption result (HasNoPreferred labels.now tag.now) (IsPreferredAt labels.now tag.now) }
+    ensures { MatchOption result (HasNoPreferred labels.now tag.now)
+        (IsPreferredAt labels.now tag.now) }
 {
     labels
         .binary_search_by(|label| language_order(label, LabelKind::Pref, tag))

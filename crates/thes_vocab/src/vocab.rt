@@ -47,11 +47,16 @@ impl Model for Vocab {
 
     ghost coded = { Prim.hlevel (codes, set.code, dict.code) };
 
-    ghost use Rattle.thes_vocab.specs.Kept.{IsKept};
+    ghost use Rattle.thes_vocab.specs.Kept.{IsConsistent};
 
-    ghost view = { λ a. record { base = a.base; resources = a.resources.items; iris = a.iris; labels = a.labels } };
+    ghost view = { λ a. record {
+      base = a.base;
+      resources = a.resources.items;
+      iris = a.iris;
+      labels = a.labels;
+    } };
 
-    ghost invariant = { λ a. IsKept a.base a.resources.items a.iris a.labels a.names a.concepts };
+    ghost invariant = { λ a. IsConsistent a.base a.resources.items a.iris a.labels a.names a.concepts };
 }
 
 impl Vocab {
@@ -135,7 +140,8 @@ impl Vocab {
 
     // Whether a live concept of the scheme with this number has the preferred label.
     fn is_held(&self, n: ResNo, scheme: ResNo, tag: &Tag, text: &Text) -> bool
-        ensures { IsTrue result ↔ IsHolder self.now.resources self.now.labels scheme tag.now text.now n }
+        ensures { IsTrue result ↔
+            IsHolder self.now.resources self.now.labels scheme tag.now text.now n }
     {
         concept_scheme(self.resources.as_slice(), n) == Some(scheme)
             && self.labels.contains(n, LabelKind::Pref, tag, text.as_str())
@@ -167,7 +173,8 @@ pub(crate) fn resource_at(resources: &[Resource], n: ResNo) -> Option<&Resource>
 
 // The scheme of a live concept.
 pub(crate) fn concept_scheme(resources: &[Resource], n: ResNo) -> Option<ResNo>
-    ensures { MatchOption result ((scheme : ℕ) → IsConceptOf resources.now scheme n → ⊥) (λ scheme. IsConceptOf resources.now scheme n) }
+    ensures { MatchOption result ((scheme : ℕ) → IsConceptOf resources.now scheme n → ⊥)
+        (λ scheme. IsConceptOf resources.now scheme n) }
 {
     scheme_if_concept(resource_at(resources, n)?)
 }
@@ -175,7 +182,8 @@ pub(crate) fn concept_scheme(resources: &[Resource], n: ResNo) -> Option<ResNo>
 // The scheme of a resource that is a live concept.
 pub(crate) fn scheme_if_concept(resource: &Resource) -> Option<ResNo>
     ensures value { result ≡ concept_scheme resource.now }
-    ensures scheme { MatchOption result ((scheme : ℕ) → IsConceptIn scheme resource.now → ⊥) (λ scheme. IsConceptIn scheme resource.now) }
+    ensures scheme { MatchOption result ((scheme : ℕ) → IsConceptIn scheme resource.now → ⊥)
+        (λ scheme. IsConceptIn scheme resource.now) }
 {
     if resource.kind != ResourceKind::Concept || !resource.live {
         return None;

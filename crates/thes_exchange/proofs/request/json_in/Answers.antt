@@ -1,4 +1,4 @@
-use Rattle.std.proofs.Common.{◌≡◌, ◌∙◌, rules, inr, refl, sym, ap, subst, IsUtf8}
+use Rattle.std.proofs.Common.{◌∙◌, inr, refl, sym, ap}
 use Rattle.std.proofs.lemmas.Result.{IfOk-weaker}
 use Rattle.serde_json.specs.Read.{read}
 use Rattle.thes_exchange.proofs.MemberLemmas.{json_in-text, json_in-none}

@@ -153,14 +153,10 @@ read_members-returns-in_err-name-clause-err t c refused =
 
 pub read_members-returns-in_err-member-clause-err : goal.read_members-returns-in_err-member-clause-err
 read_members-returns-in_err-member-clause-err t c refused =
-    let p = value c.args.depth in
     let l = c.members in
-    let n = l.invariant.0 in
-    let old = members_view l.found.entries in
-    let k = c.in-Some.name.now in
     let s = c.next_name.new.reader in
-    let named : read_key l.reader ≡ Some (Some k, s) = grind arith in
-    l.invariant.2 ∙ member_refused p old n k l.reader s named (c.read.ensures.err (grind arith))
+    let named : read_key l.reader ≡ Some (Some c.in-Some.name.now, s) = grind arith in
+    l.invariant.2 ∙ member_refused (value c.args.depth) (members_view l.found.entries) l.invariant.0 c.in-Some.name.now l.reader s named (c.read.ensures.err (grind arith))
 
 pub read_members-members-preserved : goal.read_members-members-preserved
 read_members-members-preserved t c =

@@ -1,7 +1,7 @@
 use Rattle.std.proofs.Common.{◌∙◌, ap, sym, subst, ◌||◌, ℕ, List, []}
 use Rattle.std.specs.Prelude.{Option}
 use Rattle.std.specs.BTreeMap.{BTreeMap}
-use Rattle.thes_vocab.specs.LabelRows.{row_of, IsLabelPut}
+use Rattle.thes_vocab.specs.LabelRows.{owner_row, IsLabelPut}
 use Rattle.std.proofs.lemmas.Result.{on_ok_weaker, on_err_weaker}
 use Rattle.std.specs.Option.{unwrap_or}
 use Rattle.std.specs.Ordering.{eq_by_cmp}
@@ -31,7 +31,7 @@ returns-clause-ok c =
     let now = c.insert-2.new.self in
     let rows = c.get_mut.follows.lender-at-none in
     let is = inserted rows c.insert-3.new.self c.args.owner now c.in_ok-insert-2.ensures.updates in
-    let none = ap (λ (m : BTreeMap ℕ (List LabelData)). row_of m c.args.owner) c.get_mut.follows.holds-at-none ∙ ap (λ (o : Option (List LabelData)). unwrap_or o []) (sym c.in_default.ensures.value) in
+    let none = ap (λ (m : BTreeMap ℕ (List LabelData)). owner_row m c.args.owner) c.get_mut.follows.holds-at-none ∙ ap (λ (o : Option (List LabelData)). unwrap_or o []) (sym c.in_default.ensures.value) in
     let put = row_put rows c.insert-3.new.self c.args.owner now c.args.label is
     (λ q. c.in_ok-insert.ensures.ok q ∙ ap (λ row. eq_by_cmp data_cmp q c.args.label || has_own row q) (c.new-row.ensures ∙ sym none)) in
     subst (λ (m : BTreeMap ℕ (List LabelData)). IsLabelPut m c.insert-3.new.self c.args.owner c.args.label) c.get_mut.follows.holds-at-none put

@@ -1,4 +1,4 @@
-use Rattle.std.proofs.Common.{◌≡◌, ◌∙◌, Some, ap, sym, option_map}
+use Rattle.std.proofs.Common.{◌∙◌, Some, ap, sym, option_map}
 use Rattle.serde_json.specs.Events.{members_len}
 use Rattle.serde_json.specs.Find.{as_object}
 use Rattle.thes_exchange.specs.Tree.{view}

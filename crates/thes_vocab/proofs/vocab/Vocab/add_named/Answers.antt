@@ -3,7 +3,7 @@ use Rattle.std.specs.Prelude.{Option}
 use Rattle.thes_base.specs.declared.data.Resource.{Resource}
 use Rattle.thes_base.specs.Labels.{Labels}
 use Rattle.thes_vocab.specs.Listed.{IsAdded}
-use Rattle.thes_vocab.specs.Kept.{IsKept}
+use Rattle.thes_vocab.specs.Kept.{IsConsistent}
 use Rattle.thes_vocab.proofs.KeptLemmas.{seen_new_noted, seen_new}
 use Rattle.thes_vocab.proofs.vocab.Vocab.add_named.Goals as goal
 
@@ -14,7 +14,7 @@ invariant_of-self-in_err-insert c =
     let kept = seen_new_noted inside.base inside.resources.items inside.iris inside.labels inside.names c.put.new.self inside.concepts c.self.invariant _ c.self.view_is
     c.args.resource c.args.tag c.args.text c.requires.named c.requires.free c.scheme_if_concept-scheme.result c.scheme_if_concept-scheme.ensures.scheme _ next
     c.in_ok-put.ensures.ok c.make_room.new.concepts c.make_room.ensures.same in
-    subst (λ (p : List Resource × Labels). IsKept inside.base p.0 inside.iris p.1 c.put.new.self c.make_room.new.concepts) (λ i. (sym c.try_reserve.ensures.items i, sym c.in_err-insert.ensures.err i)) kept
+    subst (λ (p : List Resource × Labels). IsConsistent inside.base p.0 inside.iris p.1 c.put.new.self c.make_room.new.concepts) (λ i. (sym c.try_reserve.ensures.items i, sym c.in_err-insert.ensures.err i)) kept
 
 pub invariant_of-self-2 : goal.invariant_of-self-2
 invariant_of-self-2 c =
@@ -25,4 +25,4 @@ invariant_of-self-2 c =
     c.args.resource c.args.tag c.args.text c.requires.named c.requires.free c.scheme_if_concept-scheme.result c.scheme_if_concept-scheme.ensures.scheme _ next
     c.in_ok-put.ensures.ok c.make_room.new.concepts c.make_room.ensures.same c.requires.room c.insert-2.new.concepts added in
     let items : c.push.new.self.items ≡ inside.resources.items ++ c.args.resource ∷ [] = search rules in
-    subst (λ (p : List Resource × Labels). IsKept inside.base p.0 inside.iris p.1 c.put.new.self c.insert-2.new.concepts) (λ i. (sym items i, sym c.in_ok-insert.ensures.ok i)) kept
+    subst (λ (p : List Resource × Labels). IsConsistent inside.base p.0 inside.iris p.1 c.put.new.self c.insert-2.new.concepts) (λ i. (sym items i, sym c.in_ok-insert.ensures.ok i)) kept

@@ -5,7 +5,7 @@ use Rattle.thes_base.specs.declared.data.Resource.{Resource}
 use Rattle.thes_base.specs.Resources.{Iris, BeginsWith}
 use Rattle.thes_base.specs.Changes.{outside_resource}
 use Rattle.thes_vocab.specs.Vocabulary.{Vocabulary}
-use Rattle.thes_vocab.specs.Kept.{IsKept}
+use Rattle.thes_vocab.specs.Kept.{IsConsistent}
 use Rattle.thes_vocab.proofs.KeptLemmas.{kept_outside, no_iri}
 use Rattle.thes_vocab.proofs.vocab.Vocab.add_outside.Goals as goal
 
@@ -26,4 +26,4 @@ invariant_of-self-2 c =
     let n : c.new-n.result ≡ length rs + 1 = search rules in
     let items : c.push.new.self.items ≡ rs ++ outside_resource ∷ [] = search rules in
     let iris = c.in_ok-insert.ensures.ok ∙ ap (λ k. dict.insert inside.iris k c.args.iri) n in
-    subst (λ (p : List Resource × Iris). IsKept inside.base p.0 p.1 inside.labels inside.names inside.concepts) (λ i. (sym items i, sym iris i)) kept
+    subst (λ (p : List Resource × Iris). IsConsistent inside.base p.0 p.1 inside.labels inside.names inside.concepts) (λ i. (sym items i, sym iris i)) kept

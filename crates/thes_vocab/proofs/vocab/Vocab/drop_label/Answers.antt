@@ -9,7 +9,7 @@ use Rattle.thes_base.specs.Rows.{accepted}
 use Rattle.thes_base.specs.Changes.{label}
 use Rattle.thes_base.specs.Refusals.{unless_dropped}
 use Rattle.thes_vocab.specs.Vocabulary.{Vocabulary}
-use Rattle.thes_vocab.specs.Kept.{IsKept}
+use Rattle.thes_vocab.specs.Kept.{IsConsistent}
 use Rattle.thes_vocab.proofs.KeptLemmas.{IsSchemeOf, kept_dropped}
 use Rattle.thes_vocab.proofs.vocab.Vocab.drop_label.Goals as goal
 
@@ -23,4 +23,4 @@ invariant_of-self c =
     let kept = kept_dropped inside.base inside.resources.items inside.iris inside.labels inside.names c.forget_label.new.self inside.concepts c.self.invariant c.args.owner scheme at c.args.label.now row c.forget_label.ensures in
     let tag = ap (λ (d : LabelData). d.tag) c.label.view_is in
     let labels = c.remove.ensures ∙ (λ i. set.remove inside.labels (label c.args.owner (c.kind.ensures i) (tag i) (c.text.ensures i))) in
-    subst (λ (labels : Labels). IsKept inside.base inside.resources.items inside.iris labels c.forget_label.new.self inside.concepts) (sym labels) kept
+    subst (λ (labels : Labels). IsConsistent inside.base inside.resources.items inside.iris labels c.forget_label.new.self inside.concepts) (sym labels) kept

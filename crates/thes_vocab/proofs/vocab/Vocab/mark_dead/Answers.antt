@@ -5,7 +5,7 @@ use Rattle.thes_base.specs.Changes.{dead}
 use Rattle.thes_base.proofs.ResourceLemmas.{marked_dead_at}
 use Rattle.thes_vocab.specs.Vocabulary.{Vocabulary, IsReplacement, with_dead}
 use Rattle.thes_vocab.specs.Listed.{IsRemoved}
-use Rattle.thes_vocab.specs.Kept.{IsKept}
+use Rattle.thes_vocab.specs.Kept.{IsConsistent}
 use Rattle.thes_vocab.proofs.KeptLemmas.{kept_dead, numbered_at}
 use Rattle.thes_vocab.proofs.vocab.Vocab.mark_dead.Goals as goal
 
@@ -19,7 +19,7 @@ invariant_of-self c =
     let at = numbered_at rs c.args.n r live.0 live.1 (c.index-resource.ensures ∙ ap (λ k. get_or rs (k - 1) r) c.get.ensures.value) in
     let new = ap (dead c.args.replaced) c.resource.view_is in
     let removed = subst (λ (x : Resource). IsRemoved inside.concepts c.remove.new.concepts x.scheme c.args.n) c.resource.view_is c.remove.ensures in
-    subst (λ (x : List Resource). IsKept inside.base x inside.iris inside.labels inside.names c.remove.new.concepts) (λ i. set rs (sym c.get.ensures.value i - 1) (sym new i))
+    subst (λ (x : List Resource). IsConsistent inside.base x inside.iris inside.labels inside.names c.remove.new.concepts) (λ i. set rs (sym c.get.ensures.value i - 1) (sym new i))
     (kept_dead inside.base rs inside.iris inside.labels inside.names inside.concepts c.remove.new.concepts c.args.n c.args.replaced r c.self.invariant at live fit removed)
 
 pub returns : goal.returns
