@@ -3,4 +3,5 @@
 
 pub mod commit;
 pub mod create;
+mod values;
 mod writes;
