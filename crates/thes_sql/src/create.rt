@@ -10,8 +10,15 @@ ghost use Rattle.sqlite.specs.Held.{state};
 use sqlite::{Alter, Connection, Error, Transaction, params};
 use thes_base::text::Base;
 
-// The eight tables, and the indexes that find the postings at a place and the moves of a posting.
-const TABLES: &str = "\
+// Makes the eight tables, and the indexes that find the postings at a place and the moves of a posting.
+fn define_tables<S: Alter>(tx: &mut Transaction<'_, S>) -> Result<(), Error>
+    ensures same_reference { tx.new.conn.ghost_name ≡ tx.old.conn.ghost_name }
+    ensures does { DoesInside S.Store (Turns (IsEmpty schema_0) (IsEmpty store_schema))
+        tx.old.conn tx.new.conn result }
+    ensures stays { StaysInside S.Store tx.old.conn tx.new.conn }
+{
+    tx.execute_batch(
+        "\
 CREATE TABLE meta (one INTEGER PRIMARY KEY, version INTEGER NOT NULL, base TEXT NOT NULL) STRICT;\
 CREATE TABLE resource (num INTEGER PRIMARY KEY, kind INTEGER NOT NULL, scheme INTEGER, \
 live INTEGER NOT NULL, replaced INTEGER) STRICT;\
@@ -27,16 +34,8 @@ first_at INTEGER NOT NULL, at INTEGER NOT NULL, withdrawn INTEGER NOT NULL) STRI
 CREATE TABLE move (num INTEGER PRIMARY KEY, posting INTEGER NOT NULL, source INTEGER NOT NULL, \
 target INTEGER NOT NULL) STRICT;\
 CREATE INDEX posting_at ON posting (at);\
-CREATE INDEX move_posting ON move (posting);";
-
-// Makes the tables and the indexes.
-fn define_tables<S: Alter>(tx: &mut Transaction<'_, S>) -> Result<(), Error>
-    ensures same_reference { tx.new.conn.ghost_name ≡ tx.old.conn.ghost_name }
-    ensures does { DoesInside S.Store (Turns (IsEmpty schema_0) (IsEmpty store_schema))
-        tx.old.conn tx.new.conn result }
-    ensures stays { StaysInside S.Store tx.old.conn tx.new.conn }
-{
-    tx.execute_batch(TABLES)
+CREATE INDEX move_posting ON move (posting);",
+    )
 }
 
 // Adds the row of table meta.
