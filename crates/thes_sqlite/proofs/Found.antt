@@ -1,6 +1,6 @@
 -- The posting that a look-up by key finds.
-use Rattle.std.proofs.Common.{◌≡◌, ◌≢◌, ◌⊎◌, inl, inr, ℕ, List, [], ◌∷◌, ◌++◌, ◌<◌, length, map, filter, take, suc, Bool}
-use Rattle.std.proofs.Common.{true, cond, Option, None, Some, slice_get, refl, sym, ap, subst, ◌∙◌, arith, get_or}
+use Rattle.std.proofs.Common.{◌≡◌, inl, inr, ℕ, List, [], ◌∷◌, ◌++◌, ◌<◌, length, map, filter, take, suc, Bool}
+use Rattle.std.proofs.Common.{true, None, Some, slice_get, refl, sym, ap, subst, ◌∙◌}
 use Rattle.std.proofs.Math.Seq.{take-suc}
 use Rattle.std.proofs.lemmas.List.{map-append}
 use Rattle.std.proofs.lemmas.Map.Text.{is_eq-slice_cmp}
@@ -14,11 +14,10 @@ use Rattle.sqlite_rules.specs.Lists.{Has}
 use Rattle.thes_rows.specs.declared.cells.Cell.{Cell}
 use Rattle.thes_rows.specs.declared.cells.Cell.TheVariants as cells
 use Rattle.thes_rows.specs.declared.rows.PostingRow.{PostingRow}
-use Rattle.thes_rows.specs.Tables.{Tables, IsIn}
+use Rattle.thes_rows.specs.Tables.{IsIn}
 use Rattle.thes_rows.specs.Cells.{posting_cells}
 use Rattle.thes_rows.proofs.Listing.{map_one, posting_one}
 use Rattle.thes_sql.specs.Stored.{value_of, values}
-use Rattle.thes_sql.specs.Reads.{keyed_as}
 use Rattle.thes_sql.proofs.Elements.{filter_has, has_filter}
 use Rattle.thes_sql.proofs.Adding.{in_has}
 use Rattle.thes_store.specs.Reading.{IsFound}

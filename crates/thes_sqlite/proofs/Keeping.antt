@@ -20,6 +20,7 @@ use Rattle.thes_rows.proofs.Listing.{listed_one}
 use Rattle.thes_sql.specs.Stored.{Keeps, Hold, AreHidden, hidden_row, value_of, numbered_from, stored_resource}
 use Rattle.thes_sql.specs.Stored.{stored_outside, stored_posting, stored_move, label_values, link_values, hier_values}
 use Rattle.thes_sql.specs.Does.{IsOwnTransaction}
+use Rattle.thes_sql.specs.Reads.{LeavesAlone}
 use Rattle.thes_sqlite.specs.Kept.{raw_in, cell_of, keyed_cells, hidden_cells, IsUp, IsKept, LeadsTo, LeavesEither}
 use Rattle.thes_sqlite.specs.Kept.{LeavesAfter}
 
@@ -164,3 +165,15 @@ module _ {S : Type 0} (g : Ghosts S) (start old new : Held S) (same : start ≡ 
   pub is_either : LeavesEither changes (state g old) (state g new)
   is_either = subst (λ h. LeavesEither changes (state g h) (state g new)) same
       (leaves_either (state g start) (state g new) changes kept (law start) fitting crash)
+
+-- what is told of the tables that the database keeps is told of those whose rows it shows
+pub told : {S : Type 0} (g : Ghosts S) (start old new : Held S) → start ≡ old → IsKept (state g start)
+    → LeavesAlone g start new → {P : Tables → Type 0}
+    → (HasCleanDisk (state g new) → (t : Tables) → Keeps (state g start).now t → P t)
+    → IsUp (state g new) → (t : Tables) → raw_in (state g old).now.trees ≡ listed t → P t
+told g start old new same kept leaves {P} holds up t is =
+    let before : IsUp (state g start) = (omega (arith, leaves.clean, up.0), leaves.was up.0 up.1) in
+    let k = kept.keeps before in
+    let shown : raw_in (state g start).now.trees ≡ listed t =
+    ap (λ h. raw_in (state g h).now.trees) same ∙ is in
+    subst P (listed_one k.0 t (sym (raw_of (state g start).now.trees k.0 k.1.hold) ∙ shown)) (holds up.0 k.0 k.1)

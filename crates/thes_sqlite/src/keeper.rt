@@ -1,19 +1,23 @@
 //! A keeper over the tables of a database.
-ghost use Rattle.std.specs.Prelude.{◌≡◌, ◌⊎◌, false, OnOk, OnErr, IfOk, IfErr};
+ghost use Rattle.std.specs.Prelude.{◌≡◌, ◌⊎◌, ◌<◌, ◌≤◌, false, OnOk, OnErr, IfOk, IfErr};
 ghost use Rattle.thes_rows.specs.Tables.{Tables, no_rows};
 ghost use Rattle.thes_rows.specs.Rows.{FitAll};
 ghost use Rattle.thes_rows.specs.Cells.{listed};
 ghost use Rattle.thes_sql.specs.Schema.{schema_0};
 ghost use Rattle.thes_sql.specs.Does.{IsEmpty};
 ghost use Rattle.thes_store.specs.Causes.{HasCause};
+ghost use Rattle.thes_store.specs.Reading.{IsFound};
 ghost use Rattle.thes_sqlite.specs.Kept.{raw_in, IsUp, LeadsTo, LeavesEither, LeavesAfter};
 ghost use Rattle.sqlite.specs.Held.{state};
 
+use crate::finding::find_posting;
 use sqlite::{Alter, Connection, Error, ErrorCode};
+use std::alloc::Global;
 use std::marker::Model;
 use thes_base::fault::Fault;
-use thes_base::text::Base;
+use thes_base::text::{Base, Key};
 use thes_rows::change::Change;
+use thes_rows::rows::PostingRow;
 use thes_sql::commit::commit_all;
 use thes_sql::create::create_tables;
 
@@ -21,6 +25,7 @@ use thes_sql::create::create_tables;
 pub struct SqlKeeper<S: Alter> {
     conn: Connection<S>,
     failures: u64,
+    alloc: Global,
 }
 
 impl<S: Alter> Model for SqlKeeper<S> {
@@ -46,9 +51,22 @@ fn fault_of(error: Error) -> Fault
     }
 }
 
+// The fault that an error is. One of the store is counted.
+fn count_fault(failures: &mut u64, error: Error) -> Fault
+    ensures { (failures.old ≤ failures.new) × ((result ≡ Fault.OutOfMemory)
+        ⊎ ((result ≡ Fault.Store) × ((failures.old < failures.new) ⊎ (failures.old ≡ u64.MAX)))) }
+{
+    let fault = fault_of(error);
+    if fault == Fault::Store {
+        *failures = failures.saturating_add(1);
+    }
+    fault
+}
+
 impl<S: Alter> SqlKeeper<S> {
     /// Makes the tables of a new store, in a database without tables. After a fault the database is as it was.
     pub fn create(
+        alloc: Global,
         mut conn: Connection<S>,
         base: &Base,
     ) -> Result<SqlKeeper<S>, (Fault, Connection<S>)>
@@ -62,7 +80,11 @@ impl<S: Alter> SqlKeeper<S> {
         ensures cause { IfErr result (λ e. (e.0 ≡ Fault.OutOfMemory) ⊎ (e.0 ≡ Fault.Store)) }
     {
         match create_tables(&mut conn, base) {
-            Ok(_) => Ok(SqlKeeper { conn, failures: 0 }),
+            Ok(_) => Ok(SqlKeeper {
+                conn,
+                failures: 0,
+                alloc,
+            }),
             Err(error) => Err((fault_of(error), conn)),
         }
     }
@@ -71,7 +93,11 @@ impl<S: Alter> SqlKeeper<S> {
     pub fn into_connection(self) -> Connection<S>
         ensures { result ≡ self.conn }
     {
-        let SqlKeeper { conn, failures: _ } = self;
+        let SqlKeeper {
+            conn,
+            failures: _,
+            alloc: _,
+        } = self;
         conn
     }
 
@@ -100,11 +126,22 @@ impl<S: Alter> SqlKeeper<S> {
     {
         match commit_all(&mut self.conn, changes) {
             Ok(_) => Ok(()),
-            Err(Error::SqliteFailure(ErrorCode::OutOfMemory)) => Err(Fault::OutOfMemory),
-            Err(_) => {
-                self.failures = self.failures.saturating_add(1);
-                Err(Fault::Store)
-            }
+            Err(error) => Err(count_fault(&mut self.failures, error)),
+        }
+    }
+
+    /// Finds the posting of a key.
+    pub fn find(&mut self, key: &Key) -> Result<Option<PostingRow>, Fault>
+        ensures ok { IfOk result (λ found. IsUp (state S.Store self.new.conn) → (t : Tables)
+            → raw_in (state S.Store self.old.conn).now.trees ≡ listed t → IsFound key.now t.posting found) }
+        ensures same { IsUp (state S.Store self.new.conn)
+            → raw_in (state S.Store self.new.conn).now.trees ≡ raw_in (state S.Store self.old.conn).now.trees }
+        ensures was { IsUp (state S.Store self.new.conn) → IsUp (state S.Store self.old.conn) }
+        ensures cause { HasCause self.old.failures self.new.failures result }
+    {
+        match find_posting(self.alloc, &mut self.conn, key) {
+            Ok(found) => Ok(found),
+            Err(error) => Err(count_fault(&mut self.failures, error)),
         }
     }
 }

@@ -32,11 +32,6 @@ returns-in-Ok-clause-crash g c = is_either g.S.Store c.self.inside.conn c.args.s
     (ap (λ (k : Kept _). k.conn) c.self.view_is) c.args.changes.now c.self.invariant c.requires
     c.commit_all.ensures.crash (λ h db opened may. g.met.S.Store.settled h.store db opened may)
 
-pub returns-in-Err-SqliteFailure-OutOfMemory-clause-crash : goal.returns-in-Err-SqliteFailure-OutOfMemory-clause-crash
-returns-in-Err-SqliteFailure-OutOfMemory-clause-crash g c = is_either g.S.Store c.self.inside.conn c.args.self.now.conn
-    c.commit_all.new.conn (ap (λ (k : Kept _). k.conn) c.self.view_is) c.args.changes.now c.self.invariant c.requires
-    c.commit_all.ensures.crash (λ h db opened may. g.met.S.Store.settled h.store db opened may)
-
 pub returns-in-Err-clause-crash : goal.returns-in-Err-clause-crash
 returns-in-Err-clause-crash g c = is_either g.S.Store c.self.inside.conn c.args.self.now.conn c.commit_all.new.conn
     (ap (λ (k : Kept _). k.conn) c.self.view_is) c.args.changes.now c.self.invariant c.requires
