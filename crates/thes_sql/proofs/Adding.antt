@@ -4,7 +4,7 @@ use Rattle.std.proofs.Common.{◌/◌, length, map, filter, fold, slice_get, Boo
 use Rattle.std.proofs.Common.{Some, Ok, refl, sym, ap, subst, ◌∙◌}
 use Rattle.std.proofs.lemmas.Int.{ints}
 use Rattle.sqlite.specs.declared.types.Value.{Value}
-use Rattle.sqlite.specs.declared.types.Value.TheVariants.{Null, Int, Text as Words}
+use Rattle.sqlite.specs.declared.types.Value.TheVariants.{Null, Int}
 use Rattle.sqlite.specs.Order.{Row}
 use Rattle.sqlite.specs.Term.{Term}
 use Rattle.sqlite.specs.Command.TheVariants.{Insert}
@@ -18,7 +18,6 @@ use Rattle.sqlite.specs.Rows.{stamped}
 use Rattle.sqlite.specs.Effect.{value_rows}
 use Rattle.sqlite.specs.Cast.{cast}
 use Rattle.sqlite.specs.Kind.TheVariants.{Integer}
-use Rattle.sqlite.specs.Values.{or_null}
 use Rattle.sqlite.specs.Tree.{put_row}
 use Rattle.sqlite_trees.specs.Tree.{rowid}
 use Rattle.sqlite.specs.Table.{Table}
@@ -34,16 +33,17 @@ use Rattle.thes_rows.specs.declared.rows.HierRow.{HierRow}
 use Rattle.thes_rows.specs.declared.rows.PostingRow.{PostingRow}
 use Rattle.thes_rows.specs.declared.rows.MoveRow.{MoveRow}
 use Rattle.thes_rows.specs.Tables.{Tables, IsIn}
-use Rattle.thes_rows.specs.Cells.{resource_kind_no, optional_cell, hier_type_no}
+use Rattle.thes_rows.specs.Cells.{resource_kind_no, optional_cell, hier_type_no, resource_cells, outside_cells}
+use Rattle.thes_rows.specs.Cells.{posting_cells, move_cells}
 use Rattle.thes_sql.specs.Schema.{resource, outside, label, link, hier, posting, move, store_schema}
-use Rattle.thes_sql.specs.Stored.{Keeps, Rising, AreKeyed, AreHidden, AreNumbered, hidden_row, keyed, numbered_from}
+use Rattle.thes_sql.specs.Stored.{Keeps, Rising, AreKeyed, AreHidden, AreNumbered, hidden_row, values, numbered_from}
 use Rattle.thes_sql.specs.Stored.{stored_resource, stored_outside, stored_posting, stored_move, label_values}
 use Rattle.thes_sql.specs.Stored.{link_values, hier_values, value_of}
 use Rattle.thes_sql.proofs.Texts.{Means}
 use Rattle.thes_sql.proofs.Texts as text
 use Rattle.thes_sql.proofs.Writing.{IsQuietTable, inserted, cast_int, cast_null}
 use Rattle.thes_sql.proofs.Keyed.{keyed_push}
-use Rattle.thes_sql.proofs.Statements.{Rewrites}
+use Rattle.thes_sql.proofs.Statements.{Rewrites, retold}
 use Rattle.thes_sql.proofs.Holding.{keeps_resource, keeps_outside, keeps_label, keeps_link, keeps_hier, keeps_posting}
 use Rattle.thes_sql.proofs.Holding.{keeps_move}
 
@@ -59,14 +59,33 @@ pub puts : (at : ℕ) (table : Table) (sql : List ℕ) (terms : List Term) (widt
 puts at table sql terms width params source new is_at uncounted quiet is given numbers old next count has h =
     let db = old.now.trees in
     let w = runs_as sql params old next store_schema has (Insert at (Values terms width)) is.0 is.1 count h in
-    let it = inserted store_schema at table (Values terms width) params
-    (statement_of sql (understood store_schema sql)) old next count has is_at uncounted quiet w in
+    let it = inserted store_schema at table params (statement_of sql (understood store_schema sql)) old next count has
+    is_at quiet (Values terms width) uncounted w in
     record {
       schema = it.2;
       rows = it.3.rows ∙ ap (λ all. edited db (edit_of db table [] Chosen 0 all)) (it.1.1 ∙ given)
           ∙ ap (λ row. put_row row (db table.tree)) (numbers (db table.tree));
       others = it.3.tables;
     }
+
+-- Rows under numbers of their own.
+
+-- a row above all others is added
+pub adds_keyed : {X : Type 0} (num : X → ℕ) (stored : X → Row) → ((x : X) → rowid (stored x) ≡ Int (pos (num x)))
+    → (at : ℕ) (table : Table) (sql : List ℕ) (terms : List Term) (width : ℕ) (params : Row) (x : X)
+    → slice_get store_schema.tables at ≡ Some table → table.is_counted ≡ false → IsQuietTable store_schema table
+    → Means sql (Insert at (Values terms width))
+    → value_rows (stamped table params) width (length terms / width) terms ≡ stored x ∷ []
+    → ((rows : List Row) → with_rowid Chosen rows (cast_row table (stored x)) ≡ stored x)
+    → (old new : State) (xs : List X) (count : ℕ) → old.now.schema ≡ store_schema
+    → AreKeyed stored num xs (old.now.trees table.tree) → 0 < num x → ((y : X) → Has xs y → num y < num x)
+    → Executes sql params old new (Ok count) → Rewrites table.tree (AreKeyed stored num (xs ++ x ∷ [])) old new
+adds_keyed num stored is_num at table sql terms width params x is_at uncounted quiet is given casts old new xs count
+    has held least below h =
+    retold table.tree old new (λ e. subst (AreKeyed stored num (xs ++ x ∷ [])) (sym e)
+    (keyed_push num stored is_num x xs (old.now.trees table.tree) held least below))
+    (puts at table sql terms width params (stored x) (λ rows. stored x) is_at uncounted quiet is given casts old new
+    count has h)
 
 -- Rows under numbers of the database's own.
 
@@ -115,6 +134,21 @@ module _ {A : Type 0} (of : A → List Value) where
             (put_row (Int z ∷ of x) tree)) (sym is) held;
       }
 
+  -- a row is added
+  pub adds_hidden : (at : ℕ) (table : Table) (sql : List ℕ) (terms : List Term) (width : ℕ) (x : A)
+      → slice_get store_schema.tables at ≡ Some table → table.is_counted ≡ false → IsQuietTable store_schema table
+      → Means sql (Insert at (Values terms width))
+      → value_rows (stamped table (of x)) width (length terms / width) terms ≡ (Null ∷ of x) ∷ []
+      → ((rows : List Row) → with_rowid Chosen rows (cast_row table (Null ∷ of x)) ≡ Int (next_rowid rows) ∷ of x)
+      → (old new : State) (xs : List A) (count : ℕ) → old.now.schema ≡ store_schema
+      → AreHidden of xs (old.now.trees table.tree) → Executes sql (of x) old new (Ok count)
+      → Rewrites table.tree (AreHidden of (xs ++ x ∷ [])) old new
+  adds_hidden at table sql terms width x is_at uncounted quiet is given casts old new xs count has held h =
+      retold table.tree old new (λ e. subst (AreHidden of (xs ++ x ∷ [])) (sym e)
+      (hidden_push x xs (old.now.trees table.tree) held))
+      (puts at table sql terms width (of x) (Null ∷ of x) (λ rows. Int (next_rowid rows) ∷ of x) is_at uncounted quiet
+      is given casts old new count has h)
+
   -- and after some were dropped
   pub hidden_drop : (q : A → Bool) (xs : List A) (old tree : List Row) (h : AreHidden of xs old)
       → AreKeyed (hidden_row of) (λ (row : ℕ × A). row.0) (filter (λ (row : ℕ × A). q row.1) h.given) tree
@@ -156,17 +190,9 @@ postings_below first (r ∷ rows) y num (inl e) = let n = num.0 in let q = ap (�
     omega (arith, n, q)
 postings_below first (r ∷ rows) y num (inr h) = let k = postings_below (first + 1) rows y num.1 h in omega (arith, k)
 
-cast_optional : (o : Option ℕ) → cast Integer (or_null (λ n. Int (pos n)) o) ≡ value_of (optional_cell o)
-cast_optional None = cast_null
-cast_optional (Some n) = cast_int (pos n)
-
 cast_held : (o : Option ℕ) → cast Integer (value_of (optional_cell o)) ≡ value_of (optional_cell o)
 cast_held None = cast_null
 cast_held (Some n) = cast_int (pos n)
-
-abbrev pub resource_params : ℕ → Resource → Row
-resource_params n r = Int (pos n) ∷ Int (pos (resource_kind_no r.kind)) ∷ or_null (λ n. Int (pos n)) r.scheme ∷ Int
-    (pos (cond r.live 1 0)) ∷ or_null (λ n. Int (pos n)) r.replaced ∷ []
 
 pub cast_resource : (row : ℕ × Resource) → cast_row (record resource { tree = 1 })
     (stored_resource row) ≡ stored_resource row
@@ -179,68 +205,35 @@ cast_resource row = rw (
   cast_held row.1.replaced,
 ) refl
 
-cast_source : (n : ℕ) (r : Resource) → cast_row (record resource { tree = 1 })
-    (keyed (resource_params n r)) ≡ stored_resource (n, r)
-cast_source n r = rw (
-  cast_null,
-  cast_int (pos n),
-  cast_int (pos (resource_kind_no r.kind)),
-  cast_optional r.scheme,
-  cast_int (pos (cond r.live 1 0)),
-  cast_optional r.replaced,
-) refl
-
 pub adds_resource : (old new : State) (t : Tables) (n : ℕ) (r : Resource) (count : ℕ) → Keeps old.now t
     → n ≡ length t.resource + 1
-    → Executes text.add_resource_text (resource_params n r) old new (Ok count)
+    → Executes text.add_resource_text (values (resource_cells n r)) old new (Ok count)
     → Keeps new.now (record t { resource = t.resource ++ r ∷ [] })
 adds_resource old new t n r count kept next h =
-    let w = puts 1 (record resource { tree = 1 }) text.add_resource_text text.add_resource_terms 6
-    (resource_params n r) (keyed (resource_params n r)) (λ rows. stored_resource (n, r)) refl refl
-    (λ olds news. refl) text.add_resource_is refl
-    (λ rows. ap (with_rowid Chosen rows) (cast_source n r)) old new count kept.schema h in
     let is : numbered_from 1 t.resource ++ (n, r) ∷ [] ≡ numbered_from 1 (t.resource ++ r ∷ []) =
     ap (λ m. numbered_from 1 t.resource ++ (m, r) ∷ []) (let e : n ≡ 1 + length t.resource = omega (arith, next) in e)
     ∙ sym (numbered_push 1 t.resource r) in
-    let held = keyed_push (λ (row : ℕ × Resource). row.0) stored_resource (λ row. refl) (n, r)
-    (numbered_from 1 t.resource) (old.now.trees 1) kept.hold.resource (omega (arith, next))
-    (λ y k. let b = numbered_below 1 t.resource y k in omega (arith, b, next)) in
-    keeps_resource old new t kept (t.resource ++ r ∷ []) (record {
-      schema = w.schema;
-      rows = subst (λ tree. AreKeyed stored_resource (λ (row : ℕ × Resource). row.0)
-          (numbered_from 1 (t.resource ++ r ∷ [])) tree) (sym w.rows)
-          (subst (λ l. AreKeyed stored_resource (λ (row : ℕ × Resource). row.0) l
-          (put_row (stored_resource (n, r)) (old.now.trees 1))) is held);
-      others = w.others;
-    })
-
-abbrev pub outside_params : ℕ → List ℕ → Row
-outside_params n iri = Int (pos n) ∷ Words iri ∷ []
+    keeps_resource old new t kept (t.resource ++ r ∷ []) (retold 1 old new
+    (subst (λ l. AreKeyed stored_resource (λ (row : ℕ × Resource). row.0) l (new.now.trees 1)) is)
+    (adds_keyed (λ (row : ℕ × Resource). row.0) stored_resource (λ row. refl) 1 (record resource { tree = 1 })
+    text.add_resource_text text.add_resource_terms 6 (values (resource_cells n r)) (n, r) refl refl
+    (λ olds news. refl) text.add_resource_is refl (λ rows. ap (with_rowid Chosen rows) (cast_resource (n, r))) old new
+    (numbered_from 1 t.resource) count kept.schema kept.hold.resource (omega (arith, next))
+    (λ y k. let b = numbered_below 1 t.resource y k in omega (arith, b, next)) h))
 
 cast_outside : (row : ℕ × List ℕ) → cast_row (record outside { tree = 2 }) (stored_outside row) ≡ stored_outside row
 cast_outside row = rw (cast_null, cast_int (pos row.0)) refl
 
-pub adds_outside : (old new : State) (t : Tables) (n : ℕ) (iri : List ℕ) (count : ℕ) → Keeps old.now t → 0 < n
-    → ((other : ℕ × List ℕ) → IsIn other t.outside → other.0 < n)
-    → Executes text.add_outside_text (outside_params n iri) old new (Ok count)
-    → Keeps new.now (record t { outside = t.outside ++ (n, iri) ∷ [] })
-adds_outside old new t n iri count kept least below h =
-    let w = puts 2 (record outside { tree = 2 }) text.add_outside_text text.add_outside_terms 3 (outside_params n iri)
-    (stored_outside (n, iri)) (λ rows. stored_outside (n, iri)) refl refl (λ olds news. refl) text.add_outside_is
-    refl
-    (λ rows. ap (with_rowid Chosen rows) (cast_outside (n, iri))) old new count kept.schema h in
-    let held = keyed_push (λ (row : ℕ × List ℕ). row.0) stored_outside (λ row. refl) (n, iri) t.outside
-    (old.now.trees 2) kept.hold.outside least (λ y k. below y (in_has t.outside y k)) in
-    keeps_outside old new t kept (t.outside ++ (n, iri) ∷ []) (record {
-      schema = w.schema;
-      rows = subst (λ tree. AreKeyed stored_outside (λ (row : ℕ × List ℕ). row.0) (t.outside ++ (n, iri) ∷ []) tree)
-          (sym w.rows) held;
-      others = w.others;
-    })
-
-abbrev pub posting_params : PostingRow → Row
-posting_params p = Int (pos p.number) ∷ Words p.key ∷ Words p.rec ∷ Int (pos p.first) ∷ Int (pos p.place) ∷ Int
-    (pos (cond p.withdrawn 1 0)) ∷ []
+pub adds_outside : (old new : State) (t : Tables) (row : ℕ × List ℕ) (count : ℕ) → Keeps old.now t → 0 < row.0
+    → ((other : ℕ × List ℕ) → IsIn other t.outside → other.0 < row.0)
+    → Executes text.add_outside_text (values (outside_cells row)) old new (Ok count)
+    → Keeps new.now (record t { outside = t.outside ++ row ∷ [] })
+adds_outside old new t row count kept least below h =
+    keeps_outside old new t kept (t.outside ++ row ∷ [])
+    (adds_keyed (λ (row : ℕ × List ℕ). row.0) stored_outside (λ row. refl) 2 (record outside { tree = 2 })
+    text.add_outside_text text.add_outside_terms 3 (values (outside_cells row)) row refl refl (λ olds news. refl)
+    text.add_outside_is refl (λ rows. ap (with_rowid Chosen rows) (cast_outside row)) old new t.outside count
+    kept.schema kept.hold.outside least (λ y k. below y (in_has t.outside y k)) h)
 
 pub cast_posting : (p : PostingRow) → cast_row (record posting { tree = 10 }) (stored_posting p) ≡ stored_posting p
 cast_posting p = rw (
@@ -253,24 +246,16 @@ cast_posting p = rw (
 
 pub adds_posting : (old new : State) (t : Tables) (p : PostingRow) (count : ℕ) → Keeps old.now t
     → p.number ≡ length t.posting + 1
-    → Executes text.add_posting_text (posting_params p) old new (Ok count)
+    → Executes text.add_posting_text (values (posting_cells p)) old new (Ok count)
     → Keeps new.now (record t { posting = t.posting ++ p ∷ [] })
 adds_posting old new t p count kept next h =
-    let w = puts 6 (record posting { tree = 10 }) text.add_posting_text text.add_posting_terms 7 (posting_params p)
-    (stored_posting p) (λ rows. stored_posting p) refl refl (λ olds news. refl) text.add_posting_is refl
-    (λ rows. ap (with_rowid Chosen rows) (cast_posting p)) old new count kept.schema h in
-    let held = keyed_push (λ (row : PostingRow). row.number) stored_posting (λ row. refl) p t.posting
-    (old.now.trees 10) kept.hold.posting (omega (arith, next))
-    (λ y k. let b = postings_below 1 t.posting y kept.hold.numbered k in omega (arith, b, next)) in
-    keeps_posting old new t kept (t.posting ++ p ∷ []) (record {
-      schema = w.schema;
-      rows = subst (λ tree. AreKeyed stored_posting (λ (row : PostingRow). row.number) (t.posting ++ p ∷ []) tree)
-          (sym w.rows) held;
-      others = w.others;
-    }) (postings_push 1 t.posting p kept.hold.numbered (omega (arith, next)))
-
-abbrev pub move_params : MoveRow → Row
-move_params m = Int (pos m.number) ∷ Int (pos m.posting) ∷ Int (pos m.source) ∷ Int (pos m.target) ∷ []
+    keeps_posting old new t kept (t.posting ++ p ∷ [])
+    (adds_keyed (λ (row : PostingRow). row.number) stored_posting (λ row. refl) 6 (record posting { tree = 10 })
+    text.add_posting_text text.add_posting_terms 7 (values (posting_cells p)) p refl refl (λ olds news. refl)
+    text.add_posting_is refl (λ rows. ap (with_rowid Chosen rows) (cast_posting p)) old new t.posting count
+    kept.schema kept.hold.posting (omega (arith, next))
+    (λ y k. let b = postings_below 1 t.posting y kept.hold.numbered k in omega (arith, b, next)) h)
+    (postings_push 1 t.posting p kept.hold.numbered (omega (arith, next)))
 
 cast_move : (m : MoveRow) → cast_row (record move { tree = 12 }) (stored_move m) ≡ stored_move m
 cast_move m = rw (
@@ -283,70 +268,40 @@ cast_move m = rw (
 
 pub adds_move : (old new : State) (t : Tables) (m : MoveRow) (count : ℕ) → Keeps old.now t → 0 < m.number
     → ((other : MoveRow) → IsIn other t.move → other.number < m.number)
-    → Executes text.add_move_text (move_params m) old new (Ok count)
+    → Executes text.add_move_text (values (move_cells m)) old new (Ok count)
     → Keeps new.now (record t { move = t.move ++ m ∷ [] })
 adds_move old new t m count kept least below h =
-    let w = puts 7 (record move { tree = 12 }) text.add_move_text text.add_move_terms 5 (move_params m)
-    (stored_move m) (λ rows. stored_move m) refl refl (λ olds news. refl) text.add_move_is refl
-    (λ rows. ap (with_rowid Chosen rows) (cast_move m)) old new count kept.schema h in
-    let held = keyed_push (λ (row : MoveRow). row.number) stored_move (λ row. refl) m t.move
-    (old.now.trees 12) kept.hold.move least (λ y k. below y (in_has t.move y k)) in
-    keeps_move old new t kept (t.move ++ m ∷ []) (record {
-      schema = w.schema;
-      rows = subst (λ tree. AreKeyed stored_move (λ (row : MoveRow). row.number) (t.move ++ m ∷ []) tree)
-          (sym w.rows) held;
-      others = w.others;
-    })
+    keeps_move old new t kept (t.move ++ m ∷ [])
+    (adds_keyed (λ (row : MoveRow). row.number) stored_move (λ row. refl) 7 (record move { tree = 12 })
+    text.add_move_text text.add_move_terms 5 (values (move_cells m)) m refl refl (λ olds news. refl)
+    text.add_move_is refl (λ rows. ap (with_rowid Chosen rows) (cast_move m)) old new t.move count kept.schema
+    kept.hold.move least (λ y k. below y (in_has t.move y k)) h)
 
 -- The tables without.
 
 pub adds_label : (old new : State) (t : Tables) (l : Label) (count : ℕ) → Keeps old.now t
     → Executes text.add_label_text (label_values l) old new (Ok count)
     → Keeps new.now (record t { label = t.label ++ l ∷ [] })
-adds_label old new t l count kept h =
-    let w = puts 3 (record label { tree = 4 }) text.add_label_text text.add_label_terms 5 (label_values l)
-    (Null ∷ label_values l) (λ rows. Int (next_rowid rows) ∷ label_values l) refl refl
+adds_label old new t l count kept h = keeps_label old new t kept (t.label ++ l ∷ [])
+    (adds_hidden label_values 3 (record label { tree = 4 }) text.add_label_text text.add_label_terms 5 l refl refl
     (λ olds news. refl) text.add_label_is refl
-    (λ rows. rw (cast_null, cast_int (pos l.owner), cast_int (pos (label_kind_no l.kind))) refl) old new count
-    kept.schema h in
-    keeps_label old new t kept (t.label ++ l ∷ []) (record {
-      schema = w.schema;
-      rows =
-          subst (AreHidden label_values (t.label ++ l ∷ [])) (sym w.rows)
-          (hidden_push label_values l t.label (old.now.trees 4) kept.hold.label);
-      others = w.others;
-    })
+    (λ rows. rw (cast_null, cast_int (pos l.owner), cast_int (pos (label_kind_no l.kind))) refl) old new t.label
+    count kept.schema kept.hold.label h)
 
 pub adds_link : (old new : State) (t : Tables) (l : Link) (count : ℕ) → Keeps old.now t
     → Executes text.add_link_text (link_values l) old new (Ok count)
     → Keeps new.now (record t { link = t.link ++ l ∷ [] })
-adds_link old new t l count kept h =
-    let w = puts 4 (record link { tree = 6 }) text.add_link_text text.add_link_terms 4 (link_values l)
-    (Null ∷ link_values l) (λ rows. Int (next_rowid rows) ∷ link_values l) refl refl
+adds_link old new t l count kept h = keeps_link old new t kept (t.link ++ l ∷ [])
+    (adds_hidden link_values 4 (record link { tree = 6 }) text.add_link_text text.add_link_terms 4 l refl refl
     (λ olds news. refl) text.add_link_is refl
     (λ rows. rw (cast_null, cast_int (pos (link_kind_no l.kind)), cast_int (pos l.a), cast_int (pos l.b)) refl) old
-    new count kept.schema h in
-    keeps_link old new t kept (t.link ++ l ∷ []) (record {
-      schema = w.schema;
-      rows =
-          subst (AreHidden link_values (t.link ++ l ∷ [])) (sym w.rows)
-          (hidden_push link_values l t.link (old.now.trees 6) kept.hold.link);
-      others = w.others;
-    })
+    new t.link count kept.schema kept.hold.link h)
 
 pub adds_hier : (old new : State) (t : Tables) (row : HierRow) (count : ℕ) → Keeps old.now t
     → Executes text.add_hier_text (hier_values row) old new (Ok count)
     → Keeps new.now (record t { hier = t.hier ++ row ∷ [] })
-adds_hier old new t row count kept h =
-    let w = puts 5 (record hier { tree = 8 }) text.add_hier_text text.add_hier_terms 4 (hier_values row)
-    (Null ∷ hier_values row) (λ rows. Int (next_rowid rows) ∷ hier_values row) refl refl
+adds_hier old new t row count kept h = keeps_hier old new t kept (t.hier ++ row ∷ [])
+    (adds_hidden hier_values 5 (record hier { tree = 8 }) text.add_hier_text text.add_hier_terms 4 row refl refl
     (λ olds news. refl) text.add_hier_is refl
     (λ rows. rw (cast_null, cast_int (pos row.a), cast_int (pos row.b), cast_int (pos (hier_type_no row.typ))) refl)
-    old new count kept.schema h in
-    keeps_hier old new t kept (t.hier ++ row ∷ []) (record {
-      schema = w.schema;
-      rows =
-          subst (AreHidden hier_values (t.hier ++ row ∷ [])) (sym w.rows)
-          (hidden_push hier_values row t.hier (old.now.trees 8) kept.hold.hier);
-      others = w.others;
-    })
+    old new t.hier count kept.schema kept.hold.hier h)

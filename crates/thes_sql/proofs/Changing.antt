@@ -1,10 +1,15 @@
 -- What each change does.
-use Rattle.std.proofs.Common.{◌≡◌, ℕ, pos, List, [], ◌∷◌, ◌<◌, ◌==◌, map, Bool, not, ◌&&◌}
+use Rattle.std.proofs.Common.{◌≡◌, ℕ, pos, List, [], ◌∷◌, ◌<◌, ◌==◌, map, filter, slice_get, Bool, not, ◌&&◌}
 use Rattle.std.proofs.Common.{if◌then◌else◌, Some, None, Option, Ok, Err, Result, OnOk, refl, sym, subst}
+use Rattle.std.specs.List.{list_all}
 use Rattle.std.specs.Ordering.{eq_by_cmp}
 use Rattle.sqlite.specs.declared.types.Value.TheVariants.{Null, Int}
 use Rattle.sqlite.specs.Order.{Row}
-use Rattle.sqlite.specs.Term.{Term, lit, col}
+use Rattle.sqlite.specs.Term.{Term, lit, col, holds}
+use Rattle.sqlite.specs.Query.{output}
+use Rattle.sqlite.specs.Command.TheVariants.{Update, Delete}
+use Rattle.sqlite.specs.Table.{Table}
+use Rattle.sqlite.specs.declared.types.Value.{Value}
 use Rattle.sqlite.specs.declared.error.Error.{Error}
 use Rattle.sqlite.specs.State.{State, Executes, ExecutesInside}
 use Rattle.thes_base.specs.declared.data.Resource.{Resource}
@@ -18,19 +23,20 @@ use Rattle.thes_rows.specs.declared.rows.MoveRow.{MoveRow}
 use Rattle.thes_rows.specs.declared.change.Change.{Change}
 use Rattle.thes_rows.specs.declared.change.Change.TheVariants as change
 use Rattle.thes_rows.specs.Tables.{Tables, hier_link}
+use Rattle.thes_rows.specs.Cells.{resource_cells, outside_cells, posting_cells, move_cells}
 use Rattle.thes_rows.specs.Rows.{changed, Fits, withdrawn_row, placed_row, without_row}
 use Rattle.thes_rows.specs.Rows.{without_hier}
-use Rattle.thes_sql.specs.Schema.{resource, label, link, hier, posting}
-use Rattle.thes_sql.specs.Stored.{Keeps, AreKeyed, HoldResources, AreHidden, hidden_row, stored_resource}
-use Rattle.thes_sql.specs.Stored.{stored_posting, label_values, link_values, hier_values}
+use Rattle.thes_sql.specs.Schema.{resource, label, link, hier, posting, store_schema}
+use Rattle.thes_sql.specs.Stored.{Keeps, AreKeyed, AreHidden, hidden_row, stored_resource}
+use Rattle.thes_sql.specs.Stored.{stored_posting, label_values, link_values, hier_values, values, numbered_from}
 use Rattle.thes_sql.specs.Does.{Does}
 use Rattle.thes_sql.proofs.Texts.{plain_query, whole, Means}
 use Rattle.thes_sql.proofs.Texts as text
-use Rattle.thes_sql.proofs.Statements.{updates, deletes}
+use Rattle.thes_sql.proofs.Writing.{IsQuietTable}
+use Rattle.thes_sql.proofs.Statements.{Rewrites, retold, updates, deletes}
 use Rattle.thes_sql.proofs.Holding.{keeps_resource, keeps_label, keeps_link, keeps_hier, keeps_posting}
-use Rattle.thes_sql.proofs.Adding.{resource_params, outside_params, posting_params, move_params, cast_resource}
-use Rattle.thes_sql.proofs.Adding.{cast_posting, hidden_drop, adds_resource, adds_outside, adds_label, adds_link}
-use Rattle.thes_sql.proofs.Adding.{adds_hier, adds_posting, adds_move}
+use Rattle.thes_sql.proofs.Adding.{cast_resource, cast_posting, hidden_drop, adds_resource, adds_outside, adds_label}
+use Rattle.thes_sql.proofs.Adding.{adds_link, adds_hier, adds_posting, adds_move}
 use Rattle.thes_sql.proofs.Testing.{by_resource, by_number, by_place, by_label, by_link, by_hier}
 use Rattle.thes_sql.proofs.Places.{dead_is, posting_is, still_numbered}
 
@@ -51,13 +57,13 @@ does text params c makes old new (Ok count) h = record {
 
 -- Additions.
 
-pub makes_resource : (n : ℕ) (r : Resource) → Makes text.add_resource_text (resource_params n r)
+pub makes_resource : (n : ℕ) (r : Resource) → Makes text.add_resource_text (values (resource_cells n r))
     (change.AddResource n r)
 makes_resource n r old new t count kept fits h = adds_resource old new t n r count kept fits h
 
-pub makes_outside : (n : ℕ) (iri : List ℕ) → 0 < n → Makes text.add_outside_text (outside_params n iri)
+pub makes_outside : (n : ℕ) (iri : List ℕ) → 0 < n → Makes text.add_outside_text (values (outside_cells (n, iri)))
     (change.AddOutside n iri)
-makes_outside n iri least old new t count kept fits h = adds_outside old new t n iri count kept least fits h
+makes_outside n iri least old new t count kept fits h = adds_outside old new t (n, iri) count kept least fits h
 
 pub makes_label : (l : Label) → Makes text.add_label_text (label_values l) (change.AddLabel l)
 makes_label l old new t count kept fits h = adds_label old new t l count kept h
@@ -68,18 +74,18 @@ makes_link l old new t count kept fits h = adds_link old new t l count kept h
 pub makes_hier : (row : HierRow) → Makes text.add_hier_text (hier_values row) (change.AddHier row)
 makes_hier row old new t count kept fits h = adds_hier old new t row count kept h
 
-pub makes_posting : (p : PostingRow) → Makes text.add_posting_text (posting_params p) (change.AddPosting p)
+pub makes_posting : (p : PostingRow) → Makes text.add_posting_text (values (posting_cells p)) (change.AddPosting p)
 makes_posting p old new t count kept fits h = adds_posting old new t p count kept fits.0 h
 
-pub makes_move : (m : MoveRow) → 0 < m.number → Makes text.add_move_text (move_params m) (change.AddMove m)
+pub makes_move : (m : MoveRow) → 0 < m.number → Makes text.add_move_text (values (move_cells m)) (change.AddMove m)
 makes_move m least old new t count kept fits h = adds_move old new t m count kept least fits h
 
 -- Resources.
 
 marks_dead : (sql : List ℕ) (params : Row) (n : ℕ) (by : Option ℕ) (live replaced : Term)
-    (is : Means sql (Rattle.sqlite.specs.Command.TheVariants.Update 1
+    (is : Means sql (Update 1
     (whole (plain_query 1 text.retire_query.filter (text.resource_columns live replaced) []))))
-    → ((row : ℕ × Resource) → Rattle.sqlite.specs.Query.output
+    → ((row : ℕ × Resource) → output
     (plain_query 1 text.retire_query.filter (text.resource_columns live replaced) [])
     ((Int (pos n) ∷ params) ∷ stored_resource row ∷ []) ≡
     ([], Int (pos row.0) ∷ stored_resource (row.0, dead by row.1)))
@@ -92,13 +98,10 @@ marks_dead sql params n by live replaced is shows old new t count kept h =
     (λ row. row.0 == n) (by_resource params n)
     (text.resource_columns live replaced) is (λ row. (row.0, dead by row.1)) (λ row. refl) shows
     (λ row. cast_resource (row.0, dead by row.1)) old new
-    (Rattle.thes_sql.specs.Stored.numbered_from 1 t.resource) count kept.schema kept.hold.resource h in
-    keeps_resource old new t kept (marked_dead n by t.resource) (record {
-      schema = w.schema;
-      rows = subst (λ l. AreKeyed stored_resource (λ (row : ℕ × Resource). row.0) l (new.now.trees 1))
-          (sym (dead_is n by t.resource)) w.rows;
-      others = w.others;
-    })
+    (numbered_from 1 t.resource) count kept.schema kept.hold.resource h in
+    keeps_resource old new t kept (marked_dead n by t.resource) (retold 1 old new
+    (subst (λ l. AreKeyed stored_resource (λ (row : ℕ × Resource). row.0) l (new.now.trees 1))
+    (sym (dead_is n by t.resource))) w)
 
 pub makes_retired : (n : ℕ) → Makes text.retire_text (Int (pos n) ∷ []) (change.Retire n)
 makes_retired n old new t count kept fits h = marks_dead text.retire_text [] n None (lit (Int (pos 0)))
@@ -111,11 +114,11 @@ makes_replaced n by old new t count kept fits h = marks_dead text.replace_text (
 -- Postings.
 
 turns : (sql : List ℕ) (params : Row) (filters project : List Term)
-    (is : Means sql (Rattle.sqlite.specs.Command.TheVariants.Update 6 (whole (plain_query 10 filters project []))))
-    (p : PostingRow → Bool) (test : (x : PostingRow) → Rattle.std.specs.List.list_all
-    (Rattle.sqlite.specs.Term.holds (params ∷ stored_posting x ∷ [])) filters ≡ p x)
+    (is : Means sql (Update 6 (whole (plain_query 10 filters project []))))
+    (p : PostingRow → Bool) (test : (x : PostingRow) → list_all
+    (holds (params ∷ stored_posting x ∷ [])) filters ≡ p x)
     (f : PostingRow → PostingRow) (keeps : (x : PostingRow) → (f x).number ≡ x.number)
-    → ((x : PostingRow) → Rattle.sqlite.specs.Query.output (plain_query 10 filters project [])
+    → ((x : PostingRow) → output (plain_query 10 filters project [])
     (params ∷ stored_posting x ∷ []) ≡ ([], Int (pos x.number) ∷ stored_posting (f x)))
     → (old new : State) (t : Tables) (count : ℕ) → Keeps old.now t → Executes sql params old new (Ok count)
     → Keeps new.now (record t { posting = map (λ x. if p x then f x else x) t.posting })
@@ -152,47 +155,33 @@ makes_moved source target old new t count kept fits h =
 
 -- Rows without numbers go.
 
+drops : {A : Type 0} (of : A → List Value) (at : ℕ) (table : Table) → slice_get store_schema.tables at ≡ Some table
+    → IsQuietTable store_schema table → (sql : List ℕ) (x : A) (filters : List Term) (p : A → Bool)
+    → ((row : ℕ × A) → list_all (holds (of x ∷ hidden_row of row ∷ [])) filters ≡ p row.1)
+    → Means sql (Delete at (whole (plain_query table.tree filters (col 1 0 ∷ []) [])))
+    → (old new : State) (xs : List A) (count : ℕ) → old.now.schema ≡ store_schema
+    → AreHidden of xs (old.now.trees table.tree) → Executes sql (of x) old new (Ok count)
+    → Rewrites table.tree (AreHidden of (filter (λ y. not (p y)) xs)) old new
+drops {A} of at table is_at quiet sql x filters p test is old new xs count has held h =
+    retold table.tree old new (hidden_drop of (λ y. not (p y)) xs (old.now.trees table.tree)
+    (new.now.trees table.tree) held)
+    (deletes (λ (row : ℕ × A). row.0) (hidden_row of) (λ row. refl) at table is_at quiet sql (of x) filters
+    (λ row. p row.1) test is (λ row. refl) old new held.given count has held.held h)
+
 pub makes_label_gone : (l : Label) → Makes text.drop_label_text (label_values l) (change.DropLabel l)
-makes_label_gone l old new t count kept fits h =
-    let w = deletes (λ (row : ℕ × Label). row.0) (hidden_row label_values) (λ row. refl) 3
-    (record label { tree = 4 }) refl (λ olds news. refl) text.drop_label_text
-    (label_values l) text.drop_label_query.filter
-    (λ row. eq_by_cmp label_cmp row.1 l) (by_label l) text.drop_label_is (λ row. refl) old new kept.hold.label.given
-    count kept.schema kept.hold.label.held h in
-    keeps_label old new t kept (without_row label_cmp l t.label)
-    (record {
-      schema = w.schema;
-      rows = hidden_drop label_values (λ x. not (eq_by_cmp label_cmp x l)) t.label
-          (old.now.trees 4) (new.now.trees 4) kept.hold.label w.rows;
-      others = w.others;
-    })
+makes_label_gone l old new t count kept fits h = keeps_label old new t kept (without_row label_cmp l t.label)
+    (drops label_values 3 (record label { tree = 4 }) refl (λ olds news. refl) text.drop_label_text l
+    text.drop_label_query.filter (λ x. eq_by_cmp label_cmp x l) (by_label l) text.drop_label_is old new t.label count
+    kept.schema kept.hold.label h)
 
 pub makes_link_gone : (l : Link) → Makes text.drop_link_text (link_values l) (change.DropLink l)
-makes_link_gone l old new t count kept fits h =
-    let w = deletes (λ (row : ℕ × Link). row.0) (hidden_row link_values) (λ row. refl) 4
-    (record link { tree = 6 }) refl (λ olds news. refl) text.drop_link_text
-    (link_values l) text.drop_link_query.filter
-    (λ row. eq_by_cmp link_cmp row.1 l) (by_link l) text.drop_link_is (λ row. refl) old new kept.hold.link.given count
-    kept.schema kept.hold.link.held h in
-    keeps_link old new t kept (without_row link_cmp l t.link)
-    (record {
-      schema = w.schema;
-      rows = hidden_drop link_values (λ x. not (eq_by_cmp link_cmp x l)) t.link
-          (old.now.trees 6) (new.now.trees 6) kept.hold.link w.rows;
-      others = w.others;
-    })
+makes_link_gone l old new t count kept fits h = keeps_link old new t kept (without_row link_cmp l t.link)
+    (drops link_values 4 (record link { tree = 6 }) refl (λ olds news. refl) text.drop_link_text l
+    text.drop_link_query.filter (λ x. eq_by_cmp link_cmp x l) (by_link l) text.drop_link_is old new t.link count
+    kept.schema kept.hold.link h)
 
 pub makes_hier_gone : (l : HierRow) → Makes text.drop_hier_text (hier_values l) (change.DropHier l)
-makes_hier_gone l old new t count kept fits h =
-    let w = deletes (λ (row : ℕ × HierRow). row.0) (hidden_row hier_values) (λ row. refl) 5
-    (record hier { tree = 8 }) refl (λ olds news. refl) text.drop_hier_text
-    (hier_values l) text.drop_hier_query.filter
-    (λ row. eq_by_cmp link_cmp (hier_link row.1) (hier_link l)) (by_hier l) text.drop_hier_is
-    (λ row. refl) old new kept.hold.hier.given count kept.schema kept.hold.hier.held h in
-    keeps_hier old new t kept (without_hier l t.hier) (record {
-      schema = w.schema;
-      rows = hidden_drop hier_values
-          (λ x. not (eq_by_cmp link_cmp (hier_link x) (hier_link l))) t.hier (old.now.trees 8)
-          (new.now.trees 8) kept.hold.hier w.rows;
-      others = w.others;
-    })
+makes_hier_gone l old new t count kept fits h = keeps_hier old new t kept (without_hier l t.hier)
+    (drops hier_values 5 (record hier { tree = 8 }) refl (λ olds news. refl) text.drop_hier_text l
+    text.drop_hier_query.filter (λ x. eq_by_cmp link_cmp (hier_link x) (hier_link l)) (by_hier l) text.drop_hier_is
+    old new t.hier count kept.schema kept.hold.hier h)

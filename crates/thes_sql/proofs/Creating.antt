@@ -1,24 +1,21 @@
 -- What makes a new store of empty tables.
-use Rattle.std.proofs.Common.{arith, ◌≡◌, ◌∙◌, ℕ, pos, List, [], ◌∷◌, Ok, Err, Result, OnOk, refl, ap}
+use Rattle.std.proofs.Common.{arith, ◌≡◌, ◌∙◌, ℕ, pos, List, [], Ok, Err, Result, OnOk, refl, ap}
 use Rattle.sqlite.specs.declared.types.Value.{Value}
-use Rattle.sqlite.specs.declared.types.Value.TheVariants.{Int, Text as Words}
 use Rattle.sqlite.specs.Order.{Row}
 use Rattle.sqlite.specs.Tree.{put_row}
 use Rattle.sqlite_rules.specs.Edit.{with_rowid}
 use Rattle.sqlite_rules.specs.Cast.{cast_row}
 use Rattle.sqlite.specs.Rowids.TheVariants.{Chosen}
 use Rattle.sqlite.specs.declared.error.Error.{Error}
-use Rattle.sqlite.specs.State.{State, ExecutesInside}
+use Rattle.sqlite.specs.State.{State, Executes, ExecutesInside}
 use Rattle.thes_rows.specs.Tables.{no_rows}
+use Rattle.thes_rows.specs.Cells.{meta_cells}
 use Rattle.thes_sql.specs.Schema.{meta, store_schema}
-use Rattle.thes_sql.specs.Stored.{Keeps, AreKeyed, AreHidden, stored_meta}
-use Rattle.thes_sql.specs.Does.{IsEmpty}
+use Rattle.thes_sql.specs.Stored.{Keeps, AreKeyed, AreHidden, stored_meta, values}
+use Rattle.thes_sql.specs.Does.{IsEmpty, Turns}
 use Rattle.thes_sql.proofs.Texts as text
 use Rattle.thes_sql.proofs.Writing.{cast_int, cast_null}
 use Rattle.thes_sql.proofs.Adding.{puts}
-
-abbrev pub meta_params : List ℕ → Row
-meta_params base = Int (pos 1) ∷ Int (pos 2) ∷ Words base ∷ []
 
 cast_meta : (base : List ℕ) → cast_row meta (stored_meta base) ≡ stored_meta base
 cast_meta base = rw (cast_null, cast_int (pos 1), cast_int (pos 2)) refl
@@ -29,13 +26,12 @@ no_keyed stored num tree none = record { rises = tt; rows = none }
 no_hidden : {A : Type 0} (of : A → List Value) (tree : List Row) → tree ≡ [] → AreHidden of [] tree
 no_hidden of tree none = record { given = []; same = refl; held = record { rises = tt; rows = none } }
 
-pub does_meta : (base : List ℕ) (old new : State) (r : Result ℕ Error) → IsEmpty store_schema old.now
-    → ExecutesInside 0 text.add_meta_text (meta_params base) old new r → OnOk r (Keeps new.now (no_rows base))
-does_meta base old new (Err e) empty h = tt
-does_meta base old new (Ok count) empty h =
-    let w = puts 0 meta text.add_meta_text text.add_meta_terms 4 (meta_params base) (stored_meta base)
+pub adds_meta : (base : List ℕ) (old new : State) (count : ℕ) → IsEmpty store_schema old.now
+    → Executes text.add_meta_text (values (meta_cells base)) old new (Ok count) → Keeps new.now (no_rows base)
+adds_meta base old new count empty h =
+    let w = puts 0 meta text.add_meta_text text.add_meta_terms 4 (values (meta_cells base)) (stored_meta base)
     (λ rows. stored_meta base) refl refl (λ olds news. refl) text.add_meta_is refl
-    (λ rows. ap (with_rowid Chosen rows) (cast_meta base)) old new count empty.0 h.0 in
+    (λ rows. ap (with_rowid Chosen rows) (cast_meta base)) old new count empty.0 h in
     let e = empty.1 in
     record {
       schema = w.schema;
@@ -51,3 +47,12 @@ does_meta base old new (Ok count) empty h =
         move = no_keyed _ _ _ (w.others.1.1.1.1.1.1.1.0 (λ q. omega (arith, q)) ∙ e.1.1.1.1.1.1.1.0);
       };
     }
+
+pub does_meta : (base : List ℕ) (old new : State) (r : Result ℕ Error)
+    → ExecutesInside 0 text.add_meta_text (values (meta_cells base)) old new r
+    → OnOk r (Turns (IsEmpty store_schema) (λ db. Keeps db (no_rows base)) old new)
+does_meta base old new (Err e) h = tt
+does_meta base old new (Ok count) h = record {
+  made = λ empty. adds_meta base old new count empty h.0;
+  inside = h.1.mode;
+}

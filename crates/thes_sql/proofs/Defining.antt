@@ -1,6 +1,7 @@
 -- What the texts that make the tables mean.
-use Rattle.std.proofs.Common.{◌≡◌, ℕ, List, [], ◌∷◌, codes, slice_get, Some, None, Ok, Err, Result, OnOk, refl}
-use Rattle.std.proofs.Common.{sym, ap, subst, ◌∙◌, false}
+use Rattle.std.proofs.Common.{arith, ◌≡◌, ℕ, suc, zero, ◌<◌, List, [], ◌∷◌, codes, length, take, drop, slice_get}
+use Rattle.std.proofs.Common.{Some, None, Ok, Err, Result, OnOk, inl, inr, refl, sym, ap, subst, subst₂, ◌∙◌}
+use Rattle.std.proofs.Common.{◌||◌, ◌++◌, true, false, lit<, IsTrue}
 use Rattle.std.specs.List.{AllByRecursion}
 use Rattle.sqlite.specs.Schema.{Schema}
 use Rattle.sqlite.specs.Table.{Table}
@@ -16,103 +17,123 @@ use Rattle.sqlite.specs.declared.error.Error.{Error}
 use Rattle.sqlite_tied.specs.Compute.{everything}
 use Rattle.sqlite.specs.Listing.{understood}
 use Rattle.sqlite.specs.Effect.{Database}
-use Rattle.sqlite.specs.State.{State, mode_of, Writes, Executes, ExecutesInside}
-use Rattle.sqlite.proofs.Callers.{IsPlain, command_of, statement_of, runs_as}
+use Rattle.sqlite.specs.State.{State, mode_of, Runs, ExecutesIn, shows_rows}
+use Rattle.sqlite.specs.Effect.{is_query}
+use Rattle.sqlite.specs.Batch.{first_len, RunInTurn, ExecutesAllInside}
+use Rattle.sqlite.specs.Held.{Held, state}
+use Rattle.sqlite.specs.Command.{Command}
+use Rattle.sqlite_trees.specs.declared.store.Store.{Ghosts}
+use Rattle.sqlite.proofs.Callers.{IsPlain, command_of, statement_of}
 use Rattle.sqlite_trees.proofs.ListLemmas.{all-append}
 use Rattle.thes_sql.specs.Schema.{meta, resource, outside, label, link, hier, posting, move, posting_at, move_posting}
 use Rattle.thes_sql.specs.Schema.{schema_0, schema_1, schema_2, schema_3, schema_4, schema_5, schema_6, schema_7}
-use Rattle.thes_sql.specs.Schema.{schema_8, schema_9}
-use Rattle.thes_sql.specs.Does.{IsEmpty}
+use Rattle.thes_sql.specs.Schema.{schema_8, schema_9, store_schema}
+use Rattle.thes_sql.specs.Does.{IsEmpty, Turns}
 use Rattle.thes_sql.proofs.Writing.{went, same_value}
 
 -- in this schema the text makes the table
-abbrev pub MakesTable : Schema → List ℕ → Table → Type 0
+abbrev MakesTable : Schema → List ℕ → Table → Type 0
 MakesTable schema text table =
-    (command_of (understood schema text) ≡ CreateTable) × (statement_of text (understood schema text) ≡ text)
-    × (table_defined_by text ≡ Ok table) × IsPlain (understood schema text)
+    (command_of (understood schema text) ≡ CreateTable)
+    × (table_defined_by (statement_of text (understood schema text)) ≡ Ok table) × IsPlain (understood schema text)
 
 -- in this schema the text makes the index of the table at this place
-abbrev pub AddsIndex : Schema → List ℕ → ℕ → Table → Index → Type 0
+abbrev AddsIndex : Schema → List ℕ → ℕ → Table → Index → Type 0
 AddsIndex schema text at table index =
-    (command_of (understood schema text) ≡ CreateIndex at) × (statement_of text (understood schema text) ≡ text)
-    × (index_defined_by table text ≡ Ok index) × IsPlain (understood schema text)
+    (command_of (understood schema text) ≡ CreateIndex at)
+    × (index_defined_by table (statement_of text (understood schema text)) ≡ Ok index)
+    × IsPlain (understood schema text)
 
-abbrev pub create_meta_text : List ℕ
+abbrev create_meta_text : List ℕ
 create_meta_text =
-    codes "CREATE TABLE meta (one INTEGER PRIMARY KEY, version INTEGER NOT NULL, base TEXT NOT NULL) STRICT"
+    codes "CREATE TABLE meta (one INTEGER PRIMARY KEY, version INTEGER NOT NULL, base TEXT NOT NULL) STRICT;"
 
-pub create_meta_is : MakesTable schema_0 create_meta_text meta
+create_meta_is : MakesTable schema_0 create_meta_text meta
 unfolding understood everything
-create_meta_is = (refl, refl, refl, (refl, refl))
+create_meta_is = (refl, refl, (refl, refl))
 
-abbrev pub create_resource_text : List ℕ
+abbrev create_resource_text : List ℕ
 create_resource_text =
-    codes "CREATE TABLE resource (num INTEGER PRIMARY KEY, kind INTEGER NOT NULL, scheme INTEGER, live INTEGER NOT NULL, replaced INTEGER) STRICT"
+    codes "CREATE TABLE resource (num INTEGER PRIMARY KEY, kind INTEGER NOT NULL, scheme INTEGER, live INTEGER NOT NULL, replaced INTEGER) STRICT;"
 
-pub create_resource_is : MakesTable schema_1 create_resource_text resource
+create_resource_is : MakesTable schema_1 create_resource_text resource
 unfolding understood everything
-create_resource_is = (refl, refl, refl, (refl, refl))
+create_resource_is = (refl, refl, (refl, refl))
 
-abbrev pub create_outside_text : List ℕ
-create_outside_text = codes "CREATE TABLE outside (num INTEGER PRIMARY KEY, iri TEXT NOT NULL UNIQUE) STRICT"
+abbrev create_outside_text : List ℕ
+create_outside_text = codes "CREATE TABLE outside (num INTEGER PRIMARY KEY, iri TEXT NOT NULL UNIQUE) STRICT;"
 
-pub create_outside_is : MakesTable schema_2 create_outside_text outside
+create_outside_is : MakesTable schema_2 create_outside_text outside
 unfolding understood everything
-create_outside_is = (refl, refl, refl, (refl, refl))
+create_outside_is = (refl, refl, (refl, refl))
 
-abbrev pub create_label_text : List ℕ
+abbrev create_label_text : List ℕ
 create_label_text =
-    codes "CREATE TABLE label (owner INTEGER NOT NULL, kind INTEGER NOT NULL, tag TEXT NOT NULL, text TEXT NOT NULL, PRIMARY KEY (owner, kind, tag, text)) STRICT"
+    codes "CREATE TABLE label (owner INTEGER NOT NULL, kind INTEGER NOT NULL, tag TEXT NOT NULL, text TEXT NOT NULL, PRIMARY KEY (owner, kind, tag, text)) STRICT;"
 
-pub create_label_is : MakesTable schema_3 create_label_text label
+create_label_is : MakesTable schema_3 create_label_text label
 unfolding understood everything
-create_label_is = (refl, refl, refl, (refl, refl))
+create_label_is = (refl, refl, (refl, refl))
 
-abbrev pub create_link_text : List ℕ
+abbrev create_link_text : List ℕ
 create_link_text =
-    codes "CREATE TABLE link (kind INTEGER NOT NULL, a INTEGER NOT NULL, b INTEGER NOT NULL, PRIMARY KEY (kind, a, b)) STRICT"
+    codes "CREATE TABLE link (kind INTEGER NOT NULL, a INTEGER NOT NULL, b INTEGER NOT NULL, PRIMARY KEY (kind, a, b)) STRICT;"
 
-pub create_link_is : MakesTable schema_4 create_link_text link
+create_link_is : MakesTable schema_4 create_link_text link
 unfolding understood everything
-create_link_is = (refl, refl, refl, (refl, refl))
+create_link_is = (refl, refl, (refl, refl))
 
-abbrev pub create_hier_text : List ℕ
+abbrev create_hier_text : List ℕ
 create_hier_text =
-    codes "CREATE TABLE hier (a INTEGER NOT NULL, b INTEGER NOT NULL, typ INTEGER NOT NULL, PRIMARY KEY (a, b, typ)) STRICT"
+    codes "CREATE TABLE hier (a INTEGER NOT NULL, b INTEGER NOT NULL, typ INTEGER NOT NULL, PRIMARY KEY (a, b, typ)) STRICT;"
 
-pub create_hier_is : MakesTable schema_5 create_hier_text hier
+create_hier_is : MakesTable schema_5 create_hier_text hier
 unfolding understood everything
-create_hier_is = (refl, refl, refl, (refl, refl))
+create_hier_is = (refl, refl, (refl, refl))
 
-abbrev pub create_posting_text : List ℕ
+abbrev create_posting_text : List ℕ
 create_posting_text =
-    codes "CREATE TABLE posting (num INTEGER PRIMARY KEY, pkey TEXT NOT NULL UNIQUE, record TEXT NOT NULL, first_at INTEGER NOT NULL, at INTEGER NOT NULL, withdrawn INTEGER NOT NULL) STRICT"
+    codes "CREATE TABLE posting (num INTEGER PRIMARY KEY, pkey TEXT NOT NULL UNIQUE, record TEXT NOT NULL, first_at INTEGER NOT NULL, at INTEGER NOT NULL, withdrawn INTEGER NOT NULL) STRICT;"
 
-pub create_posting_is : MakesTable schema_6 create_posting_text posting
+create_posting_is : MakesTable schema_6 create_posting_text posting
 unfolding understood everything
-create_posting_is = (refl, refl, refl, (refl, refl))
+create_posting_is = (refl, refl, (refl, refl))
 
-abbrev pub create_move_text : List ℕ
+abbrev create_move_text : List ℕ
 create_move_text =
-    codes "CREATE TABLE move (num INTEGER PRIMARY KEY, posting INTEGER NOT NULL, source INTEGER NOT NULL, target INTEGER NOT NULL) STRICT"
+    codes "CREATE TABLE move (num INTEGER PRIMARY KEY, posting INTEGER NOT NULL, source INTEGER NOT NULL, target INTEGER NOT NULL) STRICT;"
 
-pub create_move_is : MakesTable schema_7 create_move_text move
+create_move_is : MakesTable schema_7 create_move_text move
 unfolding understood everything
-create_move_is = (refl, refl, refl, (refl, refl))
+create_move_is = (refl, refl, (refl, refl))
 
-abbrev pub index_posting_at_text : List ℕ
-index_posting_at_text = codes "CREATE INDEX posting_at ON posting (at)"
+abbrev index_posting_at_text : List ℕ
+index_posting_at_text = codes "CREATE INDEX posting_at ON posting (at);"
 
-pub index_posting_at_is : AddsIndex schema_8 index_posting_at_text 6 (record posting { tree = 10 }) posting_at
+index_posting_at_is : AddsIndex schema_8 index_posting_at_text 6 (record posting { tree = 10 }) posting_at
 unfolding understood everything
-index_posting_at_is = (refl, refl, refl, (refl, refl))
+index_posting_at_is = (refl, refl, (refl, refl))
 
-abbrev pub index_move_posting_text : List ℕ
-index_move_posting_text = codes "CREATE INDEX move_posting ON move (posting)"
+abbrev index_move_posting_text : List ℕ
+index_move_posting_text = codes "CREATE INDEX move_posting ON move (posting);"
 
-pub index_move_posting_is : AddsIndex schema_9 index_move_posting_text 7 (record move { tree = 12 }) move_posting
+index_move_posting_is : AddsIndex schema_9 index_move_posting_text 7 (record move { tree = 12 }) move_posting
 unfolding understood everything
-index_move_posting_is = (refl, refl, refl, (refl, refl))
+index_move_posting_is = (refl, refl, (refl, refl))
+
+-- a statement of a batch was run as what its text means
+ran_as : (text : List ℕ) (old new : State) (from : Schema) → old.now.schema ≡ from → (command : Command)
+    → is_query command ≡ false → command_of (understood from text) ≡ command → IsPlain (understood from text)
+    → (count : ℕ) → ExecutesIn true text [] old new (Ok count)
+    → Runs old new None command (statement_of text (understood from text)) [] count
+unfolding ExecutesIn
+ran_as text old new from has command unasked is plain count h =
+    let known = sym h.1.is ∙ ap (λ s. understood s text) has in
+    let bare = subst IsPlain (sym known) plain in
+    let same : h.0.command ≡ command = ap command_of known ∙ is in
+    let hidden : shows_rows true h.0 ≡ false = ap (λ k. is_query k || false) same ∙ rw unasked refl in
+    subst₂ (λ k t. Runs old new None k t [] count) same (ap (statement_of text) known)
+    (rw (bare.0, bare.1) at (rw hidden at h.2))
 
 still_empty : (old next : Trees) (tables : List Table) → KeepsRows tables old next
     → AllByRecursion (λ (t : Table). old t.tree ≡ []) tables → AllByRecursion (λ (t : Table). next t.tree ≡ []) tables
@@ -120,17 +141,16 @@ still_empty old next [] kept none = tt
 still_empty old next (t ∷ tables) kept none = (kept.0 ∙ none.0, still_empty old next tables kept.1 none.1)
 
 -- where each table is empty, a new one is so, too
-pub defines_table : (from : Schema) (text : List ℕ) (table : Table) → MakesTable from text table
+defines_table : (from : Schema) (text : List ℕ) (table : Table) → MakesTable from text table
     → lacks_sequence (created from table) ≡ false
-    → (old new : State) (count : ℕ) → IsEmpty from old.now → Executes text [] old new (Ok count)
+    → (old new : State) (count : ℕ) → IsEmpty from old.now → ExecutesIn true text [] old new (Ok count)
     → IsEmpty (created from table) new.now
 defines_table from text table is uncounted old new count empty h =
-    let w = subst (λ t. Writes old new None CreateTable t [] count) is.1
-    (runs_as text [] old new from empty.0 CreateTable is.0 is.3 count h) in
+    let w = ran_as text old new from empty.0 CreateTable refl is.0 is.2 count h in
     let all = went w.changed in
     let first = went all.1 in
     let made = first.1 in
-    let same : made.table ≡ table = same_value (sym made.defined ∙ is.2) in
+    let same : made.table ≡ table = same_value (sym made.defined ∙ is.1) in
     let schema : first.0.schema ≡ created from table = made.is ∙ ap (λ s. created s made.table) empty.0
     ∙ ap (created from) same in
     let plain : lacks_sequence first.0.schema ≡ false = ap lacks_sequence schema ∙ uncounted in
@@ -147,30 +167,111 @@ defines_table from text table is uncounted old new count empty h =
     )
 
 -- an index changes no row
-pub defines_index : (from : Schema) (text : List ℕ) (at : ℕ) (table : Table) (index : Index)
+defines_index : (from : Schema) (text : List ℕ) (at : ℕ) (table : Table) (index : Index)
     → AddsIndex from text at table index → slice_get from.tables at ≡ Some table
-    → (old new : State) (count : ℕ) → IsEmpty from old.now → Executes text [] old new (Ok count)
+    → (old new : State) (count : ℕ) → IsEmpty from old.now → ExecutesIn true text [] old new (Ok count)
     → IsEmpty (indexed from table index) new.now
 defines_index from text at table index is is_at old new count empty h =
-    let w = subst (λ t. Writes old new None (CreateIndex at) t [] count) is.1
-    (runs_as text [] old new from empty.0 (CreateIndex at) is.0 is.3 count h) in
-    let d1 = subst (λ s. Does old.step_limit (mode_of old) [] (record old.now { schema = s }) text None
-    (CreateIndex at) (Ok (w.tally, new.now))) empty.0 w.changed in
-    let d2 : Defines (mode_of old) (MakesIndex text (record old.now { schema = from }) table) (Ok (w.tally, new.now)) =
-    subst (λ o. AtPlace (λ t. Defines (mode_of old) (MakesIndex text (record old.now { schema = from }) t)) o
-    (Ok (w.tally, new.now))) is_at d1 in
+    let w = ran_as text old new from empty.0 (CreateIndex at) refl is.0 is.2 count h in
+    let d1 = subst (λ s. Does old.step_limit (mode_of old) [] (record old.now { schema = s })
+    (statement_of text (understood from text)) None (CreateIndex at) (Ok (w.tally, new.now))) empty.0 w.changed in
+    let d2 : Defines (mode_of old) (MakesIndex (statement_of text (understood from text))
+    (record old.now { schema = from }) table) (Ok (w.tally, new.now)) =
+    subst (λ o. AtPlace (λ t. Defines (mode_of old) (MakesIndex (statement_of text (understood from text))
+    (record old.now { schema = from }) t)) o (Ok (w.tally, new.now))) is_at d1 in
     let all = went d2 in
     let made = all.1 in
-    let same : made.index ≡ index = same_value (sym made.defined ∙ is.2) in
+    let same : made.index ≡ index = same_value (sym made.defined ∙ is.1) in
     let schema : all.0.schema ≡ indexed from table index = made.is ∙ ap (indexed from table) same in
     let now : new.now ≡ all.0 = ap (λ (p : Tally × Database). p.1) (same_value all.2) in
     subst (IsEmpty (indexed from table index)) (sym now) (schema, still_empty _ _ from.tables made.rows empty.1)
 
--- each of the ten texts, one after another
+-- Texts in turn.
 
-pub does_define : (text : List ℕ) (from to : Schema) → ((old new : State) (count : ℕ) → IsEmpty from old.now
-    → Executes text [] old new (Ok count) → IsEmpty to new.now)
-    → (old new : State) (r : Result ℕ Error) → IsEmpty from old.now → ExecutesInside 0 text [] old new r
-    → OnOk r (IsEmpty to new.now)
-does_define text from to makes old new (Err e) empty h = tt
-does_define text from to makes old new (Ok count) empty h = makes old new count empty h.0
+abbrev texts_9 : List ℕ
+texts_9 = index_move_posting_text
+
+abbrev texts_8 : List ℕ
+texts_8 = index_posting_at_text ++ texts_9
+
+abbrev texts_7 : List ℕ
+texts_7 = create_move_text ++ texts_8
+
+abbrev texts_6 : List ℕ
+texts_6 = create_posting_text ++ texts_7
+
+abbrev texts_5 : List ℕ
+texts_5 = create_hier_text ++ texts_6
+
+abbrev texts_4 : List ℕ
+texts_4 = create_link_text ++ texts_5
+
+abbrev texts_3 : List ℕ
+texts_3 = create_label_text ++ texts_4
+
+abbrev texts_2 : List ℕ
+texts_2 = create_outside_text ++ texts_3
+
+abbrev texts_1 : List ℕ
+texts_1 = create_resource_text ++ texts_2
+
+abbrev texts_0 : List ℕ
+texts_0 = create_meta_text ++ texts_1
+
+-- The texts were run in turn, and this came of it.
+module _ {S : Type 0} (g : Ghosts S) (new : Held S) {Goal : Type 0} where
+  -- the first of them makes an empty database of one schema one of another, and the rest is run then
+  first_made : (text one rest : List ℕ) (from to : Schema) (most : ℕ) (old : Held S)
+      → take (first_len text) text ≡ one → drop (first_len text) text ≡ rest → 0 < length text
+      → ((old new : State) (count : ℕ) → IsEmpty from old.now → ExecutesIn true one [] old new (Ok count)
+      → IsEmpty to new.now)
+      → IsEmpty from (state g old).now → RunInTurn g (Some 0) most text old new (Ok tt)
+      → ((mid : Held S) (less : ℕ) → IsEmpty to (state g mid).now → RunInTurn g (Some 0) less rest mid new (Ok tt)
+      → Goal)
+      → Goal
+  first_made [] one rest from to most old is left some makes empty h then = absurd (omega (arith, some))
+  first_made (b ∷ text) one rest from to zero old is left some makes empty h then = absurd h
+  first_made (b ∷ text) one rest from to (suc most) old is left some makes empty (inl stopped) then =
+      absurd (let e = stopped.1 in cc)
+  first_made (b ∷ text) one rest from to (suc most) old is left some makes empty (inr ran) then =
+      then ran.0 most
+      (makes (state g old) (state g ran.0) ran.1 empty
+      (subst (λ t. ExecutesIn true t [] (state g old) (state g ran.0) (Ok ran.1)) is ran.2.runs))
+      (subst (λ t. RunInTurn g (Some 0) most t ran.0 new (Ok tt)) left ran.3)
+
+module _ {S : Type 0} (g : Ghosts S) where
+  -- all of them make the tables and the indexes
+  pub all_defined : (old new : Held S) → IsEmpty schema_0 (state g old).now
+      → ExecutesAllInside g 0 texts_0 old new (Ok tt) → IsEmpty store_schema (state g new).now
+  unfolding ExecutesAllInside everything
+  all_defined old new empty h =
+      first_made g new texts_0 create_meta_text texts_1 schema_0 schema_1 (length texts_0) old refl refl (lit< tt)
+      (defines_table schema_0 create_meta_text meta create_meta_is refl) empty h (λ at_1 most_1 empty_1 more_1.
+      first_made g new texts_1 create_resource_text texts_2 schema_1 schema_2 most_1 at_1 refl refl (lit< tt)
+      (defines_table schema_1 create_resource_text resource create_resource_is refl) empty_1 more_1 (λ at_2 most_2 empty_2 more_2.
+      first_made g new texts_2 create_outside_text texts_3 schema_2 schema_3 most_2 at_2 refl refl (lit< tt)
+      (defines_table schema_2 create_outside_text outside create_outside_is refl) empty_2 more_2 (λ at_3 most_3 empty_3 more_3.
+      first_made g new texts_3 create_label_text texts_4 schema_3 schema_4 most_3 at_3 refl refl (lit< tt)
+      (defines_table schema_3 create_label_text label create_label_is refl) empty_3 more_3 (λ at_4 most_4 empty_4 more_4.
+      first_made g new texts_4 create_link_text texts_5 schema_4 schema_5 most_4 at_4 refl refl (lit< tt)
+      (defines_table schema_4 create_link_text link create_link_is refl) empty_4 more_4 (λ at_5 most_5 empty_5 more_5.
+      first_made g new texts_5 create_hier_text texts_6 schema_5 schema_6 most_5 at_5 refl refl (lit< tt)
+      (defines_table schema_5 create_hier_text hier create_hier_is refl) empty_5 more_5 (λ at_6 most_6 empty_6 more_6.
+      first_made g new texts_6 create_posting_text texts_7 schema_6 schema_7 most_6 at_6 refl refl (lit< tt)
+      (defines_table schema_6 create_posting_text posting create_posting_is refl) empty_6 more_6 (λ at_7 most_7 empty_7 more_7.
+      first_made g new texts_7 create_move_text texts_8 schema_7 schema_8 most_7 at_7 refl refl (lit< tt)
+      (defines_table schema_7 create_move_text move create_move_is refl) empty_7 more_7 (λ at_8 most_8 empty_8 more_8.
+      first_made g new texts_8 index_posting_at_text texts_9 schema_8 schema_9 most_8 at_8 refl refl (lit< tt)
+      (defines_index schema_8 index_posting_at_text 6 (record posting { tree = 10 }) posting_at index_posting_at_is refl) empty_8 more_8 (λ at_9 most_9 empty_9 more_9.
+      first_made g new texts_9 index_move_posting_text [] schema_9 store_schema most_9 at_9 refl refl (lit< tt)
+      (defines_index schema_9 index_move_posting_text 7 (record move { tree = 12 }) move_posting index_move_posting_is refl) empty_9 more_9 (λ at_10 most_10 empty_10 more_10.
+      subst (λ h. IsEmpty store_schema (state g h).now) (sym more_10.1) empty_10))))))))))
+
+  pub does_define : (old new : Held S) (r : Result (Unit {0}) Error) → ExecutesAllInside g 0 texts_0 old new r
+      → OnOk r ((state g new).in_transaction ≡ (state g old).in_transaction) → IsTrue (state g old).in_transaction
+      → OnOk r (Turns (IsEmpty schema_0) (IsEmpty store_schema) (state g old) (state g new))
+  does_define old new (Err e) h same inside = tt
+  does_define old new (Ok done) h same inside = record {
+    made = λ empty. all_defined old new empty h;
+    inside = same ∙ inside;
+  }

@@ -1,8 +1,9 @@
 -- Lists by membership, and tables: rows in the order of their numbers.
-use Rattle.std.proofs.Common.{arith, ◌≡◌, ◌⊎◌, inl, inr, ℕ, ℤ, pos, ◌==◌, List, [], ◌∷◌, map, filter, Bool, true}
+use Rattle.std.proofs.Common.{arith, ◌≡◌, inl, inr, ℕ, ℤ, pos, ◌==◌, List, [], ◌∷◌, map, filter, Bool, true}
 use Rattle.std.proofs.Common.{false, not, cond, refl, sym, ap, subst, ◌∙◌, Less, is_eq}
 use Rattle.std.specs.List.{AllByRecursion}
 use Rattle.std.specs.List.Sorted.{IsPermutation}
+use Rattle.std.proofs.lemmas.Bool.{not-true}
 use Rattle.std.proofs.lemmas.Bool.Decides.{nat_tests}
 use Rattle.std.proofs.lemmas.Int.{ints}
 use Rattle.std.specs.Ordering.{ordering_reverse}
@@ -22,16 +23,8 @@ use Rattle.sqlite_keyed.proofs.ListLemmas.{along_permutation}
 
 -- Elements of lists.
 
-pub decided : (b : Bool) → (b ≡ true) ⊎ (b ≡ false)
-decided true = inl refl
-decided false = inr refl
-
 pub clash : {A : Type 0} (b : Bool) → b ≡ true → b ≡ false → A
 clash b e f = absurd (cc)
-
-pub not_true : (b : Bool) → not b ≡ true → b ≡ false
-not_true true e = absurd (cc)
-not_true false e = refl
 
 pub perm_has : {A : Type 0} (xs ys : List A) → IsPermutation xs ys → (x : A) → Has xs x → Has ys x
 perm_has {A} = along_permutation (λ (xs ys : List A). (x : A) → Has xs x → Has ys x)
@@ -114,7 +107,7 @@ pub left_not : (ids : List ℤ) (rows : List Row) (x : Row) → Has (without_all
     → has_rowid id x ≡ false
 left_not [] rows x h id m = absurd m
 left_not (j ∷ ids) rows x h id (inl e) = ap (λ k. has_rowid k x) e
-    ∙ not_true _ (filter_has (λ r. not (has_rowid j r)) rows x (without_all_has ids (without_rowid j rows) x h)).1
+    ∙ not-true _ (filter_has (λ r. not (has_rowid j r)) rows x (without_all_has ids (without_rowid j rows) x h)).1
 left_not (j ∷ ids) rows x h id (inr m) = left_not ids (without_rowid j rows) x h id m
 
 pub left_has : (ids : List ℤ) (rows : List Row) (x : Row) → Has rows x

@@ -1,173 +1,140 @@
 -- A store after one of its tables was rewritten.
-use Rattle.std.proofs.Common.{arith, ◌≡◌, ◌≢◌, ℕ, List, [], ◌∷◌, sym, subst, ◌∙◌}
+use Rattle.std.proofs.Common.{arith, ◌≡◌, ◌≢◌, ℕ, List, [], ◌∷◌, sym, subst}
 use Rattle.sqlite.specs.Order.{Row}
+use Rattle.sqlite.specs.Tree.{Trees}
 use Rattle.sqlite.specs.State.{State}
 use Rattle.thes_base.specs.declared.data.Resource.{Resource}
 use Rattle.thes_base.specs.declared.data.Link.{Link}
 use Rattle.thes_base.specs.Labels.{Label}
+use Rattle.thes_base.specs.declared.fault.Table.{Table}
+use Rattle.thes_base.specs.declared.fault.Table.TheVariants as table
 use Rattle.thes_rows.specs.declared.rows.HierRow.{HierRow}
 use Rattle.thes_rows.specs.declared.rows.PostingRow.{PostingRow}
 use Rattle.thes_rows.specs.declared.rows.MoveRow.{MoveRow}
 use Rattle.thes_rows.specs.Tables.{Tables}
-use Rattle.thes_sql.specs.Stored.{Keeps, AreHidden, AreNumbered, HoldResources, HoldOutside, HoldPostings}
+use Rattle.thes_sql.specs.Stored.{Hold, Keeps, AreHidden, AreNumbered, HoldResources, HoldOutside, HoldPostings}
 use Rattle.thes_sql.specs.Stored.{HoldMoves, label_values, link_values, hier_values, stored_meta}
-use Rattle.thes_sql.proofs.Statements.{Rewrites}
+use Rattle.thes_sql.proofs.Statements.{Rewrites, Untouched}
+
+-- the tree of a table, and what it holds
+abbrev pub tree_of : Table → ℕ
+tree_of table.Meta = 0
+tree_of table.Resource = 1
+tree_of table.Outside = 2
+tree_of table.Label = 4
+tree_of table.Link = 6
+tree_of table.Hier = 8
+tree_of table.Posting = 10
+tree_of table.Move = 12
+
+abbrev pub Holds : Table → Tables → List Row → Type 0
+Holds table.Meta t tree = tree ≡ stored_meta t.base ∷ []
+Holds table.Resource t tree = HoldResources t.resource tree
+Holds table.Outside t tree = HoldOutside t.outside tree
+Holds table.Label t tree = AreHidden label_values t.label tree
+Holds table.Link t tree = AreHidden link_values t.link tree
+Holds table.Hier t tree = AreHidden hier_values t.hier tree
+Holds table.Posting t tree = HoldPostings t.posting tree
+Holds table.Move t tree = HoldMoves t.move tree
+
+pub held_at : (db : Trees) (t : Tables) → Hold db t → (p : Table) → Holds p t (db (tree_of p))
+held_at db t h table.Meta = h.meta
+held_at db t h table.Resource = h.resource
+held_at db t h table.Outside = h.outside
+held_at db t h table.Label = h.label
+held_at db t h table.Link = h.link
+held_at db t h table.Hier = h.hier
+held_at db t h table.Posting = h.posting
+held_at db t h table.Move = h.move
+
+pub hold_all : (db : Trees) (t : Tables) → ((p : Table) → Holds p t (db (tree_of p))) → AreNumbered 1 t.posting
+    → Hold db t
+hold_all db t each numbered = record {
+  meta = each table.Meta;
+  resource = each table.Resource;
+  outside = each table.Outside;
+  label = each table.Label;
+  link = each table.Link;
+  hier = each table.Hier;
+  posting = each table.Posting;
+  numbered = numbered;
+  move = each table.Move;
+}
+
+pub untouched : (tree : ℕ) (old new : Trees) → Untouched tree old new → (p : Table) → tree_of p ≢ tree
+    → new (tree_of p) ≡ old (tree_of p)
+untouched tree old new same table.Meta = same.0
+untouched tree old new same table.Resource = same.1.0
+untouched tree old new same table.Outside = same.1.1.0
+untouched tree old new same table.Label = same.1.1.1.0
+untouched tree old new same table.Link = same.1.1.1.1.0
+untouched tree old new same table.Hier = same.1.1.1.1.1.0
+untouched tree old new same table.Posting = same.1.1.1.1.1.1.0
+untouched tree old new same table.Move = same.1.1.1.1.1.1.1.0
 
 module _ (old new : State) (t : Tables) (kept : Keeps old.now t) where
-  -- what each other table holds, where the tree of one was rewritten
-  record Others (tree : ℕ) : Type 0 where
-    meta : 0 ≢ tree → new.now.trees 0 ≡ stored_meta t.base ∷ []
-    resource : 1 ≢ tree → HoldResources t.resource (new.now.trees 1)
-    outside : 2 ≢ tree → HoldOutside t.outside (new.now.trees 2)
-    label : 4 ≢ tree → AreHidden label_values t.label (new.now.trees 4)
-    link : 6 ≢ tree → AreHidden link_values t.link (new.now.trees 6)
-    hier : 8 ≢ tree → AreHidden hier_values t.hier (new.now.trees 8)
-    posting : 10 ≢ tree → HoldPostings t.posting (new.now.trees 10)
-    move : 12 ≢ tree → HoldMoves t.move (new.now.trees 12)
+  module _ {tree : ℕ} {Held : List Row → Type 0} (w : Rewrites tree Held old new) where
+    -- another table holds what it held
+    other : (p : Table) → tree_of p ≢ tree → Holds p t (new.now.trees (tree_of p))
+    other p apart = subst (Holds p t) (sym (untouched tree old.now.trees new.now.trees w.others p apart))
+        (held_at old.now.trees t kept.hold p)
 
-  others : (tree : ℕ) (Holds : List Row → Type 0) → Rewrites tree Holds old new → Others tree
-  others tree Holds w =
-      let h = kept.hold in
-      record {
-        meta = λ ne. w.others.0 ne ∙ h.meta;
-        resource = λ ne. subst (HoldResources t.resource) (sym (w.others.1.0 ne)) h.resource;
-        outside = λ ne. subst (HoldOutside t.outside) (sym (w.others.1.1.0 ne)) h.outside;
-        label = λ ne. subst (AreHidden label_values t.label) (sym (w.others.1.1.1.0 ne)) h.label;
-        link = λ ne. subst (AreHidden link_values t.link) (sym (w.others.1.1.1.1.0 ne)) h.link;
-        hier = λ ne. subst (AreHidden hier_values t.hier) (sym (w.others.1.1.1.1.1.0 ne)) h.hier;
-        posting = λ ne. subst (HoldPostings t.posting) (sym (w.others.1.1.1.1.1.1.0 ne)) h.posting;
-        move = λ ne. subst (HoldMoves t.move) (sym (w.others.1.1.1.1.1.1.1.0 ne)) h.move;
-      }
+    kept_with : (u : Tables) → ((p : Table) → Holds p u (new.now.trees (tree_of p))) → AreNumbered 1 u.posting
+        → Keeps new.now u
+    kept_with u each numbered = record { schema = w.schema; hold = hold_all new.now.trees u each numbered }
 
   pub keeps_resource : (rows : List Resource) → Rewrites 1 (HoldResources rows) old new
       → Keeps new.now (record t { resource = rows })
-  keeps_resource rows w =
-      let o = others 1 (HoldResources rows) w in
-      record {
-        schema = w.schema;
-        hold = record {
-          meta = o.meta (λ e. omega (arith, e));
-          resource = w.rows;
-          outside = o.outside (λ e. omega (arith, e));
-          label = o.label (λ e. omega (arith, e));
-          link = o.link (λ e. omega (arith, e));
-          hier = o.hier (λ e. omega (arith, e));
-          posting = o.posting (λ e. omega (arith, e));
-          numbered = kept.hold.numbered;
-          move = o.move (λ e. omega (arith, e));
-        };
-      }
+  keeps_resource rows w = kept_with w (record t { resource = rows }) each kept.hold.numbered
+    where
+      each : (p : Table) → Holds p (record t { resource = rows }) (new.now.trees (tree_of p))
+      each table.Resource = w.rows
+      each p = other w p (λ e. omega (arith, e))
 
   pub keeps_outside : (rows : List (ℕ × List ℕ)) → Rewrites 2 (HoldOutside rows) old new
       → Keeps new.now (record t { outside = rows })
-  keeps_outside rows w =
-      let o = others 2 (HoldOutside rows) w in
-      record {
-        schema = w.schema;
-        hold = record {
-          meta = o.meta (λ e. omega (arith, e));
-          resource = o.resource (λ e. omega (arith, e));
-          outside = w.rows;
-          label = o.label (λ e. omega (arith, e));
-          link = o.link (λ e. omega (arith, e));
-          hier = o.hier (λ e. omega (arith, e));
-          posting = o.posting (λ e. omega (arith, e));
-          numbered = kept.hold.numbered;
-          move = o.move (λ e. omega (arith, e));
-        };
-      }
+  keeps_outside rows w = kept_with w (record t { outside = rows }) each kept.hold.numbered
+    where
+      each : (p : Table) → Holds p (record t { outside = rows }) (new.now.trees (tree_of p))
+      each table.Outside = w.rows
+      each p = other w p (λ e. omega (arith, e))
 
   pub keeps_label : (rows : List Label) → Rewrites 4 (AreHidden label_values rows) old new
       → Keeps new.now (record t { label = rows })
-  keeps_label rows w =
-      let o = others 4 (AreHidden label_values rows) w in
-      record {
-        schema = w.schema;
-        hold = record {
-          meta = o.meta (λ e. omega (arith, e));
-          resource = o.resource (λ e. omega (arith, e));
-          outside = o.outside (λ e. omega (arith, e));
-          label = w.rows;
-          link = o.link (λ e. omega (arith, e));
-          hier = o.hier (λ e. omega (arith, e));
-          posting = o.posting (λ e. omega (arith, e));
-          numbered = kept.hold.numbered;
-          move = o.move (λ e. omega (arith, e));
-        };
-      }
+  keeps_label rows w = kept_with w (record t { label = rows }) each kept.hold.numbered
+    where
+      each : (p : Table) → Holds p (record t { label = rows }) (new.now.trees (tree_of p))
+      each table.Label = w.rows
+      each p = other w p (λ e. omega (arith, e))
 
   pub keeps_link : (rows : List Link) → Rewrites 6 (AreHidden link_values rows) old new
       → Keeps new.now (record t { link = rows })
-  keeps_link rows w =
-      let o = others 6 (AreHidden link_values rows) w in
-      record {
-        schema = w.schema;
-        hold = record {
-          meta = o.meta (λ e. omega (arith, e));
-          resource = o.resource (λ e. omega (arith, e));
-          outside = o.outside (λ e. omega (arith, e));
-          label = o.label (λ e. omega (arith, e));
-          link = w.rows;
-          hier = o.hier (λ e. omega (arith, e));
-          posting = o.posting (λ e. omega (arith, e));
-          numbered = kept.hold.numbered;
-          move = o.move (λ e. omega (arith, e));
-        };
-      }
+  keeps_link rows w = kept_with w (record t { link = rows }) each kept.hold.numbered
+    where
+      each : (p : Table) → Holds p (record t { link = rows }) (new.now.trees (tree_of p))
+      each table.Link = w.rows
+      each p = other w p (λ e. omega (arith, e))
 
   pub keeps_hier : (rows : List HierRow) → Rewrites 8 (AreHidden hier_values rows) old new
       → Keeps new.now (record t { hier = rows })
-  keeps_hier rows w =
-      let o = others 8 (AreHidden hier_values rows) w in
-      record {
-        schema = w.schema;
-        hold = record {
-          meta = o.meta (λ e. omega (arith, e));
-          resource = o.resource (λ e. omega (arith, e));
-          outside = o.outside (λ e. omega (arith, e));
-          label = o.label (λ e. omega (arith, e));
-          link = o.link (λ e. omega (arith, e));
-          hier = w.rows;
-          posting = o.posting (λ e. omega (arith, e));
-          numbered = kept.hold.numbered;
-          move = o.move (λ e. omega (arith, e));
-        };
-      }
+  keeps_hier rows w = kept_with w (record t { hier = rows }) each kept.hold.numbered
+    where
+      each : (p : Table) → Holds p (record t { hier = rows }) (new.now.trees (tree_of p))
+      each table.Hier = w.rows
+      each p = other w p (λ e. omega (arith, e))
 
   pub keeps_posting : (rows : List PostingRow) → Rewrites 10 (HoldPostings rows) old new → AreNumbered 1 rows
       → Keeps new.now (record t { posting = rows })
-  keeps_posting rows w num =
-      let o = others 10 (HoldPostings rows) w in
-      record {
-        schema = w.schema;
-        hold = record {
-          meta = o.meta (λ e. omega (arith, e));
-          resource = o.resource (λ e. omega (arith, e));
-          outside = o.outside (λ e. omega (arith, e));
-          label = o.label (λ e. omega (arith, e));
-          link = o.link (λ e. omega (arith, e));
-          hier = o.hier (λ e. omega (arith, e));
-          posting = w.rows;
-          numbered = num;
-          move = o.move (λ e. omega (arith, e));
-        };
-      }
+  keeps_posting rows w num = kept_with w (record t { posting = rows }) each num
+    where
+      each : (p : Table) → Holds p (record t { posting = rows }) (new.now.trees (tree_of p))
+      each table.Posting = w.rows
+      each p = other w p (λ e. omega (arith, e))
 
   pub keeps_move : (rows : List MoveRow) → Rewrites 12 (HoldMoves rows) old new
       → Keeps new.now (record t { move = rows })
-  keeps_move rows w =
-      let o = others 12 (HoldMoves rows) w in
-      record {
-        schema = w.schema;
-        hold = record {
-          meta = o.meta (λ e. omega (arith, e));
-          resource = o.resource (λ e. omega (arith, e));
-          outside = o.outside (λ e. omega (arith, e));
-          label = o.label (λ e. omega (arith, e));
-          link = o.link (λ e. omega (arith, e));
-          hier = o.hier (λ e. omega (arith, e));
-          posting = o.posting (λ e. omega (arith, e));
-          numbered = kept.hold.numbered;
-          move = w.rows;
-        };
-      }
+  keeps_move rows w = kept_with w (record t { move = rows }) each kept.hold.numbered
+    where
+      each : (p : Table) → Holds p (record t { move = rows }) (new.now.trees (tree_of p))
+      each table.Move = w.rows
+      each p = other w p (λ e. omega (arith, e))

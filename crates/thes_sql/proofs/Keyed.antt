@@ -4,6 +4,7 @@ use Rattle.std.proofs.Common.{Bool, true, false, not, cond, if◌then◌else◌,
 use Rattle.std.specs.List.{AllByRecursion}
 use Rattle.std.specs.List.Sorted.{IsPermutation}
 use Rattle.std.proofs.lemmas.List.Sorted.{IsPermutation-sym}
+use Rattle.std.proofs.lemmas.Bool.{cases_Bool, not-true}
 use Rattle.std.proofs.lemmas.Bool.Decides.{nat_tests}
 use Rattle.std.proofs.lemmas.Int.{ints}
 use Rattle.sqlite.specs.declared.types.Value.TheVariants.{Int}
@@ -16,7 +17,7 @@ use Rattle.sqlite_rules.specs.Edit.{put_all, without_all, numbered, are_fresh, i
 use Rattle.sqlite_rules.specs.Lists.{Has}
 use Rattle.sqlite_rules.proofs.TableLemmas.{put_all_has, put_all_keeps, put_all_adds, without_all_has}
 use Rattle.thes_sql.specs.Stored.{Rising, AreKeyed}
-use Rattle.thes_sql.proofs.Elements.{decided, clash, not_true, perm_has, map_has, has_map, filter_has, has_filter}
+use Rattle.thes_sql.proofs.Elements.{clash, perm_has, map_has, has_map, filter_has, has_filter}
 use Rattle.thes_sql.proofs.Elements.{same_rows, table_put, table_left, left_not, left_has, given_same, test_id}
 use Rattle.thes_sql.proofs.Elements.{same_num, num_same}
 
@@ -137,7 +138,7 @@ module _ {X : Type 0} (num : X → ℕ) where
 
       kept : (x : X) → Has xs x → p x ≡ false → Has left (stored x)
       kept x h t = left_has ids (map stored xs) (stored x) (has_map stored xs x h)
-          (λ id m. let k = id_of id m in elim (decided (has_rowid id (stored x))) [
+          (λ id m. let k = id_of id m in elim (cases_Bool (has_rowid id (stored x))) [
             | inl hit ↦
                 let same = once 0 xs up x k.0 h k.1 (same_num (num x) (num k.0) (sym (has_num (num k.0) x)
                 ∙ ap (λ j. has_rowid j (stored x)) (sym k.3) ∙ hit)) in
@@ -159,7 +160,7 @@ module _ {X : Type 0} (num : X → ℕ) where
           there : (r : Row) → Has left r → Has (map stored (filter (λ x. not (p x)) xs)) r
           there r h =
               let m = map_has stored xs r (without_all_has ids (map stored xs) r h) in
-              elim (decided (p m.0)) [
+              elim (cases_Bool (p m.0)) [
                 | inl t ↦ absurd (gone m.0 r m.1 t m.2 h)
                 | inr t ↦ subst (Has (map stored (filter (λ x. not (p x)) xs))) (sym m.2)
                     (has_map stored (filter (λ x. not (p x)) xs) m.0
@@ -170,7 +171,7 @@ module _ {X : Type 0} (num : X → ℕ) where
           back r h =
               let m = map_has stored (filter (λ x. not (p x)) xs) r h in
               let k = filter_has (λ x. not (p x)) xs m.0 m.1 in
-              subst (Has left) (sym m.2) (kept m.0 k.0 (not_true (p m.0) k.1))
+              subst (Has left) (sym m.2) (kept m.0 k.0 (not-true (p m.0) k.1))
 
       module _ (f : X → X) (keeps : (x : X) → num (f x) ≡ num x) (cast : Row → Row) (is_cast : (x : X)
           → cast (shown x) ≡ stored (f x)) where
@@ -184,7 +185,7 @@ module _ {X : Type 0} (num : X → ℕ) where
         changed_no x e = ap (λ b. if b then f x else x) e
 
         pub change_num : (x : X) → num (change x) ≡ num x
-        change_num x = elim (decided (p x)) [
+        change_num x = elim (cases_Bool (p x)) [
           | inl t ↦ ap num (changed_yes x t)
               ∙ keeps x
           | inr t ↦ ap num (changed_no x t)
@@ -210,7 +211,7 @@ module _ {X : Type 0} (num : X → ℕ) where
                   final g.0 r g.1 (m.2 ∙ ap cast g.3 ∙ is_cast g.0 ∙ ap stored (sym (changed_yes g.0 g.2)))
               | inr old ↦
                   let m = map_has stored xs r (without_all_has ids (map stored xs) r old) in
-                  elim (decided (p m.0)) [
+                  elim (cases_Bool (p m.0)) [
                     | inl t ↦ absurd (gone m.0 r m.1 t m.2 old)
                     | inr t ↦ final m.0 r m.1 (m.2 ∙ ap stored (sym (changed_no m.0 t)))
                   ]
@@ -221,7 +222,7 @@ module _ {X : Type 0} (num : X → ℕ) where
                 let a = map_has stored (map change xs) r h in
                 let b = map_has change xs a.0 a.1 in
                 let is : r ≡ stored (change b.0) = a.2 ∙ ap stored b.2 in
-                elim (decided (p b.0)) [
+                elim (cases_Bool (p b.0)) [
                   | inl t ↦ put_all_adds news left r fresh
                       (subst (λ l. Has l r) (sym (given_same left (map cast given)))
                       (subst (Has (map cast given)) (is_cast b.0 ∙ ap stored (sym (changed_yes b.0 t))

@@ -11,3 +11,5 @@ pub mod Changing
 pub mod Runs
 pub mod Defining
 pub mod Creating
+pub mod Reading
+pub mod Leaving

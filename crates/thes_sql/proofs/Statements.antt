@@ -31,7 +31,7 @@ use Rattle.thes_sql.proofs.Texts.{plain_query, whole, Means}
 use Rattle.thes_sql.proofs.Writing.{IsQuietTable, updated, deleted}
 use Rattle.thes_sql.proofs.Keyed.{many_updated, many_dropped, change_num, rising_map, rising_filter}
 
--- the other tables' trees are as they were
+-- The other tables' trees are as they were.
 abbrev pub Untouched : ℕ → Trees → Trees → Type 0
 Untouched tree old new = AllByRecursion (λ (t : Table). t.tree ≢ tree → new t.tree ≡ old t.tree) store_schema.tables
 
@@ -49,6 +49,11 @@ IsPermutation-map {A} {B} g = along_permutation (λ (xs ys : List A). IsPermutat
     (λ x y xs. IsPermutation-append_left (map g xs) (g x ∷ g y ∷ []) (g y ∷ g x ∷ [])
     (IsPermutation-append_comm (g x ∷ []) (g y ∷ [])))
     (λ xs ys zs p q. IsPermutation-trans _ _ _ p q)
+
+-- what the tree holds, told in another way
+pub retold : (tree : ℕ) {P Q : List Row → Type 0} (old new : State)
+    → (P (new.now.trees tree) → Q (new.now.trees tree)) → Rewrites tree P old new → Rewrites tree Q old new
+retold tree old new tell w = record { schema = w.schema; rows = tell w.rows; others = w.others }
 
 -- where a query has no tables of its own, it reads those of the database
 pub no_lets : (db : Trees) (t : ℕ) → overlay db [] t ≡ db t
@@ -121,8 +126,8 @@ module _ {X : Type 0} (num : X → ℕ) (stored : X → Row) (is_num : (x : X) �
       let db = old.now.trees in
       let q = whole (plain_query table.tree filters (col 1 0 ∷ []) []) in
       let w = runs_as text params old new store_schema has (Delete at q) is.0 is.1 count h in
-      let did = deleted store_schema at table q params (statement_of text (understood store_schema text)) old new
-      count has is_at quiet w in
+      let did = deleted store_schema at table params (statement_of text (understood store_schema text)) old new count
+      has is_at quiet q w in
       let given = answered stored params filters p test table.tree (col 1 0 ∷ [])
       (λ x. Int (pos (num x)) ∷ []) shows db xs did.0 held.rows did.1 in
       let left = many_dropped num stored is_num p xs held.rises did.0 (λ x. Int (pos (num x)) ∷ []) given (λ x. refl) in
@@ -155,8 +160,8 @@ module _ {X : Type 0} (num : X → ℕ) (stored : X → Row) (is_num : (x : X) �
         let db = old.now.trees in
         let q = whole (plain_query table.tree filters project []) in
         let w = runs_as text params old new store_schema has (Update at q) is.0 is.1 count h in
-        let did = updated store_schema at table q params (statement_of text (understood store_schema text)) old new
-        count has is_at quiet w in
+        let did = updated store_schema at table params (statement_of text (understood store_schema text)) old new
+        count has is_at quiet q w in
         let given = answered stored params filters p test table.tree project shown shows db xs did.0 held.rows did.1 in
         let fresh : are_fresh (without_all (map stored xs) (ids_of did.0)) (news (map stored xs) did.0) ≡ true =
         subst (λ (l : List Row). are_fresh (without_all l (ids_of did.0)) (news l did.0) ≡ true) held.rows did.3.fresh

@@ -1,5 +1,5 @@
 -- What a write leaves, in a schema with no foreign key, AUTOINCREMENT or default that reads the time.
-use Rattle.std.proofs.Common.{◌≡◌, ◌⊎◌, inl, inr, ℕ, List, [], slice_get, Bool, true}
+use Rattle.std.proofs.Common.{◌≡◌, ◌⊎◌, inl, inr, ℕ, ℤ, List, [], slice_get, Bool, true}
 use Rattle.std.proofs.Common.{false, cond, Option, Some, None, Ok, Err, Result, refl, sym, ap, subst, ◌∙◌}
 use Rattle.sqlite.specs.declared.types.Value.{Value}
 use Rattle.sqlite.specs.declared.types.Value.TheVariants.{Null, Int}
@@ -9,13 +9,15 @@ use Rattle.sqlite.specs.Table.{Table}
 use Rattle.sqlite.specs.Schema.{Schema}
 use Rattle.sqlite.specs.Kind.TheVariants.{Integer}
 use Rattle.sqlite.specs.Source.{Source}
+use Rattle.sqlite.specs.Command.{Command}
 use Rattle.sqlite.specs.Command.TheVariants.{Insert, Update, Delete}
-use Rattle.sqlite.specs.Edit.{edit_of, taken_by, Applies}
+use Rattle.sqlite.specs.Edit.{Edit, edit_of, taken_by, Applies}
 use Rattle.sqlite.specs.Cast.{cast}
+use Rattle.sqlite.specs.Rowids.{Rowids}
 use Rattle.sqlite.specs.Rowids.TheVariants.{Chosen, Given}
-use Rattle.sqlite.specs.Does.{Tally, Does, OnRows, Concludes, AtPlace}
-use Rattle.sqlite.specs.Rows.{Written, Task, stamped, Sourced, Edited, Counter, Counts, count_of, rowids_for, Inserts}
-use Rattle.sqlite.specs.Rows.{Updates, Deletes}
+use Rattle.sqlite.specs.Does.{Tally, Does, OnRows, WritesRows, Concludes, AtPlace}
+use Rattle.sqlite.specs.Rows.{Written, Task, stamped, Queried, Sourced, Edited, Counter, Counts, count_of}
+use Rattle.sqlite.specs.Rows.{rowids_for, Inserts, Then, Gives}
 use Rattle.sqlite.specs.declared.run.Mode.{Mode}
 use Rattle.sqlite.specs.Tree.{Trees}
 use Rattle.sqlite.specs.Effect.{Database, Answers}
@@ -86,135 +88,96 @@ pub concluded : (task : Task) (mode : Mode) (w : Written) (tally : Tally) (next 
     → Concludes task mode None w (Ok (tally, next)) → next ≡ record { schema = task.schema; trees = w.trees }
 concluded task mode w tally next h = ap (λ (p : Tally × Database). p.1) (same_value (went (went h).2).2)
 
--- what an INSERT did
-pub inserted : (schema : Schema) (at : ℕ) (table : Table) (from : Source) (params : Row) (text : List ℕ)
-    (old new : State) (count : ℕ)
-    → old.now.schema ≡ schema → slice_get schema.tables at ≡ Some table → table.is_counted ≡ false
-    → IsQuietTable schema table
-    → Writes old new None (Insert at from) text params count
-    → (rows : List Row) × Sourced old.step_limit (record { schema = schema; trees = old.now.trees })
-    (stamped table params) from (Ok rows) × (new.now.schema ≡ schema)
-    × Applies schema Enforced old.now.trees (edit_of old.now.trees table [] Chosen 0 rows) new.now.trees
-inserted schema at table from params text old new count has is uncounted quiet w =
-    let db = old.now.trees in
-    let task : Task = record {
-      limit = old.step_limit;
-      keys = Enforced;
-      schema = schema;
-      table = table;
-      params =
-          params;
-    } in
-    let d1 = subst (λ s. Does old.step_limit (mode_of old) params (record old.now { schema = s }) text None
-    (Insert at from) (Ok (w.tally, new.now))) has w.changed in
-    let d2 : OnRows task (mode_of old) None (Insert at from) db (Ok (w.tally, new.now)) =
-    subst (λ o. AtPlace (λ t. OnRows (record task { table = t }) (mode_of old) None (Insert at from) db) o
-    (Ok (w.tally, new.now))) is d1 in
-    let done = went d2 in
-    let now = concluded task (mode_of old) done.0 w.tally new.now done.2 in
-    let there = rows_in task from db done.0 uncounted done.1 in
-    let edit = edit_of db table [] Chosen 0 there.0 in
-    let step = one_step schema Enforced db done.0.trees edit (quiet (taken_by db edit) edit.news) there.2 in (
-      there.0,
-      there.1,
-      ap (λ (d : Database). d.schema) now,
-      subst (Applies schema Enforced db edit)
-          (sym (ap (λ (d : Database). d.trees) now)) step,
-    )
+-- a statement is run in a schema that is equal
+in_schema : (schema : Schema) (command : Command) (params : Row) (text : List ℕ) (old new : State) (count : ℕ)
+    → old.now.schema ≡ schema → (w : Writes old new None command text params count)
+    → Does old.step_limit (mode_of old) params (record old.now { schema = schema }) text None command
+    (Ok (w.tally, new.now))
+in_schema schema command params text old new count has w =
+    subst (λ s. Does old.step_limit (mode_of old) params (record old.now { schema = s }) text None command
+    (Ok (w.tally, new.now))) has w.changed
 
--- what an UPDATE and a DELETE read, and what they made of it
-rows_updated : (task : Task) (q : Program) (given : Row) (db : Trees) (w : Written) → Updates task q given db (Ok w)
-    → (rows : List Row) × Answers (record { schema = task.schema; trees = db }) q given rows
-    × Edited task.schema task.keys db (edit_of db task.table (ids_of rows) Given 1 rows) (Ok w.trees)
-rows_updated task q given db w h =
+-- what was read, and the one edit that was made of it
+read_then : (task : Task) (q : Program) (given : Row) (db : Trees) (edit : List Row → Edit)
+    (rows : List Row → List Row) (w : Written)
+    → Then (Queried task.limit (record { schema = task.schema; trees = db }) q given) (λ read.
+    Then (Edited task.schema task.keys db (edit read)) (λ next. Gives (record {
+      trees = next;
+      rows = rows read;
+      last = None;
+    }))) (Ok w)
+    → (read : List Row) × Answers (record { schema = task.schema; trees = db }) q given read
+    × Edited task.schema task.keys db (edit read) (Ok w.trees)
+read_then task q given db edit rows w h =
     let asked = went h in
-    let written = went asked.2 in
-    let trees : written.0 ≡ w.trees = sym (ap (λ (it : Written). it.trees) (same_value written.2)) in (
+    let written = went asked.2 in (
       asked.0,
       asked.1,
-      subst (λ t. Edited task.schema task.keys db
-          (edit_of db task.table (ids_of asked.0) Given 1 asked.0) (Ok t)) trees written.1,
+      subst (λ t. Edited task.schema task.keys db (edit asked.0) (Ok t))
+          (sym (ap (λ (it : Written). it.trees) (same_value written.2))) written.1,
     )
 
-rows_deleted : (task : Task) (q : Program) (db : Trees) (w : Written) → Deletes task q db (Ok w)
-    → (rows : List Row) × Answers (record { schema = task.schema; trees = db }) q task.params rows
-    × Edited task.schema task.keys db (edit_of db task.table (ids_of rows) Given 0 []) (Ok w.trees)
-rows_deleted task q db w h =
-    let asked = went h in
-    let written = went asked.2 in
-    let trees : written.0 ≡ w.trees = sym (ap (λ (it : Written). it.trees) (same_value written.2)) in (
-      asked.0,
-      asked.1,
-      subst (λ t. Edited task.schema task.keys db (edit_of db task.table (ids_of asked.0) Given 0 [])
-          (Ok t)) trees written.1,
-    )
+-- A statement on the rows of the table at this place of the schema.
+module _ (schema : Schema) (at : ℕ) (table : Table) (params : Row) (text : List ℕ) (old new : State) (count : ℕ)
+    (has : old.now.schema ≡ schema) (is : slice_get schema.tables at ≡ Some table)
+    (quiet : IsQuietTable schema table) where
+  abbrev task : Task
+  task = record { limit = old.step_limit; keys = Enforced; schema = schema; table = table; params = params }
 
--- what an UPDATE did
-pub updated : (schema : Schema) (at : ℕ) (table : Table) (q : Program) (params : Row) (text : List ℕ)
-    (old new : State) (count : ℕ)
-    → old.now.schema ≡ schema → slice_get schema.tables at ≡ Some table → IsQuietTable schema table
-    → Writes old new None (Update at q) text params count
-    → (rows : List Row) × Answers (record { schema = schema; trees = old.now.trees }) q params rows
-    × (new.now.schema ≡ schema)
-    × Applies schema Enforced old.now.trees (edit_of old.now.trees table (ids_of rows) Given 1 rows) new.now.trees
-updated schema at table q params text old new count has is quiet w =
-    let db = old.now.trees in
-    let task : Task = record {
-      limit = old.step_limit;
-      keys = Enforced;
-      schema = schema;
-      table = table;
-      params =
-          params;
-    } in
-    let d1 = subst (λ s. Does old.step_limit (mode_of old) params (record old.now { schema = s }) text None
-    (Update at q) (Ok (w.tally, new.now))) has w.changed in
-    let d2 : OnRows task (mode_of old) None (Update at q) db (Ok (w.tally, new.now)) =
-    subst (λ o. AtPlace (λ t. OnRows (record task { table = t }) (mode_of old) None (Update at q) db) o
-    (Ok (w.tally, new.now))) is d1 in
-    let done = went d2 in
-    let now = concluded task (mode_of old) done.0 w.tally new.now done.2 in
-    let there = rows_updated task q params db done.0 done.1 in
-    let edit = edit_of db table (ids_of there.0) Given 1 there.0 in
-    let step = one_step schema Enforced db done.0.trees edit (quiet (taken_by db edit) edit.news) there.2 in (
-      there.0,
-      there.1,
-      ap (λ (d : Database). d.schema) now,
-      subst (Applies schema Enforced db edit)
-          (sym (ap (λ (d : Database). d.trees) now)) step,
-    )
+  abbrev db : Trees
+  db = old.now.trees
 
--- what a DELETE did
-pub deleted : (schema : Schema) (at : ℕ) (table : Table) (q : Program) (params : Row) (text : List ℕ)
-    (old new : State) (count : ℕ)
-    → old.now.schema ≡ schema → slice_get schema.tables at ≡ Some table → IsQuietTable schema table
-    → Writes old new None (Delete at q) text params count
-    → (rows : List Row) × Answers (record { schema = schema; trees = old.now.trees }) q params rows
-    × (new.now.schema ≡ schema)
-    × Applies schema Enforced old.now.trees (edit_of old.now.trees table (ids_of rows) Given 0 []) new.now.trees
-deleted schema at table q params text old new count has is quiet w =
-    let db = old.now.trees in
-    let task : Task = record {
-      limit = old.step_limit;
-      keys = Enforced;
-      schema = schema;
-      table = table;
-      params =
-          params;
-    } in
-    let d1 = subst (λ s. Does old.step_limit (mode_of old) params (record old.now { schema = s }) text None
-    (Delete at q) (Ok (w.tally, new.now))) has w.changed in
-    let d2 : OnRows task (mode_of old) None (Delete at q) db (Ok (w.tally, new.now)) =
-    subst (λ o. AtPlace (λ t. OnRows (record task { table = t }) (mode_of old) None (Delete at q) db) o
-    (Ok (w.tally, new.now))) is d1 in
-    let done = went d2 in
-    let now = concluded task (mode_of old) done.0 w.tally new.now done.2 in
-    let there = rows_deleted task q db done.0 done.1 in
-    let edit = edit_of db table (ids_of there.0) Given 0 [] in
-    let step = one_step schema Enforced db done.0.trees edit (quiet (taken_by db edit) edit.news) there.2 in (
-      there.0,
-      there.1,
-      ap (λ (d : Database). d.schema) now,
-      subst (Applies schema Enforced db edit)
-          (sym (ap (λ (d : Database). d.trees) now)) step,
-    )
+  -- the database as it was, in that schema
+  abbrev was : Database
+  was = record { schema = schema; trees = db }
+
+  -- what it wrote is what the database then is
+  wrote : (command : Command) (tally : Tally)
+      → AtPlace (λ t. OnRows (record task { table = t }) (mode_of old) None command db) (slice_get schema.tables at)
+      (Ok (tally, new.now))
+      → (w : Written) × WritesRows task db command (Ok w) × (new.now ≡ record { schema = schema; trees = w.trees })
+  wrote command tally d =
+      let done = went (subst (λ o. AtPlace (λ t. OnRows (record task { table = t }) (mode_of old) None command db) o
+      (Ok (tally, new.now))) is d) in
+      (done.0, done.1, concluded task (mode_of old) done.0 tally new.now done.2)
+
+  -- no foreign key adds to its edit
+  applied : (ids : List ℤ) (how : Rowids) (skip : ℕ) (rows : List Row) (next : Trees)
+      → Edited schema Enforced db (edit_of db table ids how skip rows) (Ok next)
+      → new.now ≡ record { schema = schema; trees = next }
+      → (new.now.schema ≡ schema) × Applies schema Enforced db (edit_of db table ids how skip rows) new.now.trees
+  applied ids how skip rows next did now =
+      let edit = edit_of db table ids how skip rows in (
+        ap (λ (d : Database). d.schema) now,
+        subst (Applies schema Enforced db edit) (sym (ap (λ (d : Database). d.trees) now))
+            (one_step schema Enforced db next edit (quiet (taken_by db edit) edit.news) did),
+      )
+
+  pub inserted : (from : Source) → table.is_counted ≡ false → Writes old new None (Insert at from) text params count
+      → (rows : List Row) × Sourced old.step_limit was (stamped table params) from (Ok rows)
+      × (new.now.schema ≡ schema) × Applies schema Enforced db (edit_of db table [] Chosen 0 rows) new.now.trees
+  inserted from uncounted w =
+      let done = wrote (Insert at from) w.tally (in_schema schema (Insert at from) params text old new count has w) in
+      let there = rows_in task from db done.0 uncounted done.1 in
+      let made = applied [] Chosen 0 there.0 done.0.trees there.2 done.2 in
+      (there.0, there.1, made.0, made.1)
+
+  pub updated : (q : Program) → Writes old new None (Update at q) text params count
+      → (rows : List Row) × Answers was q params rows × (new.now.schema ≡ schema)
+      × Applies schema Enforced db (edit_of db table (ids_of rows) Given 1 rows) new.now.trees
+  updated q w =
+      let done = wrote (Update at q) w.tally (in_schema schema (Update at q) params text old new count has w) in
+      let there = read_then task q params db (λ rows. edit_of db table (ids_of rows) Given 1 rows)
+      (λ rows. (edit_of db table (ids_of rows) Given 1 rows).news) done.0 done.1 in
+      let made = applied (ids_of there.0) Given 1 there.0 done.0.trees there.2 done.2 in
+      (there.0, there.1, made.0, made.1)
+
+  pub deleted : (q : Program) → Writes old new None (Delete at q) text params count
+      → (rows : List Row) × Answers was q params rows × (new.now.schema ≡ schema)
+      × Applies schema Enforced db (edit_of db table (ids_of rows) Given 0 []) new.now.trees
+  deleted q w =
+      let done = wrote (Delete at q) w.tally (in_schema schema (Delete at q) params text old new count has w) in
+      let there = read_then task q params db (λ rows. edit_of db table (ids_of rows) Given 0 [])
+      (λ rows. taken_by db (edit_of db table (ids_of rows) Given 0 [])) done.0 done.1 in
+      let made = applied (ids_of there.0) Given 0 [] done.0.trees there.2 done.2 in
+      (there.0, there.1, made.0, made.1)

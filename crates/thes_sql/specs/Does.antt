@@ -1,10 +1,13 @@
--- What statements do inside a transaction.
-use Rattle.std.specs.Prelude.{◌≡◌, List, [], IsTrue}
+-- What calls do inside a transaction, and a transaction as a whole.
+use Rattle.std.specs.Prelude.{◌≡◌, List, [], Bool, true, false, Result, Ok, OnOk, OnErr, IfOk, IsTrue}
 use Rattle.std.specs.List.{AllByRecursion}
+use Rattle.std.specs.Borrow.{MutBor}
 use Rattle.sqlite.specs.Effect.{Database}
 use Rattle.sqlite.specs.Schema.{Schema}
 use Rattle.sqlite.specs.Table.{Table}
-use Rattle.sqlite.specs.State.{State}
+use Rattle.sqlite.specs.State.{State, HasCleanDisk, KeepsCommit, Survives}
+use Rattle.sqlite.specs.Held.{Held, state}
+use Rattle.sqlite_trees.specs.declared.store.Store.{Ghosts}
 use Rattle.thes_rows.specs.declared.change.Change.{Change}
 use Rattle.thes_rows.specs.Tables.{Tables}
 use Rattle.thes_rows.specs.Rows.{changed, all_changed, Fits, FitAll}
@@ -30,3 +33,34 @@ pub record IsUnderWay (changes left : List Change) (old now : State) : Type 0 wh
 -- The database has this schema, and its tables hold no row.
 abbrev pub IsEmpty : Schema → Database → Type 0
 IsEmpty schema db = (db.schema ≡ schema) × AllByRecursion (λ (t : Table). db.trees t.tree ≡ []) schema.tables
+
+-- A database that was of the one sort is of the other.
+pub record Turns (From To : Database → Type 0) (old new : State) : Type 0 where
+  pub made : From old.now → To new.now
+  pub inside : IsTrue new.in_transaction
+
+-- Inside a transaction, over a disk that told no lie, a call that is done leads from the old state to the new like this.
+abbrev pub DoesInside : {S V E : Type 0} → Ghosts S → (State → State → Type 0) → MutBor (Held S) → MutBor (Held S)
+    → Result V E → Type 0
+DoesInside g Leads old new r =
+    HasCleanDisk (state g new.now) → IsTrue (state g old.now).in_transaction
+    → OnOk r (Leads (state g old.now) (state g new.now))
+
+-- Inside a transaction nothing is committed, and a crash leaves what it left before.
+abbrev pub StaysInside : {S : Type 0} → Ghosts S → MutBor (Held S) → MutBor (Held S) → Type 0
+StaysInside g old new =
+    (HasCleanDisk (state g new.now) → IsTrue (state g old.now).in_transaction
+    → KeepsCommit (state g old.now) (state g new.now))
+    × Survives (state g old.now) (state g new.now) (λ _. ⊥)
+
+-- A call is a transaction of its own, or does nothing and answers false where one is under way already.
+pub record IsOwnTransaction {S E : Type 0} (g : Ghosts S) (old new : Held S) (r : Result Bool E) : Type 0 where
+  pub busy : old.in_transaction ≡ true → (r ≡ Ok false) × (new ≡ old)
+  pub begins : old.in_transaction ≡ false → IfOk r (λ done. IsTrue done)
+  -- after an error the database is as it was
+  pub none : HasCleanDisk (state g new) → IsTrue (state g new).is_open → OnErr r
+      (((state g new).now ≡ (state g old).now) × ((state g new).committed ≡ (state g old).committed))
+  pub was : HasCleanDisk (state g new) → IsTrue (state g new).is_open → IsTrue (state g old).is_open
+  pub settled : HasCleanDisk (state g new) → IsTrue (state g new).is_open → old.in_transaction ≡ false
+      → (state g new).now ≡ (state g new).committed
+  pub mode : new.in_transaction ≡ old.in_transaction

@@ -3,4 +3,6 @@
 
 pub mod commit;
 pub mod create;
+pub mod reads;
+mod values;
 mod writes;

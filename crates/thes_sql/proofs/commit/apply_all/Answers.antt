@@ -14,13 +14,13 @@ loop-change-preserved g c =
     let left : drop i changes ≡ c.change-item.result ∷ drop (i + 1) changes =
     taken changes i c.change-item.result c.loop-change-test.true c.change-item.is in
     let was : HasCleanDisk new → HasCleanDisk mid = λ (clean : HasCleanDisk new). omega
-    (arith, c.apply.ensures.survives.clean) in
+    (arith, c.apply.ensures.stays.1.clean) in
     record {
       same = c.apply.ensures.same_reference ∙ c.loop-change.invariant.same;
       far = λ clean inside. let far = c.loop-change.invariant.far (was clean) inside in
           goes_on changes _ _ c.change-item.result old mid new left far (c.in_ok-apply.ensures.does clean far.inside);
       kept = λ clean inside. let far = c.loop-change.invariant.far (was clean) inside in
           keeps_then old mid new (c.loop-change.invariant.kept (was clean) inside)
-          (c.apply.ensures.kept clean far.inside);
-      survives = survives_on old mid new c.loop-change.invariant.survives c.apply.ensures.survives;
+          (c.apply.ensures.stays.0 clean far.inside);
+      survives = survives_on old mid new c.loop-change.invariant.survives c.apply.ensures.stays.1;
     }

@@ -1,19 +1,8 @@
-use Rattle.std.proofs.Common.{rules}
 use Rattle.sqlite.specs.Held.{state}
 use Rattle.thes_sql.proofs.Changing.{does, makes_move}
 use Rattle.thes_sql.proofs.writes.add_move.Goals as goal
 
 pub returns-clause-does : goal.returns-clause-does
-returns-clause-does g c clean inside = does _ _ _ (makes_move c.args.row.now (search rules))
+returns-clause-does g c clean inside = does _ _ _ (makes_move c.args.row.now c.move_values.ensures.numbered)
     (state g.S.Store c.args.tx.now.conn.now) (state g.S.Store c.execute.new.self.conn.now) c.execute.result
-    (rw (
-      c.params-to_sql.ensures,
-      c.params-to_sql-2.ensures,
-      c.params-to_sql-3.ensures,
-      c.params-to_sql-4.ensures,
-      c.get.ensures.value,
-      c.get-2.ensures.value,
-      c.get-3.ensures.value,
-      c.get-4.ensures.value,
-    )
-    at (c.execute.ensures.runs clean inside))
+    (rw c.move_values.ensures.cells at (c.execute.ensures.runs clean inside))

@@ -6,5 +6,4 @@ use Rattle.thes_sql.proofs.writes.add_outside.Goals as goal
 pub returns-clause-does : goal.returns-clause-does
 returns-clause-does g c clean inside = does _ _ _ (makes_outside c.args.n c.args.iri.now (search rules))
     (state g.S.Store c.args.tx.now.conn.now) (state g.S.Store c.execute.new.self.conn.now) c.execute.result
-    (rw (c.params-to_sql.ensures, c.params-to_sql-2.ensures, c.get.ensures.value, c.as_str.ensures.text)
-    at (c.execute.ensures.runs clean inside))
+    (rw c.outside_values.ensures at (c.execute.ensures.runs clean inside))

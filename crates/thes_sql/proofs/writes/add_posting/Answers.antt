@@ -5,18 +5,4 @@ use Rattle.thes_sql.proofs.writes.add_posting.Goals as goal
 pub returns-clause-does : goal.returns-clause-does
 returns-clause-does g c clean inside = does _ _ _ (makes_posting c.args.row.now)
     (state g.S.Store c.args.tx.now.conn.now) (state g.S.Store c.execute.new.self.conn.now) c.execute.result
-    (rw (
-      c.params-to_sql.ensures,
-      c.params-to_sql-2.ensures,
-      c.params-to_sql-3.ensures,
-      c.params-to_sql-4.ensures,
-      c.params-to_sql-5.ensures,
-      c.params-to_sql-6.ensures,
-      c.get.ensures.value,
-      c.get-2.ensures.value,
-      c.get-3.ensures.value,
-      c.as_str.ensures.text,
-      c.as_str-2.ensures.text,
-      c.flag.ensures,
-    )
-    at (c.execute.ensures.runs clean inside))
+    (rw c.posting_values.ensures at (c.execute.ensures.runs clean inside))

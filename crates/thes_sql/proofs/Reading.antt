@@ -1,0 +1,259 @@
+-- What a SELECT of one table in the order of its rows' numbers shows.
+use Rattle.std.proofs.Common.{arith, ◌≡◌, ℕ, pos, List, [], ◌∷◌, ◌<◌, ◌≤◌, ◌==◌, ◌&&◌, map, filter}
+use Rattle.std.proofs.Common.{flat_map, codes, Bool, true, false, not, cond, refl, sym, ap}
+use Rattle.std.proofs.Common.{◌+◌, subst, ◌∙◌, Less, lit<}
+use Rattle.std.proofs.Math.Bool.{and-true}
+use Rattle.std.specs.List.{AllByRecursion, list_all}
+use Rattle.std.specs.List.Sorted.{IsPermutation}
+use Rattle.std.specs.Ordering.{nat_cmp, eq_by_cmp}
+use Rattle.std.specs.Cmp.Lexicographic.{slice_cmp}
+use Rattle.sqlite.specs.declared.types.Value.TheVariants.{Null, Int, Text as Words}
+use Rattle.sqlite.specs.Order.{Row}
+use Rattle.sqlite.specs.Term.{Term, lit, col, holds}
+use Rattle.sqlite.specs.Query.{Query, IsAnswer, output, output_cmp, page, Output}
+use Rattle.sqlite_sql.proofs.QueryLemmas.{output_cmp_total}
+use Rattle.sqlite_keyed.proofs.SortLemmas.{sorted_unique}
+use Rattle.sqlite_keyed.proofs.ListLemmas.{map-map}
+use Rattle.sqlite_catalog.proofs.ListFacts.{filter_all}
+use Rattle.sqlite_trees.specs.Tree.{IsAscending}
+use Rattle.sqlite.specs.Program.{overlay}
+use Rattle.sqlite.specs.Command.TheVariants.{Select}
+use Rattle.sqlite.specs.Listing.{understood, reads_listing}
+use Rattle.sqlite.specs.State.{State, Shown}
+use Rattle.sqlite_tied.specs.Compute.{everything}
+use Rattle.sqlite_value.specs.declared.keys.Collation.TheVariants.{Binary}
+use Rattle.sqlite_value.specs.Keys.{ascending}
+use Rattle.sqlite.proofs.Callers.{IsPlain, command_of, reads_as}
+use Rattle.thes_base.specs.declared.fault.Table.{Table}
+use Rattle.thes_base.specs.declared.fault.Table.TheVariants as table
+use Rattle.thes_base.specs.declared.data.Resource.{Resource}
+use Rattle.thes_rows.specs.declared.cells.Cell.{Cell}
+use Rattle.thes_rows.specs.declared.rows.PostingRow.{PostingRow}
+use Rattle.thes_rows.specs.declared.rows.MoveRow.{MoveRow}
+use Rattle.thes_rows.specs.Tables.{Tables}
+use Rattle.thes_rows.specs.Cells.{resource_rows, resource_cells, outside_cells, label_cells, link_cells, hier_cells}
+use Rattle.thes_rows.specs.Cells.{posting_cells, move_cells, meta_cells}
+use Rattle.thes_sql.specs.Schema.{store_schema}
+use Rattle.thes_sql.specs.Stored.{Keeps, Rising, AreKeyed, AreHidden, hidden_row, numbered_from, values, stored_meta}
+use Rattle.thes_sql.specs.Stored.{stored_resource, stored_outside, stored_posting, stored_move}
+use Rattle.thes_sql.specs.Reads.{rows_of, text_of, keyed_as, numbered_as, standing_at, moves_of}
+use Rattle.thes_sql.proofs.Texts.{plain_query, whole, same}
+use Rattle.thes_sql.proofs.Keyed.{lower, rising_filter}
+use Rattle.thes_sql.proofs.Statements.{picked, no_lets}
+use Rattle.thes_sql.proofs.Testing.{by_number, by_place, same_ints, same_words}
+use Rattle.thes_sql.proofs.Holding.{tree_of}
+
+-- a query of one table, by the numbers of its rows
+abbrev pub in_order : ℕ → List Term → List Term → Query
+in_order tree filters project = plain_query tree filters project ((col 1 0, ascending Binary) ∷ [])
+
+-- in the schema of a store the text is this query, with nothing asked of it but its parameters
+abbrev pub Asks : List ℕ → Query → Type 0
+Asks text q = (names : List (List ℕ)) × (command_of (understood store_schema text) ≡ Select (whole q) names)
+    × (reads_listing store_schema text ≡ false) × IsPlain (understood store_schema text)
+
+module _ {X : Type 0} (num : X → ℕ) (stored : X → Row) (cells : X → List Cell) (tree : ℕ) (project : List Term)
+    (params : Row) (filters : List Term) (p : X → Bool)
+    (test : (x : X) → list_all (holds (params ∷ stored x ∷ [])) filters ≡ p x)
+    (shows : (x : X) → output (in_order tree filters project) (params ∷ stored x ∷ []) ≡
+    (Int (pos (num x)) ∷ [], values (cells x))) where
+  abbrev query : Query
+  query = in_order tree filters project
+
+  abbrev out_of : X → Output
+  out_of x = (Int (pos (num x)) ∷ [], values (cells x))
+
+  outs : (xs : List X) → map (output query) (map (λ x. params ∷ stored x ∷ []) xs) ≡ map out_of xs
+  outs [] = refl
+  outs (x ∷ xs) = λ i. shows x i ∷ outs xs i
+
+  later : (a : ℕ) (x : X) (xs : List X) → num x ≤ a → Rising num a xs
+      → AllByRecursion (λ b. output_cmp query (out_of x) b ≡ Less) (map out_of xs)
+  later a x [] le up = tt
+  later a x (y ∷ ys) le up =
+      let lt = up.0 in
+      let below : num x < num y = omega (arith, le, lt) in
+      (rw (lower (num x) (num y) below) refl, later (num y) x ys (omega (arith, below)) up.1)
+
+  strict : (a : ℕ) (xs : List X) → Rising num a xs
+      → IsAscending (λ a b. output_cmp query a b ≡ Less) (map out_of xs)
+  strict a [] up = tt
+  strict a (x ∷ xs) up = (later (num x) x xs (omega arith) up.1, strict (num x) xs up.1)
+
+  -- just the rows that pass, in order
+  pub reads : (text : List ℕ) → Asks text query → (old new : State) (xs : List X) (out : List Row)
+      → old.now.schema ≡ store_schema → AreKeyed stored num xs (old.now.trees tree) → Shown text params old new out
+      → out ≡ map values (map cells (filter p xs))
+  reads text is old new xs out has held h =
+      let read = reads_as text params old new store_schema has (Select (whole query) is.0) is.1 is.3 is.2 out h in
+      let a : IsAnswer query (overlay old.now.trees []) params out = read.answer Null in
+      let outputs : a.kept ≡ map out_of (filter p xs) = a.distinct ∙ ap (map (output query)) (a.grouped
+      ∙ ap (flat_map (λ r. cond (list_all (holds (params ∷ r ∷ [])) filters) ((params ∷ r ∷ []) ∷ []) []))
+      (no_lets old.now.trees tree ∙ held.rows) ∙ picked stored params filters p test xs) ∙ outs (filter p xs) in
+      let ordered : a.ordered ≡ map out_of (filter p xs) =
+      sorted_unique (output_cmp query) (output_cmp_total query) _ a.ordered
+      (strict 0 (filter p xs) (rising_filter num p 0 xs held.rises))
+      (subst (λ k. IsPermutation k a.ordered) outputs a.same) a.sorted in
+      a.shown ∙ ap (λ os. page query params (map (λ (o : Output). o.1) os)) ordered
+      ∙ map-map (λ (o : Output). o.1) out_of (filter p xs) ∙ sym (map-map values cells (filter p xs))
+
+-- all rows of a table
+module _ {X : Type 0} (num : X → ℕ) (stored : X → Row) (cells : X → List Cell) (tree : ℕ) (project : List Term)
+    (shows : (x : X) → output (in_order tree [] project) ([] ∷ stored x ∷ []) ≡
+    (Int (pos (num x)) ∷ [], values (cells x))) where
+  pub reads_all : (text : List ℕ) → Asks text (in_order tree [] project) → (old new : State) (xs : List X)
+      (out : List Row) → old.now.schema ≡ store_schema → AreKeyed stored num xs (old.now.trees tree)
+      → Shown text [] old new out → out ≡ map values (map cells xs)
+  reads_all text is old new xs out has held h = reads num stored cells tree project [] [] (λ x. true) (λ x. refl) shows
+      text is old new xs out has held h
+      ∙ ap (λ l. map values (map cells l)) (filter_all (λ x. true) xs (λ x k. refl))
+
+numbered_rows : (n : ℕ) (rs : List Resource) → map (λ (row : ℕ × Resource). resource_cells row.0 row.1)
+    (numbered_from n rs) ≡ resource_rows n rs
+numbered_rows n [] = refl
+numbered_rows n (r ∷ rs) = ap (λ l. resource_cells n r ∷ l) (numbered_rows (n + 1) rs)
+
+-- a table without numbers of its own, in the order in which its rows came
+hidden_all : {A : Type 0} (cells : A → List Cell) (tree : ℕ) (project : List Term)
+    → ((row : ℕ × A) → output (in_order tree [] project) ([] ∷ hidden_row (λ x. values (cells x)) row ∷ []) ≡
+    (Int (pos row.0) ∷ [], values (cells row.1)))
+    → (text : List ℕ) → Asks text (in_order tree [] project) → (old new : State) (xs : List A) (out : List Row)
+    → old.now.schema ≡ store_schema → AreHidden (λ x. values (cells x)) xs (old.now.trees tree)
+    → Shown text [] old new out → out ≡ map values (map cells xs)
+hidden_all {A} cells tree project shows text is old new xs out has held h =
+    reads_all (λ (row : ℕ × A). row.0) (hidden_row (λ x. values (cells x))) (λ row. cells row.1) tree project shows text
+    is old new held.given out has held.held h
+    ∙ ap (map values) (sym (map-map cells (λ (row : ℕ × A). row.1) held.given) ∙ ap (map cells) held.same)
+
+abbrev posting_columns : List Term
+posting_columns = col 1 0 ∷ col 1 2 ∷ col 1 3 ∷ col 1 4 ∷ col 1 5 ∷ col 1 6 ∷ []
+
+abbrev posting_names : List (List ℕ)
+posting_names = codes "num" ∷ codes "pkey" ∷ codes "record" ∷ codes "first_at" ∷ codes "at" ∷ codes "withdrawn" ∷ []
+
+abbrev move_columns : List Term
+move_columns = col 1 0 ∷ col 1 2 ∷ col 1 3 ∷ col 1 4 ∷ []
+
+abbrev move_names : List (List ℕ)
+move_names = codes "num" ∷ codes "posting" ∷ codes "source" ∷ codes "target" ∷ []
+
+-- the columns of each table
+abbrev columns_of : Table → List Term
+columns_of table.Meta = col 1 0 ∷ col 1 2 ∷ col 1 3 ∷ []
+columns_of table.Resource = col 1 0 ∷ col 1 2 ∷ col 1 3 ∷ col 1 4 ∷ col 1 5 ∷ []
+columns_of table.Outside = col 1 0 ∷ col 1 2 ∷ []
+columns_of table.Label = col 1 1 ∷ col 1 2 ∷ col 1 3 ∷ col 1 4 ∷ []
+columns_of table.Link = col 1 1 ∷ col 1 2 ∷ col 1 3 ∷ []
+columns_of table.Hier = col 1 1 ∷ col 1 2 ∷ col 1 3 ∷ []
+columns_of table.Posting = posting_columns
+columns_of table.Move = move_columns
+
+abbrev names_of : Table → List (List ℕ)
+names_of table.Meta = codes "one" ∷ codes "version" ∷ codes "base" ∷ []
+names_of table.Resource = codes "num" ∷ codes "kind" ∷ codes "scheme" ∷ codes "live" ∷ codes "replaced" ∷ []
+names_of table.Outside = codes "num" ∷ codes "iri" ∷ []
+names_of table.Label = codes "owner" ∷ codes "kind" ∷ codes "tag" ∷ codes "text" ∷ []
+names_of table.Link = codes "kind" ∷ codes "a" ∷ codes "b" ∷ []
+names_of table.Hier = codes "a" ∷ codes "b" ∷ codes "typ" ∷ []
+names_of table.Posting = posting_names
+names_of table.Move = move_names
+
+pub asks_table : (p : Table) → Asks (text_of p) (in_order (tree_of p) [] (columns_of p))
+unfolding understood everything
+asks_table table.Meta = (names_of table.Meta, refl, refl, (refl, refl))
+asks_table table.Resource = (names_of table.Resource, refl, refl, (refl, refl))
+asks_table table.Outside = (names_of table.Outside, refl, refl, (refl, refl))
+asks_table table.Label = (names_of table.Label, refl, refl, (refl, refl))
+asks_table table.Link = (names_of table.Link, refl, refl, (refl, refl))
+asks_table table.Hier = (names_of table.Hier, refl, refl, (refl, refl))
+asks_table table.Posting = (names_of table.Posting, refl, refl, (refl, refl))
+asks_table table.Move = (names_of table.Move, refl, refl, (refl, refl))
+
+pub table_shown : (p : Table) (old new : State) (t : Tables) (out : List Row) → Keeps old.now t
+    → Shown (text_of p) [] old new out → out ≡ map values (rows_of p t)
+table_shown table.Meta old new t out kept h = reads_all (λ (base : List ℕ). 1) stored_meta meta_cells 0
+    (columns_of table.Meta) (λ base. refl) (text_of table.Meta) (asks_table table.Meta) old new (t.base ∷ []) out
+    kept.schema (record { rises = (lit< tt, tt); rows = kept.hold.meta }) h
+table_shown table.Resource old new t out kept h = reads_all (λ (row : ℕ × Resource). row.0) stored_resource
+    (λ row. resource_cells row.0 row.1) 1 (columns_of table.Resource) (λ row. refl) (text_of table.Resource)
+    (asks_table table.Resource) old new (numbered_from 1 t.resource) out kept.schema kept.hold.resource h
+    ∙ ap (map values) (numbered_rows 1 t.resource)
+table_shown table.Outside old new t out kept h = reads_all (λ (row : ℕ × List ℕ). row.0) stored_outside outside_cells 2
+    (columns_of table.Outside) (λ row. refl) (text_of table.Outside) (asks_table table.Outside) old new t.outside out
+    kept.schema kept.hold.outside h
+table_shown table.Label old new t out kept h = hidden_all label_cells 4 (columns_of table.Label) (λ row. refl)
+    (text_of table.Label) (asks_table table.Label) old new t.label out kept.schema kept.hold.label h
+table_shown table.Link old new t out kept h = hidden_all link_cells 6 (columns_of table.Link) (λ row. refl)
+    (text_of table.Link) (asks_table table.Link) old new t.link out kept.schema kept.hold.link h
+table_shown table.Hier old new t out kept h = hidden_all hier_cells 8 (columns_of table.Hier) (λ row. refl)
+    (text_of table.Hier) (asks_table table.Hier) old new t.hier out kept.schema kept.hold.hier h
+table_shown table.Posting old new t out kept h = reads_all (λ (row : PostingRow). row.number) stored_posting
+    posting_cells 10 (columns_of table.Posting) (λ row. refl) (text_of table.Posting) (asks_table table.Posting) old new
+    t.posting out kept.schema kept.hold.posting h
+table_shown table.Move old new t out kept h = reads_all (λ (row : MoveRow). row.number) stored_move move_cells 12
+    (columns_of table.Move) (λ row. refl) (text_of table.Move) (asks_table table.Move) old new t.move out kept.schema
+    kept.hold.move h
+
+-- Look-ups.
+
+abbrev pub keyed_text : List ℕ
+keyed_text = codes "SELECT num, pkey, record, first_at, at, withdrawn FROM posting WHERE pkey = ?1 ORDER BY num"
+
+pub keyed_is : Asks keyed_text (in_order 10 (same (col 1 2) (col 0 0) ∷ []) posting_columns)
+unfolding understood everything
+keyed_is = (posting_names, refl, refl, (refl, refl))
+
+abbrev pub numbered_text : List ℕ
+numbered_text = codes "SELECT num, pkey, record, first_at, at, withdrawn FROM posting WHERE num = ?1 ORDER BY num"
+
+pub numbered_is : Asks numbered_text (in_order 10 (same (col 1 0) (col 0 0) ∷ []) posting_columns)
+unfolding understood everything
+numbered_is = (posting_names, refl, refl, (refl, refl))
+
+abbrev pub standing_text : List ℕ
+standing_text =
+    codes "SELECT num, pkey, record, first_at, at, withdrawn FROM posting WHERE at = ?1 AND withdrawn = 0 ORDER BY num"
+
+pub standing_is : Asks standing_text (in_order 10
+    (same (col 1 5) (col 0 0) ∷ same (col 1 6) (lit (Int (pos 0))) ∷ []) posting_columns)
+unfolding understood everything
+standing_is = (posting_names, refl, refl, (refl, refl))
+
+abbrev pub moving_text : List ℕ
+moving_text = codes "SELECT num, posting, source, target FROM move WHERE posting = ?1 ORDER BY num"
+
+pub moving_is : Asks moving_text (in_order 12 (same (col 1 2) (col 0 0) ∷ []) move_columns)
+unfolding understood everything
+moving_is = (move_names, refl, refl, (refl, refl))
+
+-- the rows of posting that pass a test
+postings_shown : (text : List ℕ) (params : Row) (filters : List Term) (p : PostingRow → Bool)
+    → ((x : PostingRow) → list_all (holds (params ∷ stored_posting x ∷ [])) filters ≡ p x)
+    → Asks text (in_order 10 filters posting_columns)
+    → (old new : State) (t : Tables) (out : List Row) → Keeps old.now t → Shown text params old new out
+    → out ≡ map values (map posting_cells (filter p t.posting))
+postings_shown text params filters p test is old new t out kept h = reads (λ (row : PostingRow). row.number)
+    stored_posting posting_cells 10 posting_columns params filters p test (λ row. refl) text is old new t.posting out
+    kept.schema kept.hold.posting h
+
+pub keyed_shown : (key : List ℕ) (old new : State) (t : Tables) (out : List Row) → Keeps old.now t
+    → Shown keyed_text (Words key ∷ []) old new out → out ≡ map values (keyed_as key t)
+keyed_shown key = postings_shown keyed_text (Words key ∷ []) (same (col 1 2) (col 0 0) ∷ [])
+    (λ x. eq_by_cmp (slice_cmp nat_cmp) x.key key) (λ x. and-true _ ∙ same_words x.key key) keyed_is
+
+pub numbered_shown : (n : ℕ) (old new : State) (t : Tables) (out : List Row) → Keeps old.now t
+    → Shown numbered_text (Int (pos n) ∷ []) old new out → out ≡ map values (numbered_as n t)
+numbered_shown n = postings_shown numbered_text (Int (pos n) ∷ []) (same (col 1 0) (col 0 0) ∷ [])
+    (λ x. x.number == n) (by_number [] n) numbered_is
+
+pub standing_shown : (concept : ℕ) (old new : State) (t : Tables) (out : List Row) → Keeps old.now t
+    → Shown standing_text (Int (pos concept) ∷ []) old new out → out ≡ map values (standing_at concept t)
+standing_shown concept = postings_shown standing_text (Int (pos concept) ∷ [])
+    (same (col 1 5) (col 0 0) ∷ same (col 1 6) (lit (Int (pos 0))) ∷ [])
+    (λ x. not x.withdrawn && x.place == concept) (by_place [] concept) standing_is
+
+pub moving_shown : (n : ℕ) (old new : State) (t : Tables) (out : List Row) → Keeps old.now t
+    → Shown moving_text (Int (pos n) ∷ []) old new out → out ≡ map values (moves_of n t)
+moving_shown n old new t out kept h = reads (λ (row : MoveRow). row.number) stored_move move_cells 12 move_columns
+    (Int (pos n) ∷ []) (same (col 1 2) (col 0 0) ∷ []) (λ x. x.posting == n) (λ x. and-true _ ∙ same_ints x.posting n)
+    (λ row. refl) moving_text moving_is old new t.move out kept.schema kept.hold.move h

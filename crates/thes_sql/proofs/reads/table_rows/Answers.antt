@@ -1,0 +1,18 @@
+use Rattle.std.proofs.Common.{[]}
+use Rattle.thes_sql.specs.Reads.{text_of}
+use Rattle.thes_sql.proofs.Reading.{table_shown, asks_table}
+use Rattle.sqlite.specs.Held.{state}
+use Rattle.thes_sql.proofs.Leaving.{leaves_alone, if_shown}
+use Rattle.thes_sql.proofs.reads.table_rows.Goals as goal
+
+pub returns-clause-shows : goal.returns-clause-shows
+returns-clause-shows g c clean = if_shown c.query_all.result
+    (λ out shown t keeps. table_shown c.args.table (state g.S.Store c.args.conn.now) (state g.S.Store c.query_all.new.self) t out.items
+    keeps shown) (rw c.table_text.ensures at (c.query_all.ensures.ok clean))
+
+pub returns-clause-leaves : goal.returns-clause-leaves
+returns-clause-leaves g c = leaves_alone g.S.Store (text_of c.args.table) [] c.args.conn.now c.query_all.new.self
+    c.query_all.result (λ rows. rows.items) (asks_table c.args.table).3 c.query_all.ensures.mode
+    (rw c.table_text.ensures at c.query_all.ensures.ok)
+    (rw c.table_text.ensures at c.query_all.ensures.err)
+    (rw c.table_text.ensures at c.query_all.ensures.survives)

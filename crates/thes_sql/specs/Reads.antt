@@ -1,0 +1,71 @@
+-- What reads show, and what they leave.
+use Rattle.std.specs.Prelude.{◌≡◌, ◌≤◌, ◌==◌, ◌&&◌, ℕ, List, [], ◌∷◌, map, filter, codes, not, false, IsTrue, Result, IfOk}
+use Rattle.std.specs.Ordering.{nat_cmp, eq_by_cmp}
+use Rattle.std.specs.Cmp.Lexicographic.{slice_cmp}
+use Rattle.sqlite.specs.Order.{Row}
+use Rattle.sqlite.specs.State.{HasCleanDisk, Survives}
+use Rattle.sqlite.specs.Held.{Held, state}
+use Rattle.sqlite_trees.specs.View.{doubt}
+use Rattle.sqlite_trees.specs.declared.store.Store.{Ghosts}
+use Rattle.thes_base.specs.declared.fault.Table.{Table}
+use Rattle.thes_base.specs.declared.fault.Table.TheVariants as table
+use Rattle.thes_rows.specs.declared.cells.Cell.{Cell}
+use Rattle.thes_rows.specs.declared.rows.PostingRow.{PostingRow}
+use Rattle.thes_rows.specs.declared.rows.MoveRow.{MoveRow}
+use Rattle.thes_rows.specs.Tables.{Tables}
+use Rattle.thes_rows.specs.Cells.{meta_cells, resource_rows, outside_cells, label_cells, link_cells, hier_cells}
+use Rattle.thes_rows.specs.Cells.{posting_cells, move_cells}
+use Rattle.thes_sql.specs.Stored.{Keeps, values}
+
+-- what a table holds, row by row
+abbrev pub rows_of : Table → Tables → List (List Cell)
+rows_of table.Meta t = meta_cells t.base ∷ []
+rows_of table.Resource t = resource_rows 1 t.resource
+rows_of table.Outside t = map outside_cells t.outside
+rows_of table.Label t = map label_cells t.label
+rows_of table.Link t = map link_cells t.link
+rows_of table.Hier t = map hier_cells t.hier
+rows_of table.Posting t = map posting_cells t.posting
+rows_of table.Move t = map move_cells t.move
+
+-- the text that reads them: rows with a number by their numbers, the others as they came
+abbrev pub text_of : Table → List ℕ
+text_of table.Meta = codes "SELECT one, version, base FROM meta ORDER BY one"
+text_of table.Resource = codes "SELECT num, kind, scheme, live, replaced FROM resource ORDER BY num"
+text_of table.Outside = codes "SELECT num, iri FROM outside ORDER BY num"
+text_of table.Label = codes "SELECT owner, kind, tag, text FROM label ORDER BY rowid"
+text_of table.Link = codes "SELECT kind, a, b FROM link ORDER BY rowid"
+text_of table.Hier = codes "SELECT a, b, typ FROM hier ORDER BY rowid"
+text_of table.Posting = codes "SELECT num, pkey, record, first_at, at, withdrawn FROM posting ORDER BY num"
+text_of table.Move = codes "SELECT num, posting, source, target FROM move ORDER BY num"
+
+-- the rows of posting with a key, with a number, and not withdrawn at a concept; the rows of move of a posting
+abbrev pub keyed_as : List ℕ → Tables → List (List Cell)
+keyed_as key t = map posting_cells (filter (λ (x : PostingRow). eq_by_cmp (slice_cmp nat_cmp) x.key key) t.posting)
+
+abbrev pub numbered_as : ℕ → Tables → List (List Cell)
+numbered_as n t = map posting_cells (filter (λ (x : PostingRow). x.number == n) t.posting)
+
+abbrev pub standing_at : ℕ → Tables → List (List Cell)
+standing_at concept t =
+    map posting_cells (filter (λ (x : PostingRow). not x.withdrawn && x.place == concept) t.posting)
+
+abbrev pub moves_of : ℕ → Tables → List (List Cell)
+moves_of n t = map move_cells (filter (λ (x : MoveRow). x.posting == n) t.move)
+
+-- The rows that are read are just these of the tables that the database keeps, in order.
+abbrev pub Shows : {S V E : Type 0} → Ghosts S → (Tables → List (List Cell)) → Held S → Held S → Result V E
+    → (V → List Row) → Type 0
+Shows g wanted old new r rows =
+    HasCleanDisk (state g new) → IfOk r (λ out. (t : Tables) → Keeps (state g old).now t
+    → rows out ≡ map values (wanted t))
+
+-- A read leaves the database as it is; where it is given up, it leaves it as it was committed.
+pub record LeavesAlone {S : Type 0} (g : Ghosts S) (old new : Held S) : Type 0 where
+  pub mode : old.in_transaction ≡ false → new.in_transaction ≡ false
+  pub was : HasCleanDisk (state g new) → IsTrue (state g new).is_open → IsTrue (state g old).is_open
+  pub clean : doubt (state g old).is_clean ≤ doubt (state g new).is_clean
+  pub same : (t : Tables) → Keeps (state g old).now t → HasCleanDisk (state g new) → IsTrue (state g new).is_open
+      → (state g old).now ≡ (state g old).committed
+      → ((state g new).now ≡ (state g old).now) × ((state g new).committed ≡ (state g old).committed)
+  pub crash : (t : Tables) → Keeps (state g old).now t → Survives (state g old) (state g new) (λ _. ⊥)

@@ -1,0 +1,9 @@
+use Rattle.sqlite.specs.Held.{state}
+use Rattle.thes_rows.specs.Tables.{no_rows}
+use Rattle.thes_sqlite.proofs.Keeping.{raw_of}
+use Rattle.thes_sqlite.proofs.keeper.SqlKeeper.create.Goals as goal
+
+pub returns-in-Ok-clause-made : goal.returns-in-Ok-clause-made
+returns-in-Ok-clause-made g c up = raw_of (state g.S.Store c.create_tables.new.conn).now.trees
+    (no_rows c.args.base.now)
+    (c.in-Ok.ensures.all up.0 (c.in-Ok.ensures.own.begins c.requires.idle) c.requires.none).1.hold

@@ -1,0 +1,56 @@
+//! Rows of the database as rows of the tables.
+ghost use Rattle.std.specs.Prelude.{◌≡◌, IfOk, IfSome};
+ghost use Rattle.thes_rows.specs.Cells.{posting_cells};
+ghost use Rattle.thes_sql.specs.Stored.{value_of, values};
+ghost use Rattle.sqlite_value.specs.Value.{owned};
+
+use sqlite::types::ValueRef;
+use sqlite::{Error, ErrorCode, Row};
+use std::alloc::{AllocError, Global};
+use thes_load::rows::posting_in;
+use thes_rows::cells::{Cell, CellText};
+use thes_rows::rows::PostingRow;
+
+// The cell of a value. None for what no table holds: a number with a point, bytes, and a text that isn't UTF-8.
+fn cell_of(alloc: Global, value: ValueRef<'_>) -> Result<Option<Cell>, AllocError>
+    ensures { IfOk result (λ cell. IfSome cell (λ c. value_of c ≡ owned value.entry)) }
+{
+    match value {
+        ValueRef::Null => Ok(Some(Cell::Null)),
+        ValueRef::Int(n) => Ok(Some(Cell::Int(n))),
+        ValueRef::Text(bytes) => match std::str::from_utf8(bytes) {
+            Ok(text) => Ok(Some(Cell::Text(CellText::new(alloc, text)?))),
+            Err(_) => Ok(None),
+        },
+        ValueRef::Real(_) | ValueRef::Blob(_) => Ok(None),
+    }
+}
+
+// The cells of a row, if each of its values is a cell.
+fn cells_of(alloc: Global, row: &Row) -> Result<Option<Vec<Cell>>, AllocError>
+    ensures { IfOk result (λ cells. IfSome cells (λ c. values c.items ≡ row.now)) }
+{
+    let mut cells = Vec::new(alloc);
+    'columns: for at in 0..row.column_count() {
+        let Ok(value) = row.get_ref(at) else {
+            return Ok(None);
+        };
+        match cell_of(alloc, value)? {
+            Some(cell) => cells.push(cell)?,
+            None => return Ok(None),
+        }
+    }
+    Ok(Some(cells))
+}
+
+/// Reads a row of posting. A row of another form is an error, as where a file was changed by another program.
+pub(crate) fn read_posting(alloc: Global, row: &Row) -> Result<PostingRow, Error>
+    ensures { IfOk result (λ x. row.now ≡ values (posting_cells x)) }
+{
+    if let Some(cells) = cells_of(alloc, row)? {
+        if let Some(found) = posting_in(alloc, cells.as_slice())? {
+            return Ok(found);
+        }
+    }
+    Err(Error::SqliteFailure(ErrorCode::DatabaseCorrupt))
+}
