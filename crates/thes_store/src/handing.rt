@@ -26,7 +26,9 @@ pub trait AsCells {
 
     /// Hands the row to a sink, as one of this table.
     fn hand<S: RowSink>(&self, alloc: Global, name: Table, sink: &mut S) -> Result<(), Fault>
-        ensures hands { Hands S.gives sink.old ((name, Some (cells_of self.now)) ∷ []) result sink.new }
+        ensures hands { Hands S.gives sink.old
+            ((name, Some (cells_of self.now)) ∷ [])
+            result sink.new }
         ensures err { IfErr result (λ fault. fault ≡ Fault.OutOfMemory) };
 }
 
@@ -153,7 +155,9 @@ pub fn hand_rows<R: AsCells, S: RowSink>(
     rows: &[R],
     sink: &mut S,
 ) -> Result<(), Fault>
-    ensures hands { Hands S.gives sink.old (handed_of name (Some (map R.cells_of rows.now))) result sink.new }
+    ensures hands { Hands S.gives sink.old
+        (handed_of name (Some (map R.cells_of rows.now)))
+        result sink.new }
     ensures err { IfErr result (λ fault. fault ≡ Fault.OutOfMemory) }
 {
     for row in rows {
@@ -166,7 +170,9 @@ pub fn hand_rows<R: AsCells, S: RowSink>(
 
 /// Hands the row of meta to a sink.
 pub fn hand_meta<S: RowSink>(alloc: Global, base: &Base, sink: &mut S) -> Result<(), Fault>
-    ensures hands { Hands S.gives sink.old (handed_of table.Meta (Some (meta_cells base.now ∷ []))) result sink.new }
+    ensures hands { Hands S.gives sink.old
+        (handed_of table.Meta (Some (meta_cells base.now ∷ [])))
+        result sink.new }
     ensures err { IfErr result (λ fault. fault ≡ Fault.OutOfMemory) }
 {
     let base = text(alloc, base.as_str())?;
@@ -184,7 +190,9 @@ fn place_cell(i: usize) -> Cell
 // Hands a resource to a sink, with the cell of its number.
 fn hand_resource<S: RowSink>(number: Cell, resource: &Resource, sink: &mut S) -> Result<(), Fault>
     ensures hands { (n : ℕ) → number ≡ number_cell n
-        → Hands S.gives sink.old ((table.Resource, Some (resource_cells n resource.now)) ∷ []) result sink.new }
+        → Hands S.gives sink.old
+        ((table.Resource, Some (resource_cells n resource.now)) ∷ [])
+        result sink.new }
     ensures err { IfErr result (λ fault. fault ≡ Fault.OutOfMemory) }
 {
     let kind = int(resource_number(resource.kind));
@@ -200,7 +208,9 @@ fn hand_resource<S: RowSink>(number: Cell, resource: &Resource, sink: &mut S) ->
 
 /// Hands the rows of resource to a sink, numbered from 1 on.
 pub fn hand_resources<S: RowSink>(rows: &[Resource], sink: &mut S) -> Result<(), Fault>
-    ensures hands { Hands S.gives sink.old (handed_of table.Resource (Some (resource_rows 1 rows.now))) result sink.new }
+    ensures hands { Hands S.gives sink.old
+        (handed_of table.Resource (Some (resource_rows 1 rows.now)))
+        result sink.new }
     ensures err { IfErr result (λ fault. fault ≡ Fault.OutOfMemory) }
 {
     for i in 0..rows.len() {
@@ -213,7 +223,9 @@ pub fn hand_resources<S: RowSink>(rows: &[Resource], sink: &mut S) -> Result<(),
 
 // Hands the rows of meta, resource, outside and label to a sink.
 fn hand_first<S: RowSink>(alloc: Global, tables: &MemTables, sink: &mut S) -> Result<(), Fault>
-    ensures hands { Hands S.gives sink.old (handed_first (listed (tables_of tables.now))) result sink.new }
+    ensures hands { Hands S.gives sink.old
+        (handed_first (listed (tables_of tables.now)))
+        result sink.new }
     ensures err { IfErr result (λ fault. fault ≡ Fault.OutOfMemory) }
 {
     if let Err(fault) = hand_meta(alloc, &tables.base, sink) {
@@ -230,7 +242,9 @@ fn hand_first<S: RowSink>(alloc: Global, tables: &MemTables, sink: &mut S) -> Re
 
 // Hands the rows of link, hier, posting and move to a sink.
 fn hand_last<S: RowSink>(alloc: Global, tables: &MemTables, sink: &mut S) -> Result<(), Fault>
-    ensures hands { Hands S.gives sink.old (handed_last (listed (tables_of tables.now))) result sink.new }
+    ensures hands { Hands S.gives sink.old
+        (handed_last (listed (tables_of tables.now)))
+        result sink.new }
     ensures err { IfErr result (λ fault. fault ≡ Fault.OutOfMemory) }
 {
     if let Err(fault) = hand_rows(alloc, Table::Link, tables.link.as_slice(), sink) {
@@ -247,7 +261,9 @@ fn hand_last<S: RowSink>(alloc: Global, tables: &MemTables, sink: &mut S) -> Res
 
 /// Hands the rows of all tables to a sink, table after table.
 pub fn hand_all<S: RowSink>(alloc: Global, tables: &MemTables, sink: &mut S) -> Result<(), Fault>
-    ensures hands { Hands S.gives sink.old (handed (listed (tables_of tables.now))) result sink.new }
+    ensures hands { Hands S.gives sink.old
+        (handed (listed (tables_of tables.now)))
+        result sink.new }
     ensures err { IfErr result (λ fault. fault ≡ Fault.OutOfMemory) }
 {
     if let Err(fault) = hand_first(alloc, tables, sink) {

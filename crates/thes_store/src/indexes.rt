@@ -65,7 +65,8 @@ impl Indexes {
     // Adds the key and the place of a posting that comes.
     fn cover_posting(&mut self, alloc: Global, row: &PostingRow) -> Result<(), AllocError>
         ensures grows { GrowsBy (λ key. key ≢ row.now.key) self.old self.new }
-        ensures reaches { OnOk result ((i : ℕ) → row.now.number ≡ i + 1 → IsReached self.new row.now i) }
+        ensures reaches { OnOk result ((i : ℕ) → row.now.number ≡ i + 1
+            → IsReached self.new row.now i) }
     {
         let place = row.number.get() as usize - 1;
         self.standing.insert(row.place.get(), place)?;

@@ -89,7 +89,8 @@ fn moves_at(
     places: &[usize],
     posting: PostNo,
 ) -> Result<Moves, AllocError>
-    ensures { IfOk result (λ moves. moves ≡ map step_of (picked (is_move_of posting) rows.now places.now)) }
+    ensures { IfOk result (λ moves. moves
+        ≡ map step_of (picked (is_move_of posting) rows.now places.now)) }
 {
     let mut moves = Moves::new(alloc);
     for place in places {
@@ -100,7 +101,8 @@ fn moves_at(
 
 // Adds a move, if it is one of the posting.
 fn push_move(moves: &mut Moves, row: Option<&MoveRow>, posting: PostNo) -> Result<(), AllocError>
-    ensures { OnOk result (moves.new ≡ moves.old ++ map step_of (passing (is_move_of posting) (option_copied row.entry))) }
+    ensures { OnOk result (moves.new
+        ≡ moves.old ++ map step_of (passing (is_move_of posting) (option_copied row.entry))) }
 {
     match row {
         Some(row) if row.posting == posting => moves.push(Move {
@@ -118,7 +120,9 @@ fn hand_standing<S: PostingSink>(
     concept: ResNo,
     sink: &mut S,
 ) -> Result<(), Fault>
-    ensures hands { Hands S.gives sink.old (passing (is_standing concept) (option_copied row.entry)) result sink.new }
+    ensures hands { Hands S.gives sink.old
+        (passing (is_standing concept) (option_copied row.entry))
+        result sink.new }
     ensures err { IfErr result (λ fault. fault ≡ Fault.OutOfMemory) }
 {
     match row {
@@ -134,7 +138,9 @@ fn hand_postings<S: PostingSink>(
     concept: ResNo,
     sink: &mut S,
 ) -> Result<(), Fault>
-    ensures hands { Hands S.gives sink.old (picked (is_standing concept) rows.now places.now) result sink.new }
+    ensures hands { Hands S.gives sink.old
+        (picked (is_standing concept) rows.now places.now)
+        result sink.new }
     ensures err { IfErr result (λ fault. fault ≡ Fault.OutOfMemory) }
 {
     for place in places {
