@@ -1,0 +1,5 @@
+pub mod Places
+pub mod Tabling
+pub mod Covering
+pub mod Handed
+pub mod Finding

@@ -1,5 +1,11 @@
 //! Keepers of the tables: what each promises, and one in memory.
 #![tactic(auto)]
 
+pub mod fail_once;
+pub mod handing;
+pub mod index;
+pub mod indexes;
 pub mod keeper;
+pub mod mem;
 pub mod sink;
+pub mod tables;

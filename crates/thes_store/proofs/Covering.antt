@@ -1,0 +1,275 @@
+-- Rows are found after a change, too.
+use Rattle.std.proofs.Common.{◌≡◌, ◌⊎◌, ◌+◌, ◌-◌, ◌<◌, ◌≤◌, ◌∙◌, inl, inr, ℕ, zero, suc, List, [], ◌∷◌, length, map, Bool, true, false, cond, take, get_or, refl, sym, ap, subst, arith, ⊎_elim, length-append}
+use Rattle.std.specs.Prelude.{Option, None, Some, slice_get, slice_set, not, ◌&&◌, ◌==◌}
+use Rattle.std.specs.Ordering.{nat_cmp}
+use Rattle.std.specs.Cmp.Lexicographic.{slice_cmp}
+use Rattle.std.specs.BTreeMap.{BTreeMap, UpdatesBy, get}
+use Rattle.std.specs.Str.{bytes_eq}
+use Rattle.std.proofs.lemmas.Bool.{cases_Bool}
+use Rattle.std.proofs.lemmas.Map.Text.{is_eq-slice_cmp}
+use Rattle.std.proofs.lemmas.Option.{same_Some}
+use Rattle.std.proofs.lemmas.Slice.Eq.{bytes_eq-Decides}
+use Rattle.thes_base.specs.Resources.{numbered, set_numbered}
+use Rattle.thes_base.proofs.NumberedLemmas.{push_cases, set_cases, numbered_bound}
+use Rattle.thes_rows.specs.declared.change.Change.{Change}
+use Rattle.thes_rows.specs.declared.change.Change.TheVariants as change
+use Rattle.thes_rows.specs.declared.rows.PostingRow.{PostingRow}
+use Rattle.thes_rows.specs.declared.rows.MoveRow.{MoveRow}
+use Rattle.thes_rows.specs.Tables.{Tables, IsIn}
+use Rattle.thes_rows.specs.Rows.{changed, all_changed, with_posting, withdrawn_row, placed_row, moved_row, Fits, FitAll}
+use Rattle.thes_rows.proofs.Sets.{append_left, map_in}
+use Rattle.thes_rows.proofs.Steps.{all_append}
+use Rattle.thes_store.proofs.Places.{take_one}
+use Rattle.thes_store.specs.declared.indexes.Indexes.{Indexes}
+use Rattle.thes_store.specs.Index.{IsAt}
+use Rattle.thes_store.specs.Covers.{Covers, Grows, IsOtherKey, Reaches, moves_more}
+
+-- Rows of a list that is changed.
+
+with_cases : (f : PostingRow → PostingRow) (n : ℕ) (rows : List PostingRow) (m : ℕ) (y : PostingRow) → numbered (with_posting f n rows) m ≡ Some y
+    → (row : PostingRow) × (numbered rows m ≡ Some row) × ((y ≡ row) ⊎ ((m ≡ n) × (y ≡ f row)))
+with_cases f n rows m y e = go (numbered rows n) refl e
+  where
+    go : (o : Option PostingRow) → numbered rows n ≡ o → numbered (elim o [ None ↦ rows | Some row ↦ set_numbered rows n (f row) ]) m ≡ Some y
+        → (row : PostingRow) × (numbered rows m ≡ Some row) × ((y ≡ row) ⊎ ((m ≡ n) × (y ≡ f row)))
+    go None at e = (y, e, inl refl)
+    go (Some row) at e = elim (set_cases rows (f row) y n m (numbered_bound rows n row at).0 e) [
+      | inl here ↦ (row, ap (numbered rows) here.0 ∙ at, inr here)
+      | inr other ↦ (y, other.1, inl refl)
+    ]
+
+map_cases : {A B : Type 0} (f : A → B) (xs : List A) (m : ℕ) (y : B) → numbered (map f xs) m ≡ Some y → (x : A) × (numbered xs m ≡ Some x) × (y ≡ f x)
+map_cases f xs zero y e = absurd (cc)
+map_cases f [] (suc m) y e = absurd (cc)
+map_cases f (x ∷ xs) (suc zero) y e = (x, refl, sym (same_Some _ _ e))
+map_cases f (x ∷ xs) (suc (suc m)) y e = map_cases f xs (suc m) y e
+
+-- A moved row is at the target, if it was at the source; else it is as it was.
+moved_cases : (source target : ℕ) (row : PostingRow) → ((row.place ≡ source) × ((moved_row source target row).place ≡ target)) ⊎ ((moved_row source target row).place ≡ row.place)
+moved_cases source target row = go (not row.withdrawn) (row.place == source) (λ e. same row.place source e)
+  where
+    same : (a b : ℕ) → (a == b) ≡ true → a ≡ b
+    same a b e = grind (arith)
+
+    go : (b d : Bool) → (d ≡ true → row.place ≡ source) → ((row.place ≡ source) × ((cond (b && d) (placed_row target row) row).place ≡ target)) ⊎ ((cond (b && d) (placed_row target row) row).place ≡ row.place)
+    go true true is = inl (is refl, refl)
+    go true false is = inr refl
+    go false d is = inr refl
+
+moved_key : (source target : ℕ) (row : PostingRow) → (moved_row source target row).key ≡ row.key
+moved_key source target row = go (not row.withdrawn && row.place == source)
+  where
+    go : (b : Bool) → (cond b (placed_row target row) row).key ≡ row.key
+    go true = refl
+    go false = refl
+
+-- The rows of posting, if those of move stay.
+
+abbrev KeyIs : Indexes → List ℕ → ℕ → Type 0
+KeyIs x key i = get (slice_cmp nat_cmp) x.keys key ≡ Some i
+
+with_covered : (x : Indexes) (t : Tables) (f : PostingRow → PostingRow) (n : ℕ) → ((row : PostingRow) → (f row).key ≡ row.key) → ((i : ℕ) (row : PostingRow) → suc i ≡ n → IsAt x.standing row.place i → IsAt x.standing (f row).place i)
+    → Covers x t → Covers x (record t { posting = with_posting f n t.posting })
+with_covered x t f n key place covers = record {
+  keys = λ i y e. let r = with_cases f n t.posting (suc i) y e in elim r.2 [
+    | inl same ↦ subst (λ (z : PostingRow). KeyIs x z.key i) (sym same) (covers.keys i r.0 r.1)
+    | inr changed ↦ subst (λ k. KeyIs x k i) (sym (ap (λ (z : PostingRow). z.key) changed.1 ∙ key r.0)) (covers.keys i r.0 r.1)
+  ];
+  standing = λ i y e. let r = with_cases f n t.posting (suc i) y e in elim r.2 [
+    | inl same ↦ subst (λ (z : PostingRow). IsAt x.standing z.place i) (sym same) (covers.standing i r.0 r.1)
+    | inr changed ↦ subst (λ (z : PostingRow). IsAt x.standing z.place i) (sym changed.1) (place i r.0 changed.0 (covers.standing i r.0 r.1))
+  ];
+  moves = covers.moves;
+}
+
+moved_covered : (x : Indexes) (t : Tables) (source target : ℕ) → ((i : ℕ) (row : PostingRow) → slice_get t.posting i ≡ Some row → row.place ≡ source → IsAt x.standing target i) → Covers x t → Covers x (record t { posting = map (moved_row source target) t.posting })
+moved_covered x t source target along covers = record {
+  keys = λ i y e. let r = map_cases (moved_row source target) t.posting (suc i) y e in subst (λ k. KeyIs x k i) (sym (ap (λ (z : PostingRow). z.key) r.2 ∙ moved_key source target r.0)) (covers.keys i r.0 r.1);
+  standing = λ i y e.
+      let r = map_cases (moved_row source target) t.posting (suc i) y e in
+      let at = covers.standing i r.0 r.1 in
+      subst (λ (z : PostingRow). IsAt x.standing z.place i) (sym r.2) (elim (moved_cases source target r.0) [
+        | inl moves ↦ subst (λ p. IsAt x.standing p i) (sym moves.1) (along i r.0 r.1 moves.0)
+        | inr stays ↦ subst (λ p. IsAt x.standing p i) (sym stays) at
+      ]);
+  moves = covers.moves;
+}
+
+pub covered : (x : Indexes) (c : Change) (t : Tables) (step : ℕ) → length t.move ≡ step → Reaches x c t step → Covers x t → Covers x (changed c t)
+covered x (change.AddResource n r) t step len reached covers = record { keys = covers.keys; standing = covers.standing; moves = covers.moves }
+covered x (change.Retire n) t step len reached covers = record { keys = covers.keys; standing = covers.standing; moves = covers.moves }
+covered x (change.Replace n by) t step len reached covers = record { keys = covers.keys; standing = covers.standing; moves = covers.moves }
+covered x (change.AddOutside n iri) t step len reached covers = record { keys = covers.keys; standing = covers.standing; moves = covers.moves }
+covered x (change.AddLabel l) t step len reached covers = record { keys = covers.keys; standing = covers.standing; moves = covers.moves }
+covered x (change.DropLabel l) t step len reached covers = record { keys = covers.keys; standing = covers.standing; moves = covers.moves }
+covered x (change.AddLink l) t step len reached covers = record { keys = covers.keys; standing = covers.standing; moves = covers.moves }
+covered x (change.DropLink l) t step len reached covers = record { keys = covers.keys; standing = covers.standing; moves = covers.moves }
+covered x (change.AddHier row) t step len reached covers = record { keys = covers.keys; standing = covers.standing; moves = covers.moves }
+covered x (change.DropHier row) t step len reached covers = record { keys = covers.keys; standing = covers.standing; moves = covers.moves }
+covered x (change.AddPosting row) t step len reached covers = record {
+  keys = λ i y e. elim (push_cases t.posting row y (suc i) e) [
+    | inl old ↦ covers.keys i y old
+    | inr new ↦ let at : length t.posting ≡ i = (let n = new.0 in omega (arith, n)) in subst (λ (z : PostingRow). KeyIs x z.key i) (sym new.1) (subst (KeyIs x row.key) at reached.0)
+  ];
+  standing = λ i y e. elim (push_cases t.posting row y (suc i) e) [
+    | inl old ↦ covers.standing i y old
+    | inr new ↦ let at : length t.posting ≡ i = (let n = new.0 in omega (arith, n)) in subst (λ (z : PostingRow). IsAt x.standing z.place i) (sym new.1) (subst (IsAt x.standing row.place) at reached.1)
+  ];
+  moves = covers.moves;
+}
+covered x (change.Withdraw n) t step len reached covers = with_covered x t withdrawn_row n (λ row. refl) (λ i row e at. at) covers
+covered x (change.SetPlace n place) t step len reached covers =
+    with_covered x t (placed_row place) n (λ row. refl) (λ i row e at. subst (IsAt x.standing place) (let s : n - 1 ≡ i = omega (arith, e) in s) reached) covers
+covered x (change.MoveAll source target) t step len reached covers = moved_covered x t source target reached covers
+covered x (change.AddMove row) t step len reached covers = record {
+  keys = covers.keys;
+  standing = covers.standing;
+  moves = λ i y e. elim (push_cases t.move row y (suc i) e) [
+    | inl old ↦ covers.moves i y old
+    | inr new ↦ let at : step ≡ i = (let n = new.0 in omega (arith, n, len)) in subst (λ (z : MoveRow). IsAt x.moves z.posting i) (sym new.1) (subst (IsAt x.moves row.posting) at reached)
+  ];
+}
+
+-- Keys of postings.
+
+pub get_others : (old new : BTreeMap (List ℕ) ℕ) (key : List ℕ) (n : ℕ) → UpdatesBy (slice_cmp nat_cmp) (slice_cmp nat_cmp key) old new (Some n) → (q : List ℕ) → (key ≡ q → ⊥) → get (slice_cmp nat_cmp) new q ≡ get (slice_cmp nat_cmp) old q
+get_others old new key n updates q apart = updates.2 q (is_eq-slice_cmp key q ∙ ⊎_elim
+    (λ (hit : bytes_eq key q ≡ true). absurd (apart ((bytes_eq-Decides key q).0 hit)))
+    (λ (miss : bytes_eq key q ≡ false). miss) (cases_Bool (bytes_eq key q)))
+
+set_in : (xs : List PostingRow) (k : ℕ) (row r y : PostingRow) → slice_get xs k ≡ Some r → y.key ≡ r.key → IsIn row xs → (z : PostingRow) × IsIn z (slice_set xs k y) × (z.key ≡ row.key)
+set_in [] k row r y at key h = absurd h
+set_in (x ∷ xs) zero row r y at key (inl same) = (y, inl refl, key ∙ ap (λ (z : PostingRow). z.key) (sym (same_Some _ _ at) ∙ sym same))
+set_in (x ∷ xs) zero row r y at key (inr later) = (row, inr later, refl)
+set_in (x ∷ xs) (suc k) row r y at key (inl same) = (row, inl same, refl)
+set_in (x ∷ xs) (suc k) row r y at key (inr later) = let z = set_in xs k row r y at key later in (z.0, inr z.1, z.2)
+
+with_in : (f : PostingRow → PostingRow) (n : ℕ) (rows : List PostingRow) (row : PostingRow) → ((r : PostingRow) → (f r).key ≡ r.key) → IsIn row rows → (z : PostingRow) × IsIn z (with_posting f n rows) × (z.key ≡ row.key)
+with_in f zero rows row key h = (row, h, refl)
+with_in f (suc n) rows row key h = go (slice_get rows n) refl
+  where
+    go : (o : Option PostingRow) → slice_get rows n ≡ o → (z : PostingRow) × IsIn z (elim o [ None ↦ rows | Some r ↦ slice_set rows (suc n - 1) (f r) ]) × (z.key ≡ row.key)
+    go None at = (row, h, refl)
+    go (Some r) at = set_in rows (suc n - 1) row r (f r) (ap (slice_get rows) (let e : suc n - 1 ≡ n = omega arith in e) ∙ at) (key r) h
+
+key_stays : (c : Change) (t : Tables) (row : PostingRow) → IsIn row t.posting → (z : PostingRow) × IsIn z (changed c t).posting × (z.key ≡ row.key)
+key_stays (change.AddResource n r) t row h = (row, h, refl)
+key_stays (change.Retire n) t row h = (row, h, refl)
+key_stays (change.Replace n by) t row h = (row, h, refl)
+key_stays (change.AddOutside n iri) t row h = (row, h, refl)
+key_stays (change.AddLabel l) t row h = (row, h, refl)
+key_stays (change.DropLabel l) t row h = (row, h, refl)
+key_stays (change.AddLink l) t row h = (row, h, refl)
+key_stays (change.DropLink l) t row h = (row, h, refl)
+key_stays (change.AddHier r) t row h = (row, h, refl)
+key_stays (change.DropHier r) t row h = (row, h, refl)
+key_stays (change.AddPosting r) t row h = (row, append_left row t.posting (r ∷ []) h, refl)
+key_stays (change.Withdraw n) t row h = with_in withdrawn_row n t.posting row (λ r. refl) h
+key_stays (change.SetPlace n place) t row h = with_in (placed_row place) n t.posting row (λ r. refl) h
+key_stays (change.MoveAll source target) t row h = (moved_row source target row, map_in (moved_row source target) row t.posting h, moved_key source target row)
+key_stays (change.AddMove r) t row h = (row, h, refl)
+
+keys_stay : (changes : List Change) (t : Tables) (row : PostingRow) → IsIn row t.posting → (z : PostingRow) × IsIn z (all_changed changes t).posting × (z.key ≡ row.key)
+keys_stay [] t row h = (row, h, refl)
+keys_stay (c ∷ changes) t row h =
+    let y = key_stays c t row h in
+    let z = keys_stay changes (changed c t) y.0 y.1 in
+    (z.0, z.1, z.2 ∙ y.2)
+
+other_key : (c : Change) (t : Tables) (row : PostingRow) → Fits c t → IsIn row t.posting → IsOtherKey c row.key
+other_key (change.AddResource n r) t row fits h = tt
+other_key (change.Retire n) t row fits h = tt
+other_key (change.Replace n by) t row fits h = tt
+other_key (change.AddOutside n iri) t row fits h = tt
+other_key (change.AddLabel l) t row fits h = tt
+other_key (change.DropLabel l) t row fits h = tt
+other_key (change.AddLink l) t row fits h = tt
+other_key (change.DropLink l) t row fits h = tt
+other_key (change.AddHier r) t row fits h = tt
+other_key (change.DropHier r) t row fits h = tt
+other_key (change.AddPosting r) t row fits h = fits.1 row h
+other_key (change.Withdraw n) t row fits h = tt
+other_key (change.SetPlace n place) t row fits h = tt
+other_key (change.MoveAll source target) t row fits h = tt
+other_key (change.AddMove r) t row fits h = tt
+
+-- One change after another.
+
+pub get_in : (xs : List PostingRow) (i : ℕ) (row : PostingRow) → slice_get xs i ≡ Some row → IsIn row xs
+get_in [] i row e = absurd (cc)
+get_in (x ∷ xs) zero row e = inl (sym (same_Some _ _ e))
+get_in (x ∷ xs) (suc i) row e = inr (get_in xs i row e)
+
+grown : (c : Change) (old new : Indexes) (t : Tables) → Grows c old new → ((row : PostingRow) → IsIn row t.posting → IsOtherKey c row.key) → Covers old t → Covers new t
+grown c old new t grows apart covers = record {
+  keys = λ i row e. grows.keys row.key (apart row (get_in t.posting i row e)) ∙ covers.keys i row e;
+  standing = λ i row e. grows.standing row.place i (covers.standing i row e);
+  moves = λ i row e. grows.moves row.posting i (covers.moves i row e);
+}
+
+fit_at : (changes : List Change) (i : ℕ) (c : Change) (t : Tables) → i < length changes → c ≡ get_or changes i c → FitAll changes t → Fits c (all_changed (take i changes) t)
+fit_at [] i c t lt e fits = absurd (omega arith)
+fit_at (x ∷ changes) zero c t lt e fits = subst (λ y. Fits y t) (sym e) fits.0
+fit_at (x ∷ changes) (suc i) c t lt e fits = fit_at changes i c (changed x t) (omega arith) e fits.1
+
+-- the rows of the first tables are found, and so are those that these changes make of them
+pub record SoFar (x : Indexes) (done : List Change) (t : Tables) (step : ℕ) : Type 0 where
+  pub first : Covers x t
+  pub last : Covers x (all_changed done t)
+  pub moves : length (all_changed done t).move ≡ step
+
+pub begins : (x : Indexes) (t : Tables) (moves : ℕ) → length t.move ≡ moves → Covers x t → SoFar x [] t moves
+begins x t moves len covers = record { first = covers; last = covers; moves = len }
+
+moves_grow : (c : Change) (t : Tables) → length (changed c t).move ≡ length t.move + moves_more c
+moves_grow (change.AddResource n r) t = omega arith
+moves_grow (change.Retire n) t = omega arith
+moves_grow (change.Replace n by) t = omega arith
+moves_grow (change.AddOutside n iri) t = omega arith
+moves_grow (change.AddLabel l) t = omega arith
+moves_grow (change.DropLabel l) t = omega arith
+moves_grow (change.AddLink l) t = omega arith
+moves_grow (change.DropLink l) t = omega arith
+moves_grow (change.AddHier row) t = omega arith
+moves_grow (change.DropHier row) t = omega arith
+moves_grow (change.AddPosting r) t = omega arith
+moves_grow (change.Withdraw n) t = omega arith
+moves_grow (change.SetPlace n place) t = omega arith
+moves_grow (change.MoveAll source target) t = omega arith
+moves_grow (change.AddMove r) t = length-append t.move (r ∷ [])
+
+pub moves_few : (c : Change) → moves_more c ≤ 1
+moves_few (change.AddResource n r) = omega arith
+moves_few (change.Retire n) = omega arith
+moves_few (change.Replace n by) = omega arith
+moves_few (change.AddOutside n iri) = omega arith
+moves_few (change.AddLabel l) = omega arith
+moves_few (change.DropLabel l) = omega arith
+moves_few (change.AddLink l) = omega arith
+moves_few (change.DropLink l) = omega arith
+moves_few (change.AddHier row) = omega arith
+moves_few (change.DropHier row) = omega arith
+moves_few (change.AddPosting r) = omega arith
+moves_few (change.Withdraw n) = omega arith
+moves_few (change.SetPlace n place) = omega arith
+moves_few (change.MoveAll source target) = omega arith
+moves_few (change.AddMove r) = omega arith
+
+pub stops : (old new : Indexes) (changes : List Change) (i : ℕ) (c : Change) (t : Tables) (step : ℕ) → i < length changes → c ≡ get_or changes i c → FitAll changes t → SoFar old (take i changes) t step → Grows c old new → Covers new t
+stops old new changes i c t step lt is fits so_far grows =
+    let s = all_changed (take i changes) t in
+    grown c old new t grows (λ row h. let z = keys_stay (take i changes) t row h in subst (IsOtherKey c) z.2 (other_key c s z.0 (fit_at changes i c t lt is fits) z.1)) so_far.first
+
+pub goes_on : (old new : Indexes) (changes : List Change) (i : ℕ) (c : Change) (t : Tables) (step next : ℕ) → i < length changes → c ≡ get_or changes i c → FitAll changes t → SoFar old (take i changes) t step → Grows c old new → ((s : Tables) → Fits c s → Covers old s → Reaches new c s step)
+    → next ≡ step + moves_more c → SoFar new (take (i + 1) changes) t next
+goes_on old new changes i c t step next lt is fits so_far grows reaches next_is =
+    let s = all_changed (take i changes) t in
+    let fit = fit_at changes i c t lt is fits in
+    let done : all_changed (take (i + 1) changes) t ≡ changed c s = ap (λ (l : List Change). all_changed l t) (take_one changes i c lt is) ∙ all_append (take i changes) (c ∷ []) t in
+    let more = moves_grow c s in
+    let before = so_far.moves in
+    record {
+      first = stops old new changes i c t step lt is fits so_far grows;
+      last = subst (Covers new) (sym done) (covered new c s step so_far.moves (reaches s fit so_far.last) (grown c old new s grows (λ row h. other_key c s row fit h) so_far.last));
+      moves = ap (λ (u : Tables). length u.move) done ∙ more ∙ ap (λ n. n + moves_more c) before ∙ sym next_is;
+    }

@@ -1,0 +1,17 @@
+use Rattle.std.proofs.Common.{◌∙◌, sym, subst}
+use Rattle.thes_rows.specs.declared.change.Change.{Change}
+use Rattle.thes_rows.specs.Tables.{Tables, IsIn}
+use Rattle.thes_rows.specs.Rows.{Fits}
+use Rattle.thes_store.specs.declared.indexes.Indexes.{Indexes}
+use Rattle.thes_store.specs.Index.{IsAt}
+use Rattle.thes_store.specs.Covers.{Covers, Reaches}
+use Rattle.thes_store.proofs.indexes.Indexes.cover.Goals as goal
+
+pub returns-in_ok-insert_all-in-MoveAll-clause-reaches : goal.returns-in_ok-insert_all-in-MoveAll-clause-reaches
+returns-in_ok-insert_all-in-MoveAll-clause-reaches c =
+    let new : Indexes = record c.args.self.now { standing = c.insert_all.new.self } in
+    subst (λ (change : Change). (t : Tables) → Fits change t → Covers c.args.self.now t → Reaches new change t c.args.step) (sym c.in-MoveAll.is)
+    (λ t fits covers i row at stands.
+    let from = subst (λ n. IsAt c.args.self.now.standing n i) (stands ∙ sym c.get-in-MoveAll.ensures.value) (covers.standing i row at) in
+    let listed = subst (IsIn i) (sym c.as_slice.ensures.value) (c.in_ok-places-in-MoveAll.ensures.complete i from) in
+    subst (λ n. IsAt c.insert_all.new.self n i) c.get-in-MoveAll-2.ensures.value (c.in_ok-insert_all-in-MoveAll.ensures.ok i listed))

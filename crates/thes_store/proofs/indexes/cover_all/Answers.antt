@@ -1,0 +1,36 @@
+use Rattle.std.proofs.Common.{subst, arith, rules, List}
+use Rattle.thes_rows.specs.declared.change.Change.{Change}
+use Rattle.thes_rows.specs.Rows.{all_changed}
+use Rattle.thes_store.specs.Covers.{Covers}
+use Rattle.thes_store.proofs.Places.{take_whole}
+use Rattle.thes_store.proofs.Covering.{begins, goes_on, stops, moves_few}
+use Rattle.thes_store.proofs.indexes.cover_all.Goals as goal
+
+pub loop-change-init : goal.loop-change-init
+loop-change-init c = (omega arith, λ t fits len covers. begins c.args.indexes.now t c.args.moves len covers)
+
+pub cover-requires : goal.cover-requires
+cover-requires c = let a = c.loop-change.invariant.0 in let b = c.loop-change-test.true in let r = c.requires in omega (arith, a, b, r)
+
+pub loop-change-preserved : goal.loop-change-preserved
+loop-change-preserved c =
+    let changes = c.args.changes.now in
+    let i = c.loop-change.change-index in
+    let a = c.loop-change.invariant.0 in
+    let few = moves_few c.change-item.result in
+    let next = c.in_ok-step.ensures.next in (
+      omega (arith, a, few, next),
+      λ t fits len covers. goes_on c.loop-change.indexes c.cover.new.self changes i c.change-item.result t c.loop-change.step _ c.loop-change-test.true c.change-item.is fits (c.loop-change.invariant.1 t fits len covers) c.cover.ensures.grows c.in_ok-step.ensures.reaches next,
+    )
+
+pub returns-in_err-step : goal.returns-in_err-step
+returns-in_err-step c =
+    λ t fits len covers.
+    (stops c.loop-change.indexes c.cover.new.self c.args.changes.now c.loop-change.change-index c.change-item.result t c.loop-change.step c.loop-change-test.true c.change-item.is fits (c.loop-change.invariant.1 t fits len covers) c.cover.ensures.grows, search rules)
+
+pub returns : goal.returns
+returns c =
+    λ t fits len covers.
+    let so_far = c.loop-change.invariant.1 t fits len covers in
+    let all = take_whole c.args.changes.now c.loop-change.change-index c.loop-change-test.false in
+    (so_far.first, subst (λ (l : List Change). Covers c.loop-change.indexes (all_changed l t)) all so_far.last)

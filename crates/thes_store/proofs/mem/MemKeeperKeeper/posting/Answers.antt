@@ -1,0 +1,25 @@
+use Rattle.std.proofs.Common.{◌≡◌, ◌∙◌, ◌-◌, ◌≤◌, ap, subst, rules, map}
+use Rattle.std.specs.Prelude.{Some, slice_get}
+use Rattle.thes_base.specs.Resources.{numbered}
+use Rattle.thes_base.proofs.NumberedLemmas.{numbered_at}
+use Rattle.thes_rows.specs.Tables.{Tables, step_of}
+use Rattle.thes_rows.proofs.Listing.{listed_one}
+use Rattle.thes_store.specs.Index.{ArePlaces}
+use Rattle.thes_store.specs.Covers.{Covers}
+use Rattle.thes_store.specs.Picked.{is_move_of, picked}
+use Rattle.thes_store.proofs.Finding.{moves_all}
+use Rattle.thes_store.proofs.mem.MemKeeperKeeper.posting.Goals as goal
+
+pub returns-clause-ok : goal.returns-clause-ok
+returns-clause-ok c = λ up t same.
+    let x = c.self.inside.indexes in
+    let is = c.self.view_is ∙ listed_one c.args.self.now t same in
+    let places = c.in_ok-places.places.items in
+    let there : slice_get c.self.inside.tables.posting.items (c.args.number - 1) ≡ Some c.in_ok-row.row = search rules in
+    let least : 1 ≤ c.args.number = search rules in
+    let row = numbered_at c.self.inside.tables.posting.items c.args.number least ∙ there in
+    let moves : c.in_ok-moves.moves ≡ map step_of (picked (is_move_of c.args.number) c.self.inside.tables.steps.items places) = search rules in
+    let are = subst (λ n. ArePlaces x.moves n places) c.get-2.ensures.value c.in_ok-places.ensures in (
+      subst (λ (u : Tables). numbered u.posting c.args.number ≡ Some c.in_ok-row.row) is row,
+      moves ∙ ap (λ (u : Tables). map step_of (picked (is_move_of c.args.number) u.move places)) is ∙ ap (map step_of) (moves_all x t c.args.number places (subst (Covers x) is c.self.invariant) are),
+    )

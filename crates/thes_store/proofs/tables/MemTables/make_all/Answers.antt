@@ -1,0 +1,21 @@
+use Rattle.std.proofs.Common.{◌≡◌, ◌∙◌, ◌+◌, ◌-◌, ap, sym, subst, arith, length, length-append, [], ◌∷◌, ◌++◌}
+use Rattle.std.proofs.lemmas.Iterator.Adapters.{YieldsList-from_vec}
+use Rattle.std.proofs.lemmas.Iterator.Consumers.{YieldsList-turn}
+use Rattle.thes_rows.specs.Rows.{changed}
+use Rattle.thes_rows.proofs.Steps.{all_append}
+use Rattle.thes_store.specs.Room.{tables_of, HasRoom}
+use Rattle.thes_store.proofs.tables.MemTables.make_all.Goals as goal
+
+pub loop-change-preserved : goal.loop-change-preserved
+loop-change-preserved c =
+    let done = c.loop-change.yielded in
+    let change = c.in-Some.change in
+    let all = c.args.changes.items in
+    let given = c.into_iter-change-iterator.ensures.into_iter_gives in
+    let t = YieldsList-turn (YieldsList-from_vec {s = c.into_iter-change-iterator.result} all given.0 (given.1 ∙ c.args.changes.ok.0)) done c.loop-change.change-iterator c.loop-change.yielded_by c.next.result c.next.new.self change c.in-Some.is c.next.ensures.steps in
+    let less = t.0 in
+    let e : length (done ++ change ∷ []) ≡ length done + 1 = length-append done (change ∷ []) in
+    let room : length all - length done ≡ (length all - length (done ++ change ∷ [])) + 1 = omega (arith, less, e) in (
+      c.make.ensures.tables ∙ ap (changed change) c.loop-change.invariant.0 ∙ sym (all_append done (change ∷ []) (tables_of c.args.self.now)),
+      c.make.ensures.room (length all - length (done ++ change ∷ [])) (subst (λ n. HasRoom n c.loop-change.self) room c.loop-change.invariant.1),
+    )

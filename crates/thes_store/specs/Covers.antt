@@ -1,0 +1,56 @@
+-- By what the rows of postings and of moves are found.
+use Rattle.std.specs.Prelude.{◌≡◌, ◌≢◌, ◌-◌, ℕ, List, length, Some, slice_get, Result, OnOk}
+use Rattle.std.specs.BTreeMap.{get}
+use Rattle.std.specs.Cmp.Lexicographic.{slice_cmp}
+use Rattle.std.specs.Ordering.{nat_cmp}
+use Rattle.thes_rows.specs.declared.change.Change.{Change}
+use Rattle.thes_rows.specs.declared.change.Change.TheVariants as change
+use Rattle.thes_rows.specs.declared.rows.PostingRow.{PostingRow}
+use Rattle.thes_rows.specs.declared.rows.MoveRow.{MoveRow}
+use Rattle.thes_rows.specs.Tables.{Tables}
+use Rattle.thes_rows.specs.Rows.{all_changed}
+use Rattle.thes_store.specs.declared.indexes.Indexes.{Indexes}
+use Rattle.thes_store.specs.Index.{IsAt, KeepsPlaces}
+
+-- Each row is found: a posting by its key and by the concept where it stands, a move by its posting. There may be more places
+-- in the indexes than rows that stand there.
+pub record Covers (x : Indexes) (t : Tables) : Type 0 where
+  pub keys : (i : ℕ) (row : PostingRow) → slice_get t.posting i ≡ Some row → get (slice_cmp nat_cmp) x.keys row.key ≡ Some i
+  pub standing : (i : ℕ) (row : PostingRow) → slice_get t.posting i ≡ Some row → IsAt x.standing row.place i
+  pub moves : (i : ℕ) (row : MoveRow) → slice_get t.move i ≡ Some row → IsAt x.moves row.posting i
+
+-- a key that the change doesn't bring
+abbrev pub IsOtherKey : Change → List ℕ → Type 0
+IsOtherKey (change.AddPosting row) key = key ≢ row.key
+IsOtherKey _ key = Unit {0}
+
+-- no place is lost, and these keys lead where they led
+pub record GrowsBy (IsKept : List ℕ → Type 0) (old new : Indexes) : Type 0 where
+  pub keys : (key : List ℕ) → IsKept key → get (slice_cmp nat_cmp) new.keys key ≡ get (slice_cmp nat_cmp) old.keys key
+  pub standing : KeepsPlaces old.standing new.standing
+  pub moves : KeepsPlaces old.moves new.moves
+
+-- so it is for the keys that the change doesn't bring
+abbrev pub Grows : Change → Indexes → Indexes → Type 0
+Grows c old new = GrowsBy (IsOtherKey c) old new
+
+-- the posting is found at this place
+abbrev pub IsReached : Indexes → PostingRow → ℕ → Type 0
+IsReached x row i = (get (slice_cmp nat_cmp) x.keys row.key ≡ Some i) × IsAt x.standing row.place i
+
+-- what the change makes of a row is found, where a move comes to this place
+abbrev pub Reaches : Indexes → Change → Tables → ℕ → Type 0
+Reaches x (change.AddPosting row) t step = IsReached x row (length t.posting)
+Reaches x (change.SetPlace n place) t step = IsAt x.standing place (n - 1)
+Reaches x (change.MoveAll source target) t step = (i : ℕ) (row : PostingRow) → slice_get t.posting i ≡ Some row → row.place ≡ source → IsAt x.standing target i
+Reaches x (change.AddMove row) t step = IsAt x.moves row.posting step
+Reaches x _ t step = Unit {0}
+
+-- how many moves the change adds
+abbrev pub moves_more : Change → ℕ
+moves_more (change.AddMove row) = 1
+moves_more _ = 0
+
+-- the rows of these tables are found, and if all went well those that the changes make of them
+abbrev pub CoversBoth : {E : Type 0} → Indexes → List Change → Tables → Result (Unit {0}) E → Type 0
+CoversBoth x changes t result = Covers x t × OnOk result (Covers x (all_changed changes t))

@@ -1,0 +1,26 @@
+-- Where the rows of a number may stand.
+use Rattle.std.specs.Prelude.{◌≡◌, ℕ, List, true, IsSome}
+use Rattle.std.specs.Option.{IsSomeAnd}
+use Rattle.std.specs.Ordering.{nat_cmp}
+use Rattle.std.specs.List.Sorted.{IsStrictlySortedBy}
+use Rattle.std.specs.BTreeMap.{get}
+use Rattle.std.specs.BTreeSet.{contains}
+use Rattle.thes_rows.specs.Tables.{IsIn}
+use Rattle.thes_store.specs.declared.index.Index.{Index}
+
+-- the number has this place
+abbrev pub IsAt : Index → ℕ → ℕ → Type 0
+IsAt index n place = IsSomeAnd (get nat_cmp index.sets n) (λ set. contains nat_cmp set place ≡ true)
+
+-- the number has a set, if only an empty one
+abbrev pub IsOpen : Index → ℕ → Type 0
+IsOpen index n = IsSome (get nat_cmp index.sets n)
+
+-- each number has the places that it had
+abbrev pub KeepsPlaces : Index → Index → Type 0
+KeepsPlaces old new = (n place : ℕ) → IsAt old n place → IsAt new n place
+
+-- all places of a number, rising
+pub record ArePlaces (index : Index) (n : ℕ) (places : List ℕ) : Type 0 where
+  pub rises : IsStrictlySortedBy nat_cmp places
+  pub complete : (place : ℕ) → IsAt index n place → IsIn place places

@@ -1,0 +1,95 @@
+//! A keeper that fails when it is told to, for tests.
+ghost use Rattle.std.specs.Prelude.{◌≡◌, ◌≤◌, ◌<◌, ◌⊎◌};
+ghost use Rattle.thes_base.specs.declared.fault.Fault.{Fault};
+ghost use Rattle.thes_store.specs.Causes.{most};
+
+use crate::keeper::{Keeper, Posting};
+use crate::mem::MemKeeper;
+use crate::sink::{PostingSink, RowSink};
+use thes_base::fault::Fault;
+use thes_base::number::{PostNo, ResNo};
+use thes_base::text::Key;
+use thes_rows::delta::Delta;
+use thes_rows::rows::PostingRow;
+
+/// The call that fails next.
+#[derive(Clone, Copy, Debug, PartialEq, Eq)]
+pub enum Next {
+    Nothing,
+    Load,
+    Commit,
+    Find,
+    Posting,
+    Standing,
+}
+
+/// A keeper in memory that fails at the next call of one kind, and then no more.
+#[derive(Drop)]
+pub struct FailOnce {
+    pub keeper: MemKeeper,
+    pub next: Next,
+    pub failures: u64,
+}
+
+impl FailOnce {
+    // Counts a failure, the last one that is wanted.
+    fn fail(&mut self) -> Fault
+        ensures fault { result ≡ Fault.Store }
+        ensures same { self.new.keeper ≡ self.old.keeper }
+        ensures later { self.old.failures ≤ self.new.failures }
+        ensures counted { (self.old.failures < self.new.failures) ⊎ (self.old.failures ≡ most) }
+    {
+        self.next = Next::Nothing;
+        self.failures = self.failures.saturating_add(1);
+        Fault::Store
+    }
+}
+
+impl Keeper for FailOnce {
+    ghost use Rattle.thes_rows.specs.Cells.{listed};
+
+    ghost rows = { λ k. listed k.keeper };
+
+    ghost is_up = { λ k. Unit {0} };
+
+    ghost failed = { λ k. k.failures };
+
+    fn failures(&self) -> u64 {
+        self.failures
+    }
+
+    fn load<S: RowSink>(&mut self, sink: &mut S) -> Result<(), Fault> {
+        if self.next == Next::Load {
+            return Err(self.fail());
+        }
+        self.keeper.load(sink)
+    }
+
+    fn commit(&mut self, delta: &Delta) -> Result<(), Fault> {
+        if self.next == Next::Commit {
+            return Err(self.fail());
+        }
+        self.keeper.commit(delta)
+    }
+
+    fn find(&mut self, key: &Key) -> Result<Option<PostingRow>, Fault> {
+        if self.next == Next::Find {
+            return Err(self.fail());
+        }
+        self.keeper.find(key)
+    }
+
+    fn posting(&mut self, number: PostNo) -> Result<Option<Posting>, Fault> {
+        if self.next == Next::Posting {
+            return Err(self.fail());
+        }
+        self.keeper.posting(number)
+    }
+
+    fn standing<S: PostingSink>(&mut self, concept: ResNo, sink: &mut S) -> Result<(), Fault> {
+        if self.next == Next::Standing {
+            return Err(self.fail());
+        }
+        self.keeper.standing(concept, sink)
+    }
+}

@@ -1,0 +1,273 @@
+//! Rows as cells, handed to a sink.
+ghost use Rattle.std.specs.Prelude.{◌≡◌, ◌∷◌, ◌+◌, ◌<◌, ◌^◌, ℕ, [], List, Some, IfOk, IfErr, map};
+ghost use Rattle.thes_base.specs.declared.fault.Fault.{Fault};
+ghost use Rattle.thes_rows.specs.declared.cells.Cell.{Cell};
+ghost use Rattle.thes_rows.specs.declared.cells.Cell.TheVariants.{Text};
+ghost use Rattle.thes_rows.specs.Cells.{number_cell, optional_cell, meta_cells, resource_cells, resource_rows, listed};
+ghost use Rattle.thes_base.specs.declared.fault.Table.TheVariants as table;
+ghost use Rattle.thes_store.specs.Handing.{Hands, handed_of, handed};
+ghost use Rattle.thes_store.specs.Loading.{handed_first, handed_last};
+ghost use Rattle.thes_store.specs.Room.{tables_of};
+
+use crate::sink::RowSink;
+use crate::tables::MemTables;
+use std::alloc::{AllocError, Global};
+use thes_base::data::{Link, Resource};
+use thes_base::fault::{Fault, Table};
+use thes_base::number::ResNo;
+use thes_base::text::Base;
+use thes_rows::cells::{Cell, CellText};
+use thes_rows::numbers::{flag_number, label_number, link_number, resource_number, type_number};
+use thes_rows::rows::{HierRow, LabelRow, MoveRow, OutsideRow, PostingRow};
+
+/// A row that is told by cells.
+pub trait AsCells {
+    ghost cells_of: { Self → List Cell };
+
+    /// Hands the row to a sink, as one of this table.
+    fn hand<S: RowSink>(&self, alloc: Global, name: Table, sink: &mut S) -> Result<(), Fault>
+        ensures hands { Hands S.gives sink.old
+            ((name, Some (cells_of self.now)) ∷ [])
+            result sink.new }
+        ensures err { IfErr result (λ fault. fault ≡ Fault.OutOfMemory) };
+}
+
+// A cell with a number.
+fn int(n: u32) -> Cell
+    ensures { result ≡ number_cell n }
+{
+    Cell::Int(i64::from(n))
+}
+
+// A cell with a resource's number, or null.
+fn optional(n: Option<ResNo>) -> Cell
+    ensures { result ≡ optional_cell n }
+{
+    match n {
+        Some(n) => int(n.get()),
+        None => Cell::Null,
+    }
+}
+
+// A cell with a copy of a text.
+fn text(alloc: Global, text: &str) -> Result<Cell, AllocError>
+    ensures { IfOk result (λ cell. cell ≡ Text text.now) }
+{
+    Ok(Cell::Text(CellText::new(alloc, text)?))
+}
+
+// Hands one row to a sink.
+fn hand_row<S: RowSink>(name: Table, row: &[Cell], sink: &mut S) -> Result<(), Fault>
+    ensures hands { Hands S.gives sink.old ((name, Some row.now) ∷ []) result sink.new }
+    ensures err { IfErr result (λ fault. fault ≡ Fault.OutOfMemory) }
+{
+    sink.row(name, row)
+}
+
+impl AsCells for OutsideRow {
+    ghost use Rattle.thes_rows.specs.Cells.{outside_cells};
+
+    ghost cells_of = { outside_cells };
+
+    fn hand<S: RowSink>(&self, alloc: Global, name: Table, sink: &mut S) -> Result<(), Fault> {
+        let iri = text(alloc, self.iri.as_str())?;
+        hand_row(name, &[int(self.number.get()), iri], sink)
+    }
+}
+
+impl AsCells for LabelRow {
+    ghost use Rattle.thes_rows.specs.Cells.{label_cells};
+
+    ghost cells_of = { label_cells };
+
+    fn hand<S: RowSink>(&self, alloc: Global, name: Table, sink: &mut S) -> Result<(), Fault> {
+        let kind = label_number(self.label.kind());
+        let tag = text(alloc, self.label.tag.as_str())?;
+        let label = text(alloc, self.label.text())?;
+        hand_row(name, &[int(self.owner.get()), int(kind), tag, label], sink)
+    }
+}
+
+impl AsCells for Link {
+    ghost use Rattle.thes_rows.specs.Cells.{link_cells};
+
+    ghost cells_of = { link_cells };
+
+    fn hand<S: RowSink>(&self, _alloc: Global, name: Table, sink: &mut S) -> Result<(), Fault> {
+        let kind = link_number(self.kind);
+        hand_row(
+            name,
+            &[int(kind), int(self.a.get()), int(self.b.get())],
+            sink,
+        )
+    }
+}
+
+impl AsCells for HierRow {
+    ghost use Rattle.thes_rows.specs.Cells.{hier_cells};
+
+    ghost cells_of = { hier_cells };
+
+    fn hand<S: RowSink>(&self, _alloc: Global, name: Table, sink: &mut S) -> Result<(), Fault> {
+        let typ = type_number(self.typ);
+        hand_row(
+            name,
+            &[int(self.a.get()), int(self.b.get()), int(typ)],
+            sink,
+        )
+    }
+}
+
+impl AsCells for PostingRow {
+    ghost use Rattle.thes_rows.specs.Cells.{posting_cells};
+
+    ghost cells_of = { posting_cells };
+
+    fn hand<S: RowSink>(&self, alloc: Global, name: Table, sink: &mut S) -> Result<(), Fault> {
+        let number = int(self.number.get());
+        let key = text(alloc, self.key.as_str())?;
+        let rec = text(alloc, self.rec.as_str())?;
+        let first = int(self.first.get());
+        let place = int(self.place.get());
+        let withdrawn = int(flag_number(self.withdrawn));
+        hand_row(name, &[number, key, rec, first, place, withdrawn], sink)
+    }
+}
+
+impl AsCells for MoveRow {
+    ghost use Rattle.thes_rows.specs.Cells.{move_cells};
+
+    ghost cells_of = { move_cells };
+
+    fn hand<S: RowSink>(&self, _alloc: Global, name: Table, sink: &mut S) -> Result<(), Fault> {
+        let number = int(self.number.get());
+        let posting = int(self.posting.get());
+        let source = int(self.source.get());
+        let target = int(self.target.get());
+        hand_row(name, &[number, posting, source, target], sink)
+    }
+}
+
+/// Hands the rows of a table to a sink, in their order.
+pub fn hand_rows<R: AsCells, S: RowSink>(
+    alloc: Global,
+    name: Table,
+    rows: &[R],
+    sink: &mut S,
+) -> Result<(), Fault>
+    ensures hands { Hands S.gives sink.old
+        (handed_of name (Some (map R.cells_of rows.now)))
+        result sink.new }
+    ensures err { IfErr result (λ fault. fault ≡ Fault.OutOfMemory) }
+{
+    for row in rows {
+        if let Err(fault) = row.hand(alloc, name, sink) {
+            return Err(fault);
+        }
+    }
+    Ok(())
+}
+
+/// Hands the row of meta to a sink.
+pub fn hand_meta<S: RowSink>(alloc: Global, base: &Base, sink: &mut S) -> Result<(), Fault>
+    ensures hands { Hands S.gives sink.old
+        (handed_of table.Meta (Some (meta_cells base.now ∷ [])))
+        result sink.new }
+    ensures err { IfErr result (λ fault. fault ≡ Fault.OutOfMemory) }
+{
+    let base = text(alloc, base.as_str())?;
+    hand_row(Table::Meta, &[int(1), int(2), base], sink)
+}
+
+// The cell of the number whose row stands at this place.
+fn place_cell(i: usize) -> Cell
+    requires { i + 1 < 2 ^ 63 }
+    ensures { result ≡ number_cell (i + 1) }
+{
+    Cell::Int(i as i64 + 1)
+}
+
+// Hands a resource to a sink, with the cell of its number.
+fn hand_resource<S: RowSink>(number: Cell, resource: &Resource, sink: &mut S) -> Result<(), Fault>
+    ensures hands { (n : ℕ) → number ≡ number_cell n
+        → Hands S.gives sink.old
+        ((table.Resource, Some (resource_cells n resource.now)) ∷ [])
+        result sink.new }
+    ensures err { IfErr result (λ fault. fault ≡ Fault.OutOfMemory) }
+{
+    let kind = int(resource_number(resource.kind));
+    let scheme = optional(resource.scheme);
+    let live = int(flag_number(resource.live));
+    let replaced = optional(resource.replaced);
+    hand_row(
+        Table::Resource,
+        &[number, kind, scheme, live, replaced],
+        sink,
+    )
+}
+
+/// Hands the rows of resource to a sink, numbered from 1 on.
+pub fn hand_resources<S: RowSink>(rows: &[Resource], sink: &mut S) -> Result<(), Fault>
+    ensures hands { Hands S.gives sink.old
+        (handed_of table.Resource (Some (resource_rows 1 rows.now)))
+        result sink.new }
+    ensures err { IfErr result (λ fault. fault ≡ Fault.OutOfMemory) }
+{
+    for i in 0..rows.len() {
+        if let Err(fault) = hand_resource(place_cell(i), &rows[i], sink) {
+            return Err(fault);
+        }
+    }
+    Ok(())
+}
+
+// Hands the rows of meta, resource, outside and label to a sink.
+fn hand_first<S: RowSink>(alloc: Global, tables: &MemTables, sink: &mut S) -> Result<(), Fault>
+    ensures hands { Hands S.gives sink.old
+        (handed_first (listed (tables_of tables.now)))
+        result sink.new }
+    ensures err { IfErr result (λ fault. fault ≡ Fault.OutOfMemory) }
+{
+    if let Err(fault) = hand_meta(alloc, &tables.base, sink) {
+        return Err(fault);
+    }
+    if let Err(fault) = hand_resources(tables.resource.as_slice(), sink) {
+        return Err(fault);
+    }
+    if let Err(fault) = hand_rows(alloc, Table::Outside, tables.outside.as_slice(), sink) {
+        return Err(fault);
+    }
+    hand_rows(alloc, Table::Label, tables.label.as_slice(), sink)
+}
+
+// Hands the rows of link, hier, posting and move to a sink.
+fn hand_last<S: RowSink>(alloc: Global, tables: &MemTables, sink: &mut S) -> Result<(), Fault>
+    ensures hands { Hands S.gives sink.old
+        (handed_last (listed (tables_of tables.now)))
+        result sink.new }
+    ensures err { IfErr result (λ fault. fault ≡ Fault.OutOfMemory) }
+{
+    if let Err(fault) = hand_rows(alloc, Table::Link, tables.link.as_slice(), sink) {
+        return Err(fault);
+    }
+    if let Err(fault) = hand_rows(alloc, Table::Hier, tables.hier.as_slice(), sink) {
+        return Err(fault);
+    }
+    if let Err(fault) = hand_rows(alloc, Table::Posting, tables.posting.as_slice(), sink) {
+        return Err(fault);
+    }
+    hand_rows(alloc, Table::Move, tables.steps.as_slice(), sink)
+}
+
+/// Hands the rows of all tables to a sink, table after table.
+pub fn hand_all<S: RowSink>(alloc: Global, tables: &MemTables, sink: &mut S) -> Result<(), Fault>
+    ensures hands { Hands S.gives sink.old
+        (handed (listed (tables_of tables.now)))
+        result sink.new }
+    ensures err { IfErr result (λ fault. fault ≡ Fault.OutOfMemory) }
+{
+    if let Err(fault) = hand_first(alloc, tables, sink) {
+        return Err(fault);
+    }
+    hand_last(alloc, tables, sink)
+}

@@ -1,0 +1,100 @@
+//! Where the rows of a number stand.
+ghost use Rattle.std.specs.Prelude.{◌≡◌, ℕ, true, IfOk, OnOk};
+ghost use Rattle.std.specs.List.Sorted.{IsStrictlySortedBy};
+ghost use Rattle.std.specs.Ordering.{nat_cmp};
+ghost use Rattle.thes_rows.specs.Tables.{IsIn};
+ghost use Rattle.thes_store.specs.Index.{IsAt, IsOpen, KeepsPlaces, ArePlaces};
+
+use std::alloc::{AllocError, Global};
+use std::collections::{BTreeMap, BTreeSet};
+
+/// For each number the places in a list at which rows of this number may stand. A place too many does no harm, since who
+/// looks there sees the row. All numbers of an index are of one sort.
+#[derive(Drop)]
+pub struct Index {
+    alloc: Global,
+    sets: BTreeMap<u32, BTreeSet<usize>>,
+}
+
+impl Index {
+    /// Makes an index without places.
+    pub fn new(alloc: Global) -> Index {
+        Index {
+            alloc,
+            sets: BTreeMap::new(alloc),
+        }
+    }
+
+    /// Adds a place to those of a number.
+    pub fn insert(&mut self, n: u32, place: usize) -> Result<(), AllocError>
+        ensures keeps { KeepsPlaces self.old self.new }
+        ensures ok { OnOk result (IsAt self.new n place) }
+    {
+        if self.insert_in(n, place)? {
+            return Ok(());
+        }
+        self.open(n)?;
+        self.insert_in(n, place)?;
+        Ok(())
+    }
+
+    // Makes an empty set for a number that has none.
+    fn open(&mut self, n: u32) -> Result<(), AllocError>
+        ensures keeps { KeepsPlaces self.old self.new }
+        ensures ok { OnOk result (IsOpen self.new n) }
+    {
+        if !self.sets.contains_key(&n) {
+            self.sets.insert(n, BTreeSet::new(self.alloc))?;
+        }
+        Ok(())
+    }
+
+    // Adds a place to the set of a number, and says whether it has a set.
+    fn insert_in(&mut self, n: u32, place: usize) -> Result<bool, AllocError>
+        ensures keeps { KeepsPlaces self.old self.new }
+        ensures ok { IfOk result (λ has. has ≡ true → IsAt self.new n place) }
+        ensures open { OnOk result (IsOpen self.old n → IsAt self.new n place) }
+    {
+        match self.sets.get_mut(&n) {
+            Some(set) => {
+                set.insert(place)?;
+                Ok(true)
+            }
+            None => Ok(false),
+        }
+    }
+
+    /// Adds places to those of a number.
+    pub fn insert_all(&mut self, n: u32, places: &[usize]) -> Result<(), AllocError>
+        ensures keeps { KeepsPlaces self.old self.new }
+        ensures ok { OnOk result ((place : ℕ) → IsIn place places.now → IsAt self.new n place) }
+    {
+        for place in places {
+            self.insert(n, *place)?;
+        }
+        Ok(())
+    }
+
+    /// Collects the places of a number.
+    pub fn places(&self, n: u32) -> Result<Vec<usize>, AllocError>
+        ensures { IfOk result (λ places. ArePlaces self.now n places.items) }
+    {
+        match self.sets.get(&n) {
+            Some(set) => {
+                let places = listed(self.alloc, set)?;
+                Ok(places)
+            }
+            None => Ok(Vec::new(self.alloc)),
+        }
+    }
+}
+
+// The places of a set.
+fn listed(alloc: Global, set: &BTreeSet<usize>) -> Result<Vec<usize>, AllocError>
+    ensures places { IfOk result (λ places. places.items ≡ set.now.keys) }
+    ensures rises { IsStrictlySortedBy nat_cmp set.now.keys }
+{
+    let mut places = Vec::new(alloc);
+    places.extend(set.iter().copied())?;
+    Ok(places)
+}

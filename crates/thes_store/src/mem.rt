@@ -1,0 +1,218 @@
+//! A keeper in memory.
+ghost use Rattle.std.specs.Prelude.{◌≡◌, ◌++◌, map, slice_get, option_copied, IfOk, IfErr, OnOk};
+ghost use Rattle.thes_base.specs.declared.fault.Fault.{Fault};
+ghost use Rattle.thes_rows.specs.Tables.{no_rows, step_of};
+ghost use Rattle.thes_store.specs.Picked.{is_move_of, passing, picked};
+ghost use Rattle.thes_store.specs.Reading.{is_standing};
+ghost use Rattle.thes_store.specs.Handing.{Hands};
+
+use crate::handing::hand_all;
+use crate::indexes::{Indexes, cover_all};
+use crate::keeper::{Keeper, Posting};
+use crate::sink::{PostingSink, RowSink};
+use crate::tables::MemTables;
+use std::alloc::{AllocError, Global};
+use std::marker::Model;
+use thes_base::data::{Move, Moves};
+use thes_base::fault::Fault;
+use thes_base::number::{PostNo, ResNo};
+use thes_base::text::{Base, Key};
+use thes_rows::change::Change;
+use thes_rows::delta::Delta;
+use thes_rows::rows::{MoveRow, PostingRow};
+
+/// Keeps its tables in memory. It never fails but for want of memory.
+#[derive(Drop)]
+pub struct MemKeeper {
+    alloc: Global,
+    tables: MemTables,
+    indexes: Indexes,
+}
+
+impl Model for MemKeeper {
+    ghost use Rattle.std.specs.Coded.{codes};
+    ghost use Rattle.thes_rows.specs.Tables.{Tables};
+    ghost use Rattle.thes_store.specs.Covers.{Covers};
+    ghost use Rattle.thes_store.specs.Room.{tables_of};
+
+    ghost Value = { Tables };
+
+    ghost coded = { Prim.hlevel codes };
+
+    ghost view = { λ a. tables_of a.tables };
+
+    ghost invariant = { λ a. Covers a.indexes (tables_of a.tables) };
+}
+
+impl MemKeeper {
+    /// Makes a keeper of the tables of a new store.
+    pub fn new(alloc: Global, base: Base) -> MemKeeper
+        ensures { result ≡ no_rows base }
+    {
+        MemKeeper {
+            alloc,
+            tables: MemTables::new(alloc, base),
+            indexes: Indexes::new(alloc),
+        }
+    }
+}
+
+// Copies changes.
+fn copies(alloc: Global, changes: &[Change]) -> Result<Vec<Change>, AllocError>
+    ensures { IfOk result (λ copies. copies.items ≡ changes.now) }
+{
+    let mut copies = Vec::new(alloc);
+    for change in changes {
+        copies.push(change.try_clone(alloc)?)?;
+    }
+    Ok(copies)
+}
+
+// The posting at a place.
+fn posting_at(rows: &[PostingRow], place: usize) -> Option<&PostingRow>
+    ensures { option_copied result ≡ slice_get rows.now place }
+{
+    rows.get(place)
+}
+
+// The move at a place.
+fn move_at(rows: &[MoveRow], place: usize) -> Option<&MoveRow>
+    ensures { option_copied result ≡ slice_get rows.now place }
+{
+    rows.get(place)
+}
+
+// Collects the moves of a posting at some places among all moves.
+fn moves_at(
+    alloc: Global,
+    rows: &[MoveRow],
+    places: &[usize],
+    posting: PostNo,
+) -> Result<Moves, AllocError>
+    ensures { IfOk result (λ moves. moves
+        ≡ map step_of (picked (is_move_of posting) rows.now places.now)) }
+{
+    let mut moves = Moves::new(alloc);
+    for place in places {
+        push_move(&mut moves, move_at(rows, *place), posting)?;
+    }
+    Ok(moves)
+}
+
+// Adds a move, if it is one of the posting.
+fn push_move(moves: &mut Moves, row: Option<&MoveRow>, posting: PostNo) -> Result<(), AllocError>
+    ensures { OnOk result (moves.new
+        ≡ moves.old ++ map step_of (passing (is_move_of posting) (option_copied row.entry))) }
+{
+    match row {
+        Some(row) if row.posting == posting => moves.push(Move {
+            number: row.number,
+            source: row.source,
+            target: row.target,
+        }),
+        _ => Ok(()),
+    }
+}
+
+// Hands a row to a sink, if it is of a posting that stands at the concept.
+fn hand_standing<S: PostingSink>(
+    row: Option<&PostingRow>,
+    concept: ResNo,
+    sink: &mut S,
+) -> Result<(), Fault>
+    ensures hands { Hands S.gives sink.old
+        (passing (is_standing concept) (option_copied row.entry))
+        result sink.new }
+    ensures err { IfErr result (λ fault. fault ≡ Fault.OutOfMemory) }
+{
+    match row {
+        Some(row) if !row.withdrawn && row.place == concept => sink.posting(row),
+        _ => Ok(()),
+    }
+}
+
+// Hands those of the rows at some places to a sink whose postings stand at the concept.
+fn hand_postings<S: PostingSink>(
+    rows: &[PostingRow],
+    places: &[usize],
+    concept: ResNo,
+    sink: &mut S,
+) -> Result<(), Fault>
+    ensures hands { Hands S.gives sink.old
+        (picked (is_standing concept) rows.now places.now)
+        result sink.new }
+    ensures err { IfErr result (λ fault. fault ≡ Fault.OutOfMemory) }
+{
+    for place in places {
+        if let Err(fault) = hand_standing(posting_at(rows, *place), concept, sink) {
+            return Err(fault);
+        }
+    }
+    Ok(())
+}
+
+impl Keeper for MemKeeper {
+    ghost use Rattle.thes_rows.specs.Cells.{listed};
+
+    ghost rows = { λ k. listed k };
+
+    ghost is_up = { λ k. Unit {0} };
+
+    ghost failed = { λ k. 0 };
+
+    fn failures(&self) -> u64 {
+        0
+    }
+
+    fn load<S: RowSink>(&mut self, sink: &mut S) -> Result<(), Fault> {
+        hand_all(self.alloc, &self.tables, sink)
+    }
+
+    fn commit(&mut self, delta: &Delta) -> Result<(), Fault> {
+        let changes = copies(self.alloc, delta.as_slice())?;
+        self.tables.make_room(changes.len())?;
+        let moves = self.tables.steps.len();
+        cover_all(&mut self.indexes, self.alloc, delta.as_slice(), moves)?;
+        self.tables.make_all(changes);
+        Ok(())
+    }
+
+    fn find(&mut self, key: &Key) -> Result<Option<PostingRow>, Fault> {
+        let Some(place) = self.indexes.keys.get(key) else {
+            return Ok(None);
+        };
+        let Some(row) = posting_at(self.tables.posting.as_slice(), *place) else {
+            return Ok(None);
+        };
+        if row.key != *key {
+            return Ok(None);
+        }
+        Ok(Some(row.try_clone(self.alloc)?))
+    }
+
+    fn posting(&mut self, number: PostNo) -> Result<Option<Posting>, Fault> {
+        let place = number.get() as usize - 1;
+        let Some(row) = posting_at(self.tables.posting.as_slice(), place) else {
+            return Ok(None);
+        };
+        let row = row.try_clone(self.alloc)?;
+        let places = self.indexes.moves.places(number.get())?;
+        let moves = moves_at(
+            self.alloc,
+            self.tables.steps.as_slice(),
+            places.as_slice(),
+            number,
+        )?;
+        Ok(Some(Posting { row, moves }))
+    }
+
+    fn standing<S: PostingSink>(&mut self, concept: ResNo, sink: &mut S) -> Result<(), Fault> {
+        let places = self.indexes.standing.places(concept.get())?;
+        hand_postings(
+            self.tables.posting.as_slice(),
+            places.as_slice(),
+            concept,
+            sink,
+        )
+    }
+}
