@@ -78,10 +78,10 @@ pub record IsTrail (sight : Sight) (held : Links) (kind : Relation) (goals : Lis
 abbrev pub LeadsTo : Sight → Links → Relation → (goals : List ℕ) → (start : ℕ) → Type 0
 LeadsTo sight held relation goals start = (y : ℕ) × Contains goals y × Chain (Steps relation (WouldBe sight held)) start y
 
--- so many visits are at most two for each of the links at what the start leads to
+-- so many visits are at most one for each of the links at what the start leads to
 abbrev pub IsPaid : Sight → Links → Relation → (start read : ℕ) → Type 0
 IsPaid sight held relation start read =
-    (ns : List Link) → ((n : ℕ) → Reaches (Steps relation (WouldBe sight held)) start n → CoversAt sight held n ns) → read ≤ 2 * length ns
+    (ns : List Link) → ((n : ℕ) → Reaches (Steps relation (WouldBe sight held)) start n → CoversAt sight held n ns) → read ≤ length ns
 
 -- the walk has found a goal, or goes on
 abbrev pub GoesOn : Sight → Links → Relation → (goals : List ℕ) → (start : ℕ) → Trail → (read : ℕ) → (found : Bool) → Type 0
