@@ -17,7 +17,38 @@ use std::alloc::{AllocError, Global};
 use thes_base::data::Link;
 use thes_base::number::ResNo;
 
-// Advances the second walk where what is left is enough for that, and else the first. Answers whether it found a goal.
+// Advances the first walk, if what is left is not enough for so many links. Answers whether it found a goal.
+fn earn<L: Links>(
+    links: &mut L,
+    relation: Relation,
+    first: &mut Trail,
+    left: &mut usize,
+    size: usize,
+    tos: &Nodes,
+) -> Result<bool, AllocError>
+    requires walked { IsHierarchy relation }
+    requires first { first.old.next < length first.old.nodes }
+    ensures held { L.held links.new ≡ L.held links.old }
+    ensures outside { L.outside links.new ≡ L.outside links.old }
+    ensures rows { L.links_of links.new ≡ L.links_of links.old }
+    ensures kept { OnOk result (first.old.next ≤ first.new.next) }
+    ensures next { OnOk result (left.new < size → first.new.next ≡ first.old.next + 1) }
+    ensures goes { IfOk result (λ found. (froms : List ℕ) (from to before : ℕ) (second : Trail)
+        → AreTowards (L.held links.old) relation froms tos.now from to first.old second left.old before (L.count links.old)
+        → MatchBool found (HasLed (L.held links.old) relation froms tos.now from to before (L.count links.new))
+        (AreTowards (L.held links.old) relation froms tos.now from to first.new second left.new before (L.count links.new))) }
+{
+    if size <= *left {
+        return Ok(false);
+    }
+    let part = first.next_part(links, relation);
+    let found = first.advance_at(links, relation, part, tos)?;
+    *left = left.saturating_add(part.size());
+    Ok(found)
+}
+
+// Advances the second walk where what the first has read is enough for that, after a step of the first if need be. Answers whether
+// one of them found a goal.
 fn take_step<L: Links>(
     links: &mut L,
     relation: Relation,
@@ -33,7 +64,7 @@ fn take_step<L: Links>(
     ensures held { L.held links.new ≡ L.held links.old }
     ensures outside { L.outside links.new ≡ L.outside links.old }
     ensures rows { L.links_of links.new ≡ L.links_of links.old }
-    ensures next { OnOk result (first.new.next + second.new.next ≡ first.old.next + second.old.next + 1) }
+    ensures next { IfOk result (λ found. found ≡ false → first.old.next + second.old.next < first.new.next + second.new.next) }
     ensures goes { IfOk result (λ found. (from to before : ℕ)
         → AreTowards (L.held links.old) relation froms.now tos.now from to first.old second.old left.old before (L.count links.old)
         → MatchBool found (HasLed (L.held links.old) relation froms.now tos.now from to before (L.count links.new))
@@ -42,14 +73,14 @@ fn take_step<L: Links>(
     let back = turn_back(relation);
     let part = second.next_part(links, back);
     let size = part.size();
-    if size <= *left {
-        let found = second.advance_at(links, back, part, froms)?;
-        *left -= size;
-        return Ok(found);
+    if earn(links, relation, first, left, size, tos)? {
+        return Ok(true);
     }
-    let part = first.next_part(links, relation);
-    let found = first.advance_at(links, relation, part, tos)?;
-    *left = left.saturating_add(part.size());
+    if *left < size {
+        return Ok(false);
+    }
+    let found = second.advance_at(links, back, part, froms)?;
+    *left -= size;
     Ok(found)
 }
 
