@@ -4,7 +4,7 @@ use Rattle.std.specs.List.{IsDistinct, AllByRecursion}
 use Rattle.std.proofs.lemmas.List.Sums.{sum_by-cons, sum_by-le}
 use Rattle.thes_base.specs.declared.data.Link.{Link}
 use Rattle.thes_graph.specs.declared.sight.Sight.{Sight}
-use Rattle.thes_graph.specs.Sight.{place, touches}
+use Rattle.thes_graph.specs.Sight.{node_after, touches}
 use Rattle.thes_graph.proofs.ReadLemmas.{one_at}
 
 module _ {X : Type 0} where
@@ -64,9 +64,9 @@ module _ (sight : Sight) (nodes : List ℕ) (distinct : IsDistinct nat_eq nodes)
   link_twice l =
       omega (
         arith,
-        sum_by-plus (one_at (place sight l.a)) (one_at (place sight l.b)) nodes,
-        sum_by-one_at (place sight l.a) nodes distinct,
-        sum_by-one_at (place sight l.b) nodes distinct,
+        sum_by-plus (one_at (node_after sight l.a)) (one_at (node_after sight l.b)) nodes,
+        sum_by-one_at (node_after sight l.a) nodes distinct,
+        sum_by-one_at (node_after sight l.b) nodes distinct,
       )
 
   -- over distinct nodes each link is met at most twice

@@ -8,7 +8,7 @@ use Rattle.thes_base.specs.Links.{Links, HeldIn, S46, IsFirstBroken}
 use Rattle.thes_base.proofs.ListMembers.{Contains-cons_cases}
 use Rattle.thes_graph.specs.declared.sight.Sight.TheVariants.{AsHeld, With, Merged}
 use Rattle.thes_graph.specs.Reading.{HaveTwoEnds, EndsAt}
-use Rattle.thes_graph.specs.Sight.{place, WouldBe, TouchesAt}
+use Rattle.thes_graph.specs.Sight.{node_after, WouldBe, TouchesAt}
 use Rattle.thes_graph.specs.Local.{BreakNone, AwayFrom, IsS46At, NoS46At, IsFirstBrokenAt, CoversNear}
 use Rattle.thes_graph.specs.Whole.{IsSomeS46}
 use Rattle.thes_graph.specs.Judge.{HasNeighbourhood}
@@ -42,7 +42,7 @@ module _ (held : Links) (source target : ℕ) (two : source ≢ target) (legal :
   joined_two : HaveTwoEnds (WouldBe (Merged source target) held)
   joined_two m (l, has, gives) = (becomes-ends source target l m gives).3
 
-  stays : (x y : ℕ) → y ≡ place (Merged source target) x → y ≢ target → y ≡ x
+  stays : (x y : ℕ) → y ≡ node_after (Merged source target) x → y ≢ target → y ≡ x
   stays x y e off = grind arith
 
   joined_away : BreakNone (AwayFrom (WouldBe (Merged source target) held) target)
@@ -58,7 +58,7 @@ module _ (held : Links) (source target : ℕ) (two : source ≢ target) (legal :
   pub IsFirstBroken-joined : (r : Option Refusal) → IsFirstBrokenAt (WouldBe (Merged source target) held) target r → IsFirstBroken (WouldBe (Merged source target) held) r
   IsFirstBroken-joined = IsFirstBroken-from_pivot (WouldBe (Merged source target) held) target joined_away joined_two
 
-  place_back : (x n : ℕ) → place (Merged source target) x ≡ n → (source ≡ x) ⊎ (n ≡ x)
+  place_back : (x n : ℕ) → node_after (Merged source target) x ≡ n → (source ≡ x) ⊎ (n ≡ x)
   place_back x n at = grind arith
 
   pub CoversNear-joined : (ns : List Link) → HasNeighbourhood (Merged source target) held target ns → CoversNear (Merged source target) held target ns

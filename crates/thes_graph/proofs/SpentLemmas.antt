@@ -15,7 +15,7 @@ use Rattle.thes_graph.specs.declared.sight.Sight.{Sight}
 use Rattle.thes_graph.specs.declared.sight.Sight.TheVariants.{AsHeld, With, Merged}
 use Rattle.thes_graph.specs.Net.{ends_at}
 use Rattle.thes_graph.specs.Side.{side_no, side_at, side_in, side_by, if_either}
-use Rattle.thes_graph.specs.Sight.{place, touches}
+use Rattle.thes_graph.specs.Sight.{node_after, touches}
 use Rattle.thes_graph.specs.Trail.{on, weight, spent, IsHierarchy}
 use Rattle.thes_graph.specs.Steps.{turned}
 use Rattle.thes_graph.proofs.ReadLemmas.{one_at, sum_by-two}
@@ -110,10 +110,10 @@ on_foot Narrower walked l = (
 on_foot _ walked l = absurd walked
 
 module _ (source target : ℕ) where
-  target_one : source ≢ target → (x : ℕ) → one_at x target + one_at x source ≤ one_at (place (Merged source target) x) target
+  target_one : source ≢ target → (x : ℕ) → one_at x target + one_at x source ≤ one_at (node_after (Merged source target) x) target
   target_one two x = grind arith
 
-  other_one : (n x : ℕ) → n ≢ source → one_at x n ≤ one_at (place (Merged source target) x) n
+  other_one : (n x : ℕ) → n ≢ source → one_at x n ≤ one_at (node_after (Merged source target) x) n
   other_one n x off = grind arith
 
   -- what a merge weighs, by what the node is
@@ -135,7 +135,7 @@ module _ (source target : ℕ) where
       go : (p q r : ℕ) → (if source == source then 0 else if source == target then p + q else r) ≡ 0
       go p q r = grind arith
 
-  merged_one : (n : ℕ) (side : Side) (l : Link) (p : ℕ) → ((m : ℕ) → on m side l ≤ one_at p m) → weight (Merged source target) n side l ≤ one_at (place (Merged source target) p) n
+  merged_one : (n : ℕ) (side : Side) (l : Link) (p : ℕ) → ((m : ℕ) → on m side l ≤ one_at p m) → weight (Merged source target) n side l ≤ one_at (node_after (Merged source target) p) n
   merged_one n side l p at = elim (same_or_not n source) [
     | inl is ↦ subst IsWithin (sym is) (omega (arith, weight_source side l))
     | inr off ↦ elim (same_or_not n target) [
@@ -145,7 +145,7 @@ module _ (source target : ℕ) where
   ]
     where
       IsWithin : ℕ → Type 0
-      IsWithin m = weight (Merged source target) m side l ≤ one_at (place (Merged source target) p) m
+      IsWithin m = weight (Merged source target) m side l ≤ one_at (node_after (Merged source target) p) m
 
       at_target : target ≢ source → IsWithin target
       at_target off = omega (arith, weight_target off side l, at target, at source, target_one (λ e. off (sym e)) p)
@@ -203,7 +203,7 @@ module _ (sight : Sight) (relation : Relation) (walked : IsHierarchy relation) w
       go : (sight : Sight) → ((p : ℕ) × ((n : ℕ) → on n (side_in relation) l ≤ one_at p n)) → (p : ℕ) × ((n : ℕ) → weight sight n (side_in relation) l ≤ one_at p n)
       go AsHeld (p, at) = (p, at)
       go (With new) (p, at) = (p, at)
-      go (Merged source target) (p, at) = (place (Merged source target) p, λ n. merged_one source target n (side_in relation) l p at)
+      go (Merged source target) (p, at) = (node_after (Merged source target) p, λ n. merged_one source target n (side_in relation) l p at)
 
   -- over distinct nodes
   pub spent_one : (nodes : List ℕ) → IsDistinct nat_eq nodes → (ns : List Link) → spent sight (side_in relation) nodes ns ≤ length ns

@@ -102,7 +102,8 @@ fn take_steps<L: Links>(
     ensures goes { IfOk result (λ found. (from to before : ℕ)
         → AreTowards (L.held links.old) relation froms.now tos.now from to first.old second.old 0 before (L.count links.old)
         → MatchBool found (HasLed (L.held links.old) relation froms.now tos.now from to before (L.count links.new))
-        ((left : ℕ) × AreTowards (L.held links.old) relation froms.now tos.now from to first.new second.new left before (L.count links.new))) }
+        ((left : ℕ) × AreTowards (L.held links.old) relation froms.now tos.now from to first.new second.new left
+        before (L.count links.new))) }
 {
     let mut left = 0;
     'steps: while !first.is_done() && !second.is_done() {

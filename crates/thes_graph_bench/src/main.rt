@@ -3,8 +3,10 @@
 //! `judged` if a link is to be judged.
 #![tactic(auto)]
 
+mod levels;
 mod requests;
 
+use crate::levels::refused;
 use crate::requests::left_after;
 use std::alloc::{AllocError, Global};
 use std::process::ExitCode;
@@ -102,6 +104,11 @@ fn obey<R: Env + Print + Alloc<A = Global>>(rt: &R) -> Result<u8, AllocError> {
     let words: Vec<String> = args.collect(alloc)?;
     if has_word(words.as_slice(), 1, "requests") {
         return print_left(rt, words.as_slice());
+    }
+    if has_word(words.as_slice(), 1, "levels") {
+        let merges = has_word(words.as_slice(), 4, "merges");
+        let _ = refused(alloc, number(words.as_slice(), 2), number(words.as_slice(), 3), merges)?;
+        return Ok(0);
     }
     match broken(alloc, words.as_slice())? {
         None => Ok(0),
