@@ -50,7 +50,7 @@ module _ (sight : Sight) (held : Links) where
         → MatchBool found (HaveMet sight held lows highs low high from count) (AreInTurn sight held lows highs low high later down from count)
     turn_up later before count true goes (a, b, u, d, paid) =
         let on = goes a u in
-        (inl on.0, λ ns covers. omega (arith, paid, on.1 ns (covers_up low high ns covers), IsTrail-paid sight held Narrower highs low (leads_one_way Narrower tt) down b d ns (covers_down low high ns covers)))
+        (inl on.0, λ ns covers. omega (arith, paid, on.1 ns (covers_up low high ns covers), IsTrail-paid sight held Narrower highs low tt down b d ns (covers_down low high ns covers)))
     turn_up later before count false goes (a, b, u, d, paid) = (a + (count - before), b, goes a u, d, omega (arith, paid))
 
     pub turn_down : (later : Trail) (before count : ℕ) (found : Bool)
@@ -59,7 +59,7 @@ module _ (sight : Sight) (held : Links) where
         → MatchBool found (HaveMet sight held lows highs low high from count) (AreInTurn sight held lows highs low high up later from count)
     turn_down later before count true goes (a, b, u, d, paid) =
         let on = goes b d in
-        (inr on.0, λ ns covers. omega (arith, paid, on.1 ns (covers_down low high ns covers), IsTrail-paid sight held Broader lows high (leads_one_way Broader tt) up a u ns (covers_up low high ns covers)))
+        (inr on.0, λ ns covers. omega (arith, paid, on.1 ns (covers_down low high ns covers), IsTrail-paid sight held Broader lows high tt up a u ns (covers_up low high ns covers)))
     turn_down later before count false goes (a, b, u, d, paid) = (a, b + (count - before), u, goes b d, omega (arith, paid))
 
   -- a chain up is one down

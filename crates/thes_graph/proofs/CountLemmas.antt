@@ -1,10 +1,10 @@
--- Nodes that stand once in a list meet a link at most twice.
-use Rattle.std.proofs.Common.{◌≡◌, ◌==◌, ◌+◌, ◌*◌, ◌≤◌, ℕ, List, [], ◌∷◌, length, ap, ◌∙◌, arith, refl, sum_by, true, false, nat_eq, if◌then◌else◌}
+-- Nodes that stand once in a list meet a link at most twice, and on one side at most once.
+use Rattle.std.proofs.Common.{◌≡◌, ◌==◌, ◌+◌, ◌*◌, ◌≤◌, ℕ, List, [], ◌∷◌, length, get_or, ap, ◌∙◌, arith, refl, sum_by, true, false, nat_eq, if◌then◌else◌}
 use Rattle.std.specs.List.{IsDistinct, AllByRecursion}
-use Rattle.std.proofs.lemmas.List.Sums.{sum_by-cons}
+use Rattle.std.proofs.lemmas.List.Sums.{sum_by-cons, sum_by-le}
 use Rattle.thes_base.specs.declared.data.Link.{Link}
 use Rattle.thes_graph.specs.declared.sight.Sight.{Sight}
-use Rattle.thes_graph.specs.Sight.{place, touches}
+use Rattle.thes_graph.specs.Sight.{node_after, touches}
 use Rattle.thes_graph.proofs.ReadLemmas.{one_at}
 
 module _ {X : Type 0} where
@@ -29,7 +29,7 @@ absent p x (y ∷ ys) here apart = ((let h : nat_eq x y ≡ false = apart.0 in g
 at_most_one : (p x s : ℕ) → one_at p x ≤ 1
 at_most_one p x s = grind arith
 
-sum_by-one_at : (p : ℕ) (xs : List ℕ) → IsDistinct nat_eq xs → sum_by (one_at p) xs ≤ 1
+pub sum_by-one_at : (p : ℕ) (xs : List ℕ) → IsDistinct nat_eq xs → sum_by (one_at p) xs ≤ 1
 unfolding IsDistinct
 sum_by-one_at p [] distinct = omega arith
 sum_by-one_at p (x ∷ xs) distinct =
@@ -41,29 +41,34 @@ sum_by-one_at p (x ∷ xs) distinct =
     off_zero : (p == x) ≡ false → one_at p x ≡ 0
     off_zero off = ap (λ b. if b then 1 else 0) off
 
+module _ (nodes : List ℕ) (weight : ℕ → Link → ℕ) where
+  -- what the nodes weigh over all links is what the links weigh over all nodes
+  swapped : (ns : List Link) → sum_by (λ n. sum_by (weight n) ns) nodes ≡ sum_by (λ l. sum_by (λ n. weight n l) nodes) ns
+  swapped [] = sum_by-none nodes
+  swapped (l ∷ ns) = omega (arith, split, swapped ns, sum_by-cons (λ l. sum_by (λ n. weight n l) nodes) l ns)
+    where
+      same : (f g : ℕ → ℕ) → ((n : ℕ) → f n ≡ g n) → (xs : List ℕ) → sum_by f xs ≡ sum_by g xs
+      same f g agree [] = refl
+      same f g agree (x ∷ xs) = omega (arith, agree x, same f g agree xs, sum_by-cons f x xs, sum_by-cons g x xs)
+
+      split : sum_by (λ n. sum_by (weight n) (l ∷ ns)) nodes ≡ sum_by (λ n. weight n l) nodes + sum_by (λ n. sum_by (weight n) ns) nodes
+      split = same (λ n. sum_by (weight n) (l ∷ ns)) (λ n. weight n l + sum_by (weight n) ns) (λ n. sum_by-cons (weight n) l ns) nodes
+          ∙ sum_by-plus (λ n. weight n l) (λ n. sum_by (weight n) ns) nodes
+
+  -- links of which each weighs so much at most
+  pub met_at_most : (most : ℕ) → ((l : Link) → sum_by (λ n. weight n l) nodes ≤ most) → (ns : List Link) → sum_by (λ n. sum_by (weight n) ns) nodes ≤ length ns * most
+  met_at_most most each ns = omega (arith, swapped ns, sum_by-le (λ l. sum_by (λ n. weight n l) nodes) most ns (λ k d lt. each (get_or ns k d)))
+
 module _ (sight : Sight) (nodes : List ℕ) (distinct : IsDistinct nat_eq nodes) where
   link_twice : (l : Link) → sum_by (λ n. touches sight n l) nodes ≤ 2
   link_twice l =
       omega (
         arith,
-        sum_by-plus (one_at (place sight l.a)) (one_at (place sight l.b)) nodes,
-        sum_by-one_at (place sight l.a) nodes distinct,
-        sum_by-one_at (place sight l.b) nodes distinct,
+        sum_by-plus (one_at (node_after sight l.a)) (one_at (node_after sight l.b)) nodes,
+        sum_by-one_at (node_after sight l.a) nodes distinct,
+        sum_by-one_at (node_after sight l.b) nodes distinct,
       )
 
   -- over distinct nodes each link is met at most twice
   pub met_twice : (ns : List Link) → sum_by (λ n. sum_by (touches sight n) ns) nodes ≤ 2 * length ns
-  met_twice [] = omega (arith, sum_by-none nodes)
-  met_twice (l ∷ ns) =
-      omega (arith, met_twice ns, link_twice l, split)
-    where
-      each : (n : ℕ) → sum_by (touches sight n) (l ∷ ns) ≡ touches sight n l + sum_by (touches sight n) ns
-      each n = sum_by-cons (touches sight n) l ns
-
-      same : (f g : ℕ → ℕ) → ((n : ℕ) → f n ≡ g n) → (xs : List ℕ) → sum_by f xs ≡ sum_by g xs
-      same f g agree [] = refl
-      same f g agree (x ∷ xs) = omega (arith, agree x, same f g agree xs, sum_by-cons f x xs, sum_by-cons g x xs)
-
-      split : sum_by (λ n. sum_by (touches sight n) (l ∷ ns)) nodes ≡ sum_by (λ n. touches sight n l) nodes + sum_by (λ n. sum_by (touches sight n) ns) nodes
-      split = same (λ n. sum_by (touches sight n) (l ∷ ns)) (λ n. touches sight n l + sum_by (touches sight n) ns) each nodes
-          ∙ sum_by-plus (λ n. touches sight n l) (λ n. sum_by (touches sight n) ns) nodes
+  met_twice ns = omega (arith, met_at_most nodes (touches sight) 2 link_twice ns)

@@ -18,7 +18,7 @@ use Rattle.thes_graph.specs.Trail.{Finds, weight, spent, IsHierarchy, IsTrail, L
 use Rattle.thes_graph.proofs.PivotLemmas.{Reaches-then_chain, Chain-one}
 use Rattle.thes_graph.proofs.ProbeLemmas.{Path-last}
 use Rattle.thes_graph.proofs.ReachLemmas.{IsClosedBelow-start, IsClosedBelow-more, IsClosedBelow-end}
-use Rattle.thes_graph.proofs.SpentLemmas.{spent_two}
+use Rattle.thes_graph.proofs.SpentLemmas.{spent_one}
 
 pub is_walked : (r : Relation) → IsHierarchy r → IsWalked r
 is_walked Broader h = tt
@@ -42,7 +42,7 @@ module _ (sight : Sight) (held : Links) (relation : Relation) (goals : List ℕ)
     within = omega (arith, next);
   }
 
-  module _ (one_way : side_no (side_in relation) ≢ side_no Beside) where
+  module _ (walked : IsHierarchy relation) where
     -- the nodes so far are paid for
     paid_by : (nodes : List ℕ) (i read : ℕ) → IsDistinct nat_eq nodes → ((y : ℕ) → Contains nodes y → Reaches S start y) → i ≤ length nodes
         → ((ns : List Link) → ((k : ℕ) → k < i → CoversAt sight held (get_or nodes k 0) ns) → read ≤ spent sight (side_in relation) (take i nodes) ns)
@@ -54,7 +54,7 @@ module _ (sight : Sight) (held : Links) (relation : Relation) (goals : List ℕ)
           arith,
           paid,
           sum_by-take-le (λ n. sum_by (weight sight n (side_in relation)) ns) nodes i,
-          spent_two sight (side_in relation) Beside one_way nodes distinct ns,
+          spent_one sight relation walked nodes distinct ns,
         )
 
     pub IsTrail-paid : (trail : Trail) (read : ℕ) → IsTrail sight held relation goals start trail read → IsPaid sight held relation start read

@@ -4,14 +4,15 @@ use Rattle.std.proofs.lemmas.List.Elements.{Contains-append_left, Contains-appen
 use Rattle.thes_base.specs.declared.data.Link.{Link}
 use Rattle.thes_base.specs.declared.data.LinkKind.{LinkKind}
 use Rattle.thes_base.specs.declared.fault.Refusal.{Refusal}
-use Rattle.thes_base.specs.Links.{Links, HeldIn, IsFirstBroken}
+use Rattle.thes_base.specs.Links.{Links, HeldIn, S46, IsFirstBroken}
 use Rattle.thes_base.proofs.ListMembers.{Contains-cons_cases}
 use Rattle.thes_graph.specs.declared.sight.Sight.TheVariants.{AsHeld, With, Merged}
 use Rattle.thes_graph.specs.Reading.{HaveTwoEnds, EndsAt}
-use Rattle.thes_graph.specs.Sight.{place, WouldBe, TouchesAt}
-use Rattle.thes_graph.specs.Local.{BreakNone, AwayFrom, IsFirstBrokenAt, CoversNear}
+use Rattle.thes_graph.specs.Sight.{node_after, WouldBe, TouchesAt}
+use Rattle.thes_graph.specs.Local.{BreakNone, AwayFrom, IsS46At, NoS46At, IsFirstBrokenAt, CoversNear}
+use Rattle.thes_graph.specs.Whole.{IsSomeS46}
 use Rattle.thes_graph.specs.Judge.{HasNeighbourhood}
-use Rattle.thes_graph.proofs.PivotLemmas.{BreakNone-within, IsFirstBroken-from_pivot}
+use Rattle.thes_graph.proofs.PivotLemmas.{BreakNone-within, s46_pivot, S46-witness, IsFirstBroken-from_pivot}
 use Rattle.thes_graph.proofs.WeightLemmas.{cut}
 use Rattle.thes_graph.proofs.SightLemmas.{becomes-ends}
 
@@ -31,14 +32,17 @@ module _ (held : Links) (new : Link) (two : new.a ≢ new.b) (all_two : HaveTwoE
       old l (inl has, _, _) = has
       old l (inr same, not_a, _) = absurd (not_a (sym (ap (λ (w : Link). w.a) same)))
 
-  pub IsFirstBroken-with : (r : Option Refusal) → IsFirstBrokenAt (WouldBe (With new) held) new.a r → IsFirstBroken (WouldBe (With new) held) r
-  IsFirstBroken-with = IsFirstBroken-from_pivot (WouldBe (With new) held) new.a with_away with_two
+  pub S46-with : NoS46At (WouldBe (With new) held) new.a → S46 (WouldBe (With new) held)
+  S46-with = s46_pivot (WouldBe (With new) held) new.a with_away
+
+  pub IsSomeS46-with : IsS46At (WouldBe (With new) held) new.a → IsSomeS46 (WouldBe (With new) held)
+  IsSomeS46-with = S46-witness (WouldBe (With new) held) with_two new.a
 
 module _ (held : Links) (source target : ℕ) (two : source ≢ target) (legal : BreakNone (HeldIn held)) where
   joined_two : HaveTwoEnds (WouldBe (Merged source target) held)
   joined_two m (l, has, gives) = (becomes-ends source target l m gives).3
 
-  stays : (x y : ℕ) → y ≡ place (Merged source target) x → y ≢ target → y ≡ x
+  stays : (x y : ℕ) → y ≡ node_after (Merged source target) x → y ≢ target → y ≡ x
   stays x y e off = grind arith
 
   joined_away : BreakNone (AwayFrom (WouldBe (Merged source target) held) target)
@@ -54,7 +58,7 @@ module _ (held : Links) (source target : ℕ) (two : source ≢ target) (legal :
   pub IsFirstBroken-joined : (r : Option Refusal) → IsFirstBrokenAt (WouldBe (Merged source target) held) target r → IsFirstBroken (WouldBe (Merged source target) held) r
   IsFirstBroken-joined = IsFirstBroken-from_pivot (WouldBe (Merged source target) held) target joined_away joined_two
 
-  place_back : (x n : ℕ) → place (Merged source target) x ≡ n → (source ≡ x) ⊎ (n ≡ x)
+  place_back : (x n : ℕ) → node_after (Merged source target) x ≡ n → (source ≡ x) ⊎ (n ≡ x)
   place_back x n at = grind arith
 
   pub CoversNear-joined : (ns : List Link) → HasNeighbourhood (Merged source target) held target ns → CoversNear (Merged source target) held target ns

@@ -3,12 +3,13 @@ use Rattle.std.proofs.Common.{◌≡◌, ◌≢◌, ◌⊎◌, inl, inr, ℕ, Li
 use Rattle.thes_base.specs.declared.data.Link.{Link}
 use Rattle.thes_base.specs.declared.data.LinkKind.{LinkKind}
 use Rattle.thes_base.specs.declared.data.Direction.{Direction}
-use Rattle.thes_base.specs.declared.data.Direction.TheVariants.{Forward, Never}
+use Rattle.thes_base.specs.declared.data.Direction.TheVariants.{Forward, Backward, Either, Never}
 use Rattle.thes_base.specs.Links.{broader_way, related_way, exact_way, apart_way, Leads, Path, Chain, Joined, IsBroader, IsAbove, IsRelated, NoCycle, S27, S46, IsFirstBroken}
 use Rattle.thes_base.specs.declared.data.LinkKind.TheVariants as kinds
 use Rattle.thes_graph.specs.declared.relation.Relation.TheVariants.{Broader, Narrower, Related}
 use Rattle.thes_graph.specs.Steps.{Steps, Reaches}
-use Rattle.thes_graph.specs.Local.{BreakNone, UpTo, IsNear}
+use Rattle.thes_graph.specs.Local.{BreakNone, UpTo, IsNear, IsFirstOfTwo}
+use Rattle.thes_graph.specs.Whole.{HasEndAbove, HasNoEndAbove}
 use Rattle.thes_graph.specs.Trail.{IsBrokenBetween}
 use Rattle.thes_base.specs.declared.fault.Refusal.{Refusal}
 use Rattle.thes_base.specs.declared.fault.Refusal.TheVariants as no
@@ -65,39 +66,125 @@ module _ (Held : Link → Type 0) (new : Link) where
   pub s46_kept : exact_way new.kind ≡ Never → apart_way new.kind ≡ Never → S46 Held → S46 With
   s46_kept alike apart legal = record { none = λ x y exact off. legal.none x y (chain_kept exact_way alike x y exact) (kept apart_way apart x y off) }
 
-  -- a link up, from its first end to its second
-  module _ (two : new.a ≢ new.b) (up : broader_way new.kind ≡ Forward) where
-    step_cases : (x y : ℕ) → IsBroader With x y → IsBroader Held x y ⊎ ((new.a ≡ x) × (new.b ≡ y))
+  -- a link up, from its low end to its high one
+  module _ (low high : ℕ) (two : low ≢ high) (only : (x y : ℕ) → Leads (broader_way new.kind) new.a new.b x y → (low ≡ x) × (high ≡ y))
+      (there : Leads (broader_way new.kind) new.a new.b low high) where
+    step_cases : (x y : ℕ) → IsBroader With x y → IsBroader Held x y ⊎ ((low ≡ x) × (high ≡ y))
     step_cases x y (l, inl held, leads) = inl (l, held, leads)
     step_cases x y (l, inr same, leads) =
-        let P : Link → Type 0 = λ w. Leads (broader_way w.kind) w.a w.b x y in
-        inr (subst (λ (d : Direction). Leads d new.a new.b x y) up (subst P (sym same) leads))
+        let P : Link → Type 0 = λ w. Leads (broader_way w.kind) w.a w.b x y in inr (only x y (subst P (sym same) leads))
 
-    new_step : IsBroader With new.a new.b
-    new_step = (new, inr refl, subst (λ (d : Direction). Leads d new.a new.b new.a new.b) (sym up) (refl, refl))
+    new_step : IsBroader With low high
+    new_step = (new, inr refl, there)
 
-    split : (x y : ℕ) → IsAbove With x y → IsAbove Held x y ⊎ (UpTo Held x new.a × UpTo Held new.b y)
-    split = chain_split (IsBroader Held) (IsBroader With) new.a new.b step_cases
+    split : (x y : ℕ) → IsAbove With x y → IsAbove Held x y ⊎ (UpTo Held x low × UpTo Held high y)
+    split = chain_split (IsBroader Held) (IsBroader With) low high step_cases
 
-    round : (x : ℕ) → UpTo Held x new.a → UpTo Held new.b x → IsAbove Held new.b new.a
+    round : (x : ℕ) → UpTo Held x low → UpTo Held high x → IsAbove Held high low
     round x (inl same) (inl also) = absurd (two (sym (also ∙ same)))
-    round x (inl same) (inr from) = subst (λ (w : ℕ). IsAbove Held new.b w) same from
-    round x (inr to) from = Reaches-then_chain (IsBroader Held) new.b x new.a from to
+    round x (inl same) (inr from) = subst (λ (w : ℕ). IsAbove Held high w) same from
+    round x (inr to) from = Reaches-then_chain (IsBroader Held) high x low from to
 
-    pub cycle_closed : IsAbove Held new.b new.a → IsAbove With new.a new.a
+    cycle_closed : IsAbove Held high low → IsAbove With low low
     cycle_closed above =
-        Chain-join (IsBroader With) new.a new.b new.a (Chain-one (IsBroader With) new.a new.b new_step)
-        (Chain-map (IsBroader Held) (IsBroader With) (more broader_way) new.b new.a above)
+        Chain-join (IsBroader With) low high low (Chain-one (IsBroader With) low high new_step)
+        (Chain-map (IsBroader Held) (IsBroader With) (more broader_way) high low above)
 
-    pub no_cycle_up : (IsAbove Held new.b new.a → ⊥) → NoCycle Held → NoCycle With
+    pub no_cycle_up : (IsAbove Held high low → ⊥) → NoCycle Held → NoCycle With
     no_cycle_up off legal = record { none = λ x above. elim (split x x above) [ inl old ↦ legal.none x old | inr (to, from) ↦ off (round x to from) ] }
 
-    pub s27_up : related_way new.kind ≡ Never → ((x y : ℕ) → UpTo Held x new.a → UpTo Held new.b y → IsRelated Held x y → ⊥) → S27 Held → S27 With
+    pub s27_up : related_way new.kind ≡ Never → ((x y : ℕ) → UpTo Held x low → UpTo Held high y → IsRelated Held x y → ⊥) → S27 Held → S27 With
     s27_up beside off legal = record {
       none = λ x y related above.
           let old = kept related_way beside x y related in
           elim (split x y above) [ inl chain ↦ legal.none x y old chain | inr (to, from) ↦ off x y to from old ];
     }
+
+    up_with : (x y : ℕ) → UpTo Held x y → UpTo With x y
+    up_with = Reaches-map (IsBroader Held) (IsBroader With) (more broader_way)
+
+    -- the link leads from what is low or below to what is high or above
+    over : (x y : ℕ) → UpTo Held x low → UpTo Held high y → IsAbove With x y
+    over x y to from =
+        Chain-then_reach (IsBroader With) x high y
+        (Reaches-then_chain (IsBroader With) x low high (up_with x low to) (Chain-one (IsBroader With) low high new_step))
+        (up_with high y from)
+
+    -- what is broken between its ends is what the link breaks
+    pub IsFirstOfTwo-between : related_way new.kind ≡ Never → NoCycle Held → S27 Held → (r : Option Refusal) → IsBrokenBetween Held low high r → IsFirstOfTwo With r
+    IsFirstOfTwo-between beside cycle s27 None (off, pair) = (no_cycle_up off cycle, s27_up beside pair s27)
+    IsFirstOfTwo-between beside cycle s27 (Some no.Cycle) above = (low, cycle_closed above)
+    IsFirstOfTwo-between beside cycle s27 (Some no.S27) (off, found) =
+        (no_cycle_up off cycle, (found.0, found.1, more related_way found.0 found.1 found.4, over found.0 found.1 found.2 found.3))
+    IsFirstOfTwo-between beside cycle s27 (Some _) h = absurd h
+
+    -- what lies low or below, and high or above, is near each of its ends
+    pub near_low : (n : ℕ) → UpTo Held n low ⊎ UpTo Held high n → IsNear With low n
+    near_low n (inl (inl same)) = inl (inl (sym same))
+    near_low n (inl (inr chain)) = inr (inl (Chain-map (IsBroader Held) (IsBroader With) (more broader_way) n low chain))
+    near_low n (inr from) = inl (inr (over low n (inl refl) from))
+
+    pub near_high : (n : ℕ) → UpTo Held n low ⊎ UpTo Held high n → IsNear With high n
+    near_high n (inl to) = inr (inl (over n high to (inl refl)))
+    near_high n (inr (inl same)) = inl (inl same)
+    near_high n (inr (inr chain)) = inl (inr (Chain-map (IsBroader Held) (IsBroader With) (more broader_way) high n chain))
+
+  -- a link that leads neither up nor down: what lies above or below a node is what did
+  module _ (level : broader_way new.kind ≡ Never) where
+    pub near_level : (p n : ℕ) → UpTo Held n p ⊎ UpTo Held p n → IsNear With p n
+    near_level p n (inl (inl same)) = inl (inl (sym same))
+    near_level p n (inl (inr chain)) = inr (inl (Chain-map (IsBroader Held) (IsBroader With) (more broader_way) n p chain))
+    near_level p n (inr (inl same)) = inl (inl same)
+    near_level p n (inr (inr chain)) = inl (inr (Chain-map (IsBroader Held) (IsBroader With) (more broader_way) p n chain))
+
+    pub IsFirstOfTwo-kept : related_way new.kind ≡ Never → NoCycle Held → S27 Held → IsFirstOfTwo With None
+    IsFirstOfTwo-kept beside cycle s27 = (no_cycle_kept level cycle, s27_kept level beside s27)
+
+    -- a related link breaks S27 just where one of its ends is above the other
+    module _ (two : new.a ≢ new.b) (beside : related_way new.kind ≡ Either) (cycle : NoCycle Held) where
+      pub IsFirstOfTwo-above : HasEndAbove Held new → IsFirstOfTwo With (Some no.S27)
+      IsFirstOfTwo-above (inl (inl same)) = absurd (two same)
+      IsFirstOfTwo-above (inr (inl same)) = absurd (two (sym same))
+      IsFirstOfTwo-above (inl (inr chain)) = (no_cycle_kept level cycle, (new.a, new.b, (new, inr refl, subst (λ (d : Direction). Leads d new.a new.b new.a new.b) (sym beside) (inl (refl, refl))), Chain-map (IsBroader Held) (IsBroader With) (more broader_way) new.a new.b chain))
+      IsFirstOfTwo-above (inr (inr chain)) = (no_cycle_kept level cycle, (new.b, new.a, (new, inr refl, subst (λ (d : Direction). Leads d new.a new.b new.b new.a) (sym beside) (inr (refl, refl))), Chain-map (IsBroader Held) (IsBroader With) (more broader_way) new.b new.a chain))
+
+      pub IsFirstOfTwo-apart : S27 Held → HasNoEndAbove Held new → IsFirstOfTwo With None
+      IsFirstOfTwo-apart s27 (not_up, not_down) = (no_cycle_kept level cycle, record { none = λ x y related above. pair x y related (chain_kept broader_way level x y above) })
+        where
+          pair : (x y : ℕ) → IsRelated With x y → IsAbove Held x y → ⊥
+          pair x y (l, inl held, leads) above = s27.none x y (l, held, leads) above
+          pair x y (l, inr same, leads) above =
+              let P : Link → Type 0 = λ w. Leads (related_way w.kind) w.a w.b x y in
+              go (subst (λ (d : Direction). Leads d new.a new.b x y) beside (subst P (sym same) leads))
+            where
+              go : ((new.a ≡ x) × (new.b ≡ y)) ⊎ ((new.b ≡ x) × (new.a ≡ y)) → ⊥
+              go (inl (a, b)) = not_up (inr (subst (λ (w : ℕ). IsAbove Held new.a w) (sym b) (subst (λ (w : ℕ). IsAbove Held w y) (sym a) above)))
+              go (inr (b, a)) = not_down (inr (subst (λ (w : ℕ). IsAbove Held new.b w) (sym a) (subst (λ (w : ℕ). IsAbove Held w y) (sym b) above)))
+
+-- a kind that leads up from its first end, or from its second
+module _ (new : Link) where
+  pub only_up : broader_way new.kind ≡ Forward → (x y : ℕ) → Leads (broader_way new.kind) new.a new.b x y → (new.a ≡ x) × (new.b ≡ y)
+  only_up up x y leads = subst (λ (d : Direction). Leads d new.a new.b x y) up leads
+
+  pub there_up : broader_way new.kind ≡ Forward → Leads (broader_way new.kind) new.a new.b new.a new.b
+  there_up up = subst (λ (d : Direction). Leads d new.a new.b new.a new.b) (sym up) (refl, refl)
+
+  pub only_down : broader_way new.kind ≡ Backward → (x y : ℕ) → Leads (broader_way new.kind) new.a new.b x y → (new.b ≡ x) × (new.a ≡ y)
+  only_down down x y leads = subst (λ (d : Direction). Leads d new.a new.b x y) down leads
+
+  pub there_down : broader_way new.kind ≡ Backward → Leads (broader_way new.kind) new.a new.b new.b new.a
+  there_down down = subst (λ (d : Direction). Leads d new.a new.b new.b new.a) (sym down) (refl, refl)
+
+-- what leads up or down relates nothing
+pub beside_of_up : (k : LinkKind) → broader_way k ≡ Forward → related_way k ≡ Never
+beside_of_up kinds.Related up = cc
+beside_of_up kinds.RelMatch up = cc
+beside_of_up _ up = refl
+
+pub beside_of_down : (k : LinkKind) → broader_way k ≡ Backward → related_way k ≡ Never
+beside_of_down kinds.Related down = cc
+beside_of_down kinds.RelMatch down = cc
+beside_of_down _ down = refl
 
 module _ (Held : Link → Type 0) (low high : ℕ) where
   -- nothing leads up from the lower node, or down from the higher one
@@ -113,8 +200,11 @@ module _ (Held : Link → Type 0) (low high : ℕ) where
 module _ (Held : Link → Type 0) (new : Link) (two : new.a ≢ new.b) (legal : BreakNone Held)
     (up : broader_way new.kind ≡ Forward) (beside : related_way new.kind ≡ Never) (alike : exact_way new.kind ≡ Never) (apart : apart_way new.kind ≡ Never) where
   unbroken : (IsAbove Held new.b new.a → ⊥) → ((x y : ℕ) → UpTo Held x new.a → UpTo Held new.b y → IsRelated Held x y → ⊥) → BreakNone (With Held new)
-  unbroken no_chain no_pair =
-      (no_cycle_up Held new two up no_chain legal.0, s27_up Held new two up beside no_pair legal.1, s46_kept Held new alike apart legal.2)
+  unbroken no_chain no_pair = (
+    no_cycle_up Held new new.a new.b two (only_up new up) (there_up new up) no_chain legal.0,
+    s27_up Held new new.a new.b two (only_up new up) (there_up new up) beside no_pair legal.1,
+    s46_kept Held new alike apart legal.2,
+  )
 
   pub unbroken_lowest : ((y : ℕ) → Steps Narrower Held new.a y → ⊥) → ((y : ℕ) → Steps Related Held new.a y → ⊥) → BreakNone (With Held new)
   unbroken_lowest down related = unbroken (no_chain_to Held new.b new.a down) pair
@@ -130,50 +220,12 @@ module _ (Held : Link → Type 0) (new : Link) (two : new.a ≢ new.b) (legal : 
       pair x y to (inl same) one = related x (related_turns Held x new.b (subst (λ (w : ℕ). IsRelated Held x w) (sym same) one))
       pair x y to (inr chain) one = no_chain_from Held new.b y up_on chain
 
--- what is broken between its ends is what the link breaks
-module _ (Held : Link → Type 0) (new : Link) (two : new.a ≢ new.b) (legal : BreakNone Held)
-    (up : broader_way new.kind ≡ Forward) (beside : related_way new.kind ≡ Never) (alike : exact_way new.kind ≡ Never) (apart : apart_way new.kind ≡ Never) where
-  up_with : (x y : ℕ) → UpTo Held x y → UpTo (With Held new) x y
-  up_with = Reaches-map (IsBroader Held) (IsBroader (With Held new)) (more Held new broader_way)
-
-  -- the link leads from what is low or below to what is high or above
-  pub over : (x y : ℕ) → UpTo Held x new.a → UpTo Held new.b y → IsAbove (With Held new) x y
-  over x y to from =
-      Chain-then_reach (IsBroader (With Held new)) x new.b y
-      (Reaches-then_chain (IsBroader (With Held new)) x new.a new.b (up_with x new.a to) (Chain-one (IsBroader (With Held new)) new.a new.b (new_step Held new two up)))
-      (up_with new.b y from)
-
-  pub IsFirstBroken-between : (r : Option Refusal) → IsBrokenBetween Held new.a new.b r → IsFirstBroken (With Held new) r
-  IsFirstBroken-between None (off, pair) = unbroken Held new two legal up beside alike apart off pair
-  IsFirstBroken-between (Some no.Cycle) above = (new.a, cycle_closed Held new two up above)
-  IsFirstBroken-between (Some no.S27) (off, found) =
-      (no_cycle_up Held new two up off legal.0, (found.0, found.1, more Held new related_way found.0 found.1 found.4, over found.0 found.1 found.2 found.3))
-  IsFirstBroken-between (Some _) h = absurd h
-
-  -- what lies low or below, and high or above, is near the link's first end
-  pub near_between : (n : ℕ) → UpTo Held n new.a ⊎ UpTo Held new.b n → IsNear (With Held new) new.a n
-  near_between n (inl (inl same)) = inl (inl (sym same))
-  near_between n (inl (inr chain)) = inr (inl (Chain-map (IsBroader Held) (IsBroader (With Held new)) (more Held new broader_way) n new.a chain))
-  near_between n (inr from) = inl (inr (over new.a n (inl refl) from))
-
--- a related link between two of which neither is above the other
-pub unbroken_related : (Held : Link → Type 0) (new : Link) → BreakNone Held → new.kind ≡ kinds.Related → (IsAbove Held new.a new.b → ⊥) → (IsAbove Held new.b new.a → ⊥) → BreakNone (With Held new)
-unbroken_related Held new legal is off_up off_down = (
-  no_cycle_kept Held new (ap broader_way is) legal.0,
-  record { none = λ x y related above. pair x y related (chain_kept Held new broader_way (ap broader_way is) x y above) },
-  s46_kept Held new (ap exact_way is) (ap apart_way is) legal.2,
-)
-  where
-    pair : (x y : ℕ) → IsRelated (With Held new) x y → IsAbove Held x y → ⊥
-    pair x y (l, inl held, leads) above = legal.1.none x y (l, held, leads) above
-    pair x y (l, inr same, leads) above =
-        let P : Link → Type 0 = λ w. Leads (related_way w.kind) w.a w.b x y in
-        go (subst (λ (k : LinkKind). Leads (related_way k) new.a new.b x y) is (subst P (sym same) leads))
-      where
-        go : ((new.a ≡ x) × (new.b ≡ y)) ⊎ ((new.b ≡ x) × (new.a ≡ y)) → ⊥
-        go (inl (a, b)) = off_up (subst (λ (w : ℕ). IsAbove Held new.a w) (sym b) (subst (λ (w : ℕ). IsAbove Held w y) (sym a) above))
-        go (inr (b, a)) = off_down (subst (λ (w : ℕ). IsAbove Held new.b w) (sym a) (subst (λ (w : ℕ). IsAbove Held w y) (sym b) above))
-
 -- a kind that entails nothing
 pub unbroken_loose : (Held : Link → Type 0) (new : Link) → BreakNone Held → broader_way new.kind ≡ Never → related_way new.kind ≡ Never → exact_way new.kind ≡ Never → apart_way new.kind ≡ Never → BreakNone (With Held new)
 unbroken_loose Held new legal up beside alike apart = (no_cycle_kept Held new up legal.0, s27_kept Held new up beside legal.1, s46_kept Held new alike apart legal.2)
+
+-- the first of the two is the first of all three
+pub IsFirstBroken-two : (Held : Link → Type 0) (r : Refusal) → IsFirstOfTwo Held (Some r) → IsFirstBroken Held (Some r)
+IsFirstBroken-two Held no.Cycle above = above
+IsFirstBroken-two Held no.S27 found = found
+IsFirstBroken-two Held _ h = absurd h

@@ -31,3 +31,4 @@ mod SpentLemmas
 mod GoesLemmas
 mod MergedLemmas
 mod BetweenLemmas
+mod TowardsLemmas

@@ -11,7 +11,7 @@ use Rattle.thes_graph.specs.Side.{IsWalked}
 use Rattle.thes_graph.specs.Sight.{WouldBe, CoversAt}
 use Rattle.thes_graph.specs.Steps.{Steps}
 use Rattle.thes_graph.specs.Trail.{LeadsFrom, Stands, on, weight}
-use Rattle.thes_graph.proofs.ReadLemmas.{either_end, sum_by-two, place-source, place-stays, place-at, place-target, place-never_source}
+use Rattle.thes_graph.proofs.ReadLemmas.{either_end, sum_by-two, node_after-source, node_after-stays, node_after-at, node_after-target, node_after-never_source}
 use Rattle.thes_graph.proofs.SpentLemmas.{weight_target, weight_other}
 use Rattle.thes_graph.proofs.TrailLemmas.{Steps-merged}
 
@@ -26,28 +26,28 @@ module _ (held : Links) (source target : ℕ) (two : source ≢ target) where
     Steps-target y steps =
         let back = Steps-merged held relation walked two_ends source target target y steps in
         let P : ℕ → Type 0 = λ at. LeadsFrom (Merged source target) held relation at target y in
-        elim (place-target source target two back.0 back.1) [ inl at ↦ inl (subst P at back.2) | inr at ↦ inr (subst P at back.2) ]
+        elim (node_after-target source target two back.0 back.1) [ inl at ↦ inl (subst P at back.2) | inr at ↦ inr (subst P at back.2) ]
 
     pub Steps-other : (x y : ℕ) → x ≢ target → Steps relation (WouldBe (Merged source target) held) x y → LeadsFrom (Merged source target) held relation x x y
     Steps-other x y away steps =
         let back = Steps-merged held relation walked two_ends source target x y steps in
         let P : ℕ → Type 0 = λ at. LeadsFrom (Merged source target) held relation at x y in
-        subst P (place-at source target two x back.0 away back.1) back.2
+        subst P (node_after-at source target two x back.0 away back.1) back.2
 
     pub Steps-source : (y : ℕ) → Steps relation (WouldBe (Merged source target) held) source y → ⊥
     Steps-source y steps =
         let back = Steps-merged held relation walked two_ends source target source y steps in
-        place-never_source source target two back.0 back.1
+        node_after-never_source source target two back.0 back.1
 
   module _ (side : Side) (ns : List Link) where
     pub Stands-target : CoversAt (Merged source target) held target ns → Stands held target side ns × Stands held source side ns
     Stands-target covers = (
-      λ l has ends _. covers l has (either_end (Merged source target) target target l (λ x. place-stays source target two target x off) ends),
-      λ l has ends _. covers l has (either_end (Merged source target) target source l (place-source source target two) ends),
+      λ l has ends _. covers l has (either_end (Merged source target) target target l (λ x. node_after-stays source target two target x off) ends),
+      λ l has ends _. covers l has (either_end (Merged source target) target source l (node_after-source source target two) ends),
     )
 
     pub Stands-other : (x : ℕ) → x ≢ source → CoversAt (Merged source target) held x ns → Stands held x side ns
-    Stands-other x away covers l has ends _ = covers l has (either_end (Merged source target) x x l (λ z. place-stays source target two x z away) ends)
+    Stands-other x away covers l has ends _ = covers l has (either_end (Merged source target) x x l (λ z. node_after-stays source target two x z away) ends)
 
     pub target_cost : sum_by (on target side) ns + sum_by (on source side) ns ≤ sum_by (weight (Merged source target) target side) ns
     target_cost =

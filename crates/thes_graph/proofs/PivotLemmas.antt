@@ -218,7 +218,7 @@ module _ (Held : Link → Type 0) (p : ℕ) (legal : BreakNone (AwayFrom Held p)
   s27_pivot : NoS27At Held p → S27 Held
   s27_pivot none = record { none = s27_from none }
 
-  s46_pivot : NoS46At Held p → S46 Held
+  pub s46_pivot : NoS46At Held p → S46 Held
   s46_pivot none = record { none = s46_from none }
 
   -- the theorem: what the links break at the pivot is what they break anywhere

@@ -9,7 +9,7 @@ use Rattle.thes_base.proofs.ListMembers.{Contains-none}
 use Rattle.thes_graph.specs.declared.sight.Sight.{Sight}
 use Rattle.thes_graph.specs.declared.sight.Sight.TheVariants.{AsHeld, Merged}
 use Rattle.thes_graph.specs.Reading.{EndsAt, IsRow}
-use Rattle.thes_graph.specs.Sight.{place, TouchesAt, touches, IsReadOf, CoversAt}
+use Rattle.thes_graph.specs.Sight.{node_after, TouchesAt, touches, IsReadOf, CoversAt}
 use Rattle.thes_graph.proofs.WeightLemmas.{length-apart}
 
 -- one where the numbers are equal
@@ -20,15 +20,15 @@ pub one_at_same : (x n : ℕ) → x ≡ n → one_at x n ≡ 1
 one_at_same x n same = ap (λ b. if b then 1 else 0) ((Decides-eqb x n).1 same)
 
 touches_one : (sight : Sight) (n : ℕ) (l : Link) → TouchesAt sight n l → 1 ≤ touches sight n l
-touches_one sight n l (inl a) = omega (arith, one_at_same (place sight l.a) n a)
-touches_one sight n l (inr b) = omega (arith, one_at_same (place sight l.b) n b)
+touches_one sight n l (inl a) = omega (arith, one_at_same (node_after sight l.a) n a)
+touches_one sight n l (inr b) = omega (arith, one_at_same (node_after sight l.b) n b)
 
-pub either_end : (sight : Sight) (n m : ℕ) (l : Link) → ((x : ℕ) → x ≡ m → place sight x ≡ n) → EndsAt m l → TouchesAt sight n l
+pub either_end : (sight : Sight) (n m : ℕ) (l : Link) → ((x : ℕ) → x ≡ m → node_after sight x ≡ n) → EndsAt m l → TouchesAt sight n l
 either_end sight n m l moves (inl a) = inl (moves l.a a)
 either_end sight n m l moves (inr b) = inr (moves l.b b)
 
 module _ (sight : Sight) (held : Links) (node : ℕ) (row : List Link) (is : IsRow held node row) where
-  pub IsReadOf-plain : ((x : ℕ) → place sight x ≡ node → x ≡ node) → IsReadOf sight held node row
+  pub IsReadOf-plain : ((x : ℕ) → node_after sight x ≡ node → x ≡ node) → IsReadOf sight held node row
   IsReadOf-plain plain = record {
     sound = λ l has. (is.sound l has).0;
     complete = λ l has at. is.complete l has (ends l at);
@@ -38,7 +38,7 @@ module _ (sight : Sight) (held : Links) (node : ℕ) (row : List Link) (is : IsR
       ends l (inl a) = inl (plain l.a a)
       ends l (inr b) = inr (plain l.b b)
 
-  pub read_few : ((x : ℕ) → x ≡ node → place sight x ≡ node) → (ns : List Link) → CoversAt sight held node ns → length row ≤ sum_by (touches sight node) ns
+  pub read_few : ((x : ℕ) → x ≡ node → node_after sight x ≡ node) → (ns : List Link) → CoversAt sight held node ns → length row ≤ sum_by (touches sight node) ns
   read_few moves ns covers =
       length-apart (touches sight node) row ns is.once
       (λ l has. let both = is.sound l has in covers l both.0 (either_end sight node node l moves both.1))
@@ -51,26 +51,26 @@ sum_by-two f g h each (x ∷ xs) =
     omega (arith, each x, sum_by-two f g h each xs, sum_by-cons f x xs, sum_by-cons g x xs, sum_by-cons h x xs)
 
 module _ (source target : ℕ) (two : source ≢ target) where
-  pub place-source : (x : ℕ) → x ≡ source → place (Merged source target) x ≡ target
-  place-source x same = ap (λ b. if b then target else x) ((Decides-eqb x source).1 same)
+  pub node_after-source : (x : ℕ) → x ≡ source → node_after (Merged source target) x ≡ target
+  node_after-source x same = ap (λ b. if b then target else x) ((Decides-eqb x source).1 same)
 
-  place-other : (x : ℕ) → x ≢ source → place (Merged source target) x ≡ x
-  place-other x other = grind arith
+  node_after-other : (x : ℕ) → x ≢ source → node_after (Merged source target) x ≡ x
+  node_after-other x other = grind arith
 
-  place-cases : (x : ℕ) → ((x ≡ source) × (place (Merged source target) x ≡ target)) ⊎ ((x ≢ source) × (place (Merged source target) x ≡ x))
-  place-cases x = grind arith
+  node_after-cases : (x : ℕ) → ((x ≡ source) × (node_after (Merged source target) x ≡ target)) ⊎ ((x ≢ source) × (node_after (Merged source target) x ≡ x))
+  node_after-cases x = grind arith
 
-  pub place-at : (node x : ℕ) → node ≢ target → place (Merged source target) x ≡ node → x ≡ node
-  place-at node x off at = grind arith
+  pub node_after-at : (node x : ℕ) → node ≢ target → node_after (Merged source target) x ≡ node → x ≡ node
+  node_after-at node x off at = grind arith
 
-  pub place-stays : (node x : ℕ) → node ≢ source → x ≡ node → place (Merged source target) x ≡ node
-  place-stays node x off at = grind arith
+  pub node_after-stays : (node x : ℕ) → node ≢ source → x ≡ node → node_after (Merged source target) x ≡ node
+  node_after-stays node x off at = grind arith
 
-  pub place-target : (x : ℕ) → place (Merged source target) x ≡ target → (x ≡ target) ⊎ (x ≡ source)
-  place-target x at = elim (place-cases x) [ inl (s, _) ↦ inr s | inr (_, e) ↦ inl (sym e ∙ at) ]
+  pub node_after-target : (x : ℕ) → node_after (Merged source target) x ≡ target → (x ≡ target) ⊎ (x ≡ source)
+  node_after-target x at = elim (node_after-cases x) [ inl (s, _) ↦ inr s | inr (_, e) ↦ inl (sym e ∙ at) ]
 
-  pub place-never_source : (x : ℕ) → place (Merged source target) x ≡ source → ⊥
-  place-never_source x at = grind arith
+  pub node_after-never_source : (x : ℕ) → node_after (Merged source target) x ≡ source → ⊥
+  node_after-never_source x at = grind arith
 
   pub IsReadOf-source : (held : Links) → IsReadOf (Merged source target) held source []
   IsReadOf-source held = record {
@@ -79,8 +79,8 @@ module _ (source target : ℕ) (two : source ≢ target) where
   }
     where
       never : (l : Link) → TouchesAt (Merged source target) source l → ⊥
-      never l (inl a) = place-never_source l.a a
-      never l (inr b) = place-never_source l.b b
+      never l (inl a) = node_after-never_source l.a a
+      never l (inr b) = node_after-never_source l.b b
 
   module _ (held : Links) (row more : List Link) (at_target : IsRow held target row) (at_source : IsRow held source more) where
     pub IsReadOf-target : IsReadOf (Merged source target) held target (row ++ more)
@@ -94,23 +94,23 @@ module _ (source target : ℕ) (two : source ≢ target) where
         by_end l has (inr s) = Contains-append_right row more l (at_source.complete l has s)
 
         complete : (l : Link) → HeldIn held l → TouchesAt (Merged source target) target l → Contains (row ++ more) l
-        complete l has (inl a) = by_end l has (elim (place-target l.a a) [ inl t ↦ inl (inl t) | inr s ↦ inr (inl s) ])
-        complete l has (inr b) = by_end l has (elim (place-target l.b b) [ inl t ↦ inl (inr t) | inr s ↦ inr (inr s) ])
+        complete l has (inl a) = by_end l has (elim (node_after-target l.a a) [ inl t ↦ inl (inl t) | inr s ↦ inr (inl s) ])
+        complete l has (inr b) = by_end l has (elim (node_after-target l.b b) [ inl t ↦ inl (inr t) | inr s ↦ inr (inr s) ])
 
     pub length-target : (ns : List Link) → CoversAt (Merged source target) held target ns → length row + length more ≤ sum_by (touches (Merged source target) target) ns
     length-target ns covers =
         let at : ℕ → Link → ℕ = λ n l. one_at l.a n + one_at l.b n in
         let first : length row ≤ sum_by (at target) ns =
         length-apart (at target) row ns at_target.once
-        (λ l has. let both = at_target.sound l has in covers l both.0 (either_end (Merged source target) target target l (λ x same. place-stays target x (λ e. two (sym e)) same) both.1))
+        (λ l has. let both = at_target.sound l has in covers l both.0 (either_end (Merged source target) target target l (λ x same. node_after-stays target x (λ e. two (sym e)) same) both.1))
         (λ l has. touches_one AsHeld target l (at_target.sound l has).1) in
         let second : length more ≤ sum_by (at source) ns =
         length-apart (at source) more ns at_source.once
-        (λ l has. let both = at_source.sound l has in covers l both.0 (either_end (Merged source target) target source l place-source both.1))
+        (λ l has. let both = at_source.sound l has in covers l both.0 (either_end (Merged source target) target source l node_after-source both.1))
         (λ l has. touches_one AsHeld source l (at_source.sound l has).1) in
         let both : sum_by (at target) ns + sum_by (at source) ns ≤ sum_by (touches (Merged source target) target) ns =
         sum_by-two (at target) (at source) (touches (Merged source target) target) (λ l. omega (arith, one l.a, one l.b)) ns in
         omega arith
       where
-        one : (x : ℕ) → one_at x target + one_at x source ≤ one_at (place (Merged source target) x) target
+        one : (x : ℕ) → one_at x target + one_at x source ≤ one_at (node_after (Merged source target) x) target
         one x = grind arith

@@ -8,7 +8,7 @@ use Rattle.thes_base.proofs.ListMembers.{Contains-none, Contains-head, Contains-
 use Rattle.thes_graph.specs.declared.sight.Sight.{Sight}
 use Rattle.thes_graph.specs.declared.sight.Sight.TheVariants.{AsHeld, With, Merged}
 use Rattle.thes_graph.specs.Reading.{EndsAt, HaveTwoEnds}
-use Rattle.thes_graph.specs.Sight.{place, becomes, WouldBe, TouchesAt, IsReadOf, IsFit, shown}
+use Rattle.thes_graph.specs.Sight.{node_after, becomes, WouldBe, TouchesAt, IsReadOf, IsFit, shown}
 
 module _ {X Y : Type 0} (h : X → Option Y) where
   -- the first item gives one or none
@@ -54,8 +54,8 @@ module _ {X Y : Type 0} (h : X → Option Y) where
 
 -- what a merge makes of a link
 pub becomes-ends : (source target : ℕ) (l m : Link) → becomes source target l ≡ Some m
-    → (m.kind ≡ l.kind) × (m.a ≡ place (Merged source target) l.a) × (m.b ≡ place (Merged source target) l.b) × (m.a ≢ m.b)
-becomes-ends source target l m e = go (place (Merged source target) l.a) (place (Merged source target) l.b) e
+    → (m.kind ≡ l.kind) × (m.a ≡ node_after (Merged source target) l.a) × (m.b ≡ node_after (Merged source target) l.b) × (m.a ≢ m.b)
+becomes-ends source target l m e = go (node_after (Merged source target) l.a) (node_after (Merged source target) l.b) e
   where
     none_some : None ≡ Some m → ⊥
     none_some e = cc

@@ -1,19 +1,26 @@
--- The visits that reading one side of some nodes takes: at most one for each end of a link, over two sides together.
-use Rattle.std.proofs.Common.{◌≡◌, ◌≢◌, ◌==◌, ◌+◌, ◌*◌, ◌≤◌, inl, inr, ℕ, List, length, sym, subst, ◌∙◌, arith, sum_by, Bool, true, false, ◌&&◌, ◌||◌, if◌then◌else◌, nat_eq}
+-- The visits that reading one side of some nodes takes: at most one for each end of a link, over two sides together; and up or down at
+-- most one for each link, which leads up from one end alone.
+use Rattle.std.proofs.Common.{◌≡◌, ◌≢◌, ◌==◌, ◌+◌, ◌*◌, ◌≤◌, inl, inr, ℕ, List, length, sym, subst, ◌∙◌, arith, sum_by, Bool, true, false, refl, ◌&&◌, ◌||◌, if◌then◌else◌, nat_eq}
 use Rattle.std.specs.List.{IsDistinct}
 use Rattle.thes_base.specs.declared.data.Link.{Link}
-use Rattle.thes_base.specs.Links.{Links}
+use Rattle.std.proofs.lemmas.List.Sums.{sum_by-le-sum_by}
+use Rattle.thes_base.specs.declared.data.Direction.{Direction}
+use Rattle.thes_base.specs.declared.data.Direction.TheVariants.{Forward, Backward, Either, Never}
+use Rattle.thes_base.specs.Links.{Links, broader_way, related_way, exact_way}
+use Rattle.thes_graph.specs.declared.relation.Relation.{Relation}
+use Rattle.thes_graph.specs.declared.relation.Relation.TheVariants.{Broader, Narrower}
 use Rattle.thes_graph.specs.declared.side.Side.{Side}
-use Rattle.thes_graph.specs.declared.side.Side.TheVariants.{Beside}
+use Rattle.thes_graph.specs.declared.side.Side.TheVariants.{Beside, Alike, Apart}
 use Rattle.thes_graph.specs.declared.sight.Sight.{Sight}
 use Rattle.thes_graph.specs.declared.sight.Sight.TheVariants.{AsHeld, With, Merged}
 use Rattle.thes_graph.specs.Net.{ends_at}
-use Rattle.thes_graph.specs.Side.{side_no, side_at}
-use Rattle.thes_graph.specs.Sight.{place, touches}
-use Rattle.thes_graph.specs.Trail.{on, weight, spent}
+use Rattle.thes_graph.specs.Side.{side_no, side_at, side_in, side_by, if_either}
+use Rattle.thes_graph.specs.Sight.{node_after, touches}
+use Rattle.thes_graph.specs.Trail.{on, weight, spent, IsHierarchy}
+use Rattle.thes_graph.specs.Steps.{turned}
 use Rattle.thes_graph.proofs.ReadLemmas.{one_at, sum_by-two}
 use Rattle.thes_graph.proofs.PivotLemmas.{same_or_not}
-use Rattle.thes_graph.proofs.CountLemmas.{met_twice}
+use Rattle.thes_graph.proofs.CountLemmas.{met_twice, met_at_most, sum_by-one_at}
 
 -- one where the node is an end
 abbrev one_end : ℕ → Link → ℕ
@@ -34,11 +41,79 @@ either_one false b = omega arith
 end_one : (n : ℕ) (l : Link) → one_end n l ≤ one_at l.a n + one_at l.b n
 end_one n l = either_one (l.a == n) (l.b == n)
 
+-- a link of this way to a broader concept leads up from this end
+abbrev foot : Direction → (a b : ℕ) → ℕ
+foot Backward a b = b
+foot _ a b = a
+
+abbrev foot_test : Direction → (a b : Bool) → Bool
+foot_test Backward a b = b
+foot_test _ a b = a
+
+foot_tested : (d : Direction) (a b n : ℕ) → (if foot_test d (a == n) (b == n) then 1 else 0) ≡ one_at (foot d a b) n
+foot_tested Forward a b n = refl
+foot_tested Backward a b n = refl
+foot_tested Either a b n = refl
+foot_tested Never a b n = refl
+
+unless : (e : Bool) (s k : ℕ) → s ≢ k → ◌≡◌ {A = ℕ} (if e && (s == k) then 1 else 0) 0
+unless true s k differ = grind arith
+unless false s k differ = omega arith
+
+-- a link that leads neither up nor down stands on neither side
+level_side : (d : Direction) (x y : Side) (k : ℕ) → side_no x ≢ k → side_no y ≢ k → side_no (if_either d x y) ≢ k
+level_side Forward x y k one other = other
+level_side Backward x y k one other = other
+level_side Either x y k one other = one
+level_side Never x y k one other = other
+
+level_up : (r e : Direction) → side_no (if_either r Beside (if_either e Alike Apart)) ≢ 1
+level_up r e = level_side r Beside (if_either e Alike Apart) 1 (λ is. absurd (omega (arith, is)))
+    (level_side e Alike Apart 1 (λ is. absurd (omega (arith, is))) (λ is. absurd (omega (arith, is))))
+
+level_down : (r e : Direction) → side_no (if_either r Beside (if_either e Alike Apart)) ≢ 4
+level_down r e = level_side r Beside (if_either e Alike Apart) 4 (λ is. absurd (omega (arith, is)))
+    (level_side e Alike Apart 4 (λ is. absurd (omega (arith, is))) (λ is. absurd (omega (arith, is))))
+
+up_one : (d r e : Direction) (a b : Bool) → (if (a || b) && (side_no (side_by d a r e) == 1) then 1 else 0) ≤ (if foot_test d a b then 1 else 0)
+up_one Forward r e true b = omega arith
+up_one Forward r e false true = omega arith
+up_one Forward r e false false = omega arith
+up_one Backward r e true true = omega arith
+up_one Backward r e true false = omega arith
+up_one Backward r e false true = omega arith
+up_one Backward r e false false = omega arith
+up_one Either r e a b = omega (arith, unless (a || b) (side_no (if_either r Beside (if_either e Alike Apart))) 1 (level_up r e))
+up_one Never r e a b = omega (arith, unless (a || b) (side_no (if_either r Beside (if_either e Alike Apart))) 1 (level_up r e))
+
+down_one : (d r e : Direction) (a b : Bool) → (if (a || b) && (side_no (side_by d a r e) == 4) then 1 else 0) ≤ (if foot_test (turned d) a b then 1 else 0)
+down_one Forward r e true true = omega arith
+down_one Forward r e true false = omega arith
+down_one Forward r e false true = omega arith
+down_one Forward r e false false = omega arith
+down_one Backward r e true b = omega arith
+down_one Backward r e false true = omega arith
+down_one Backward r e false false = omega arith
+down_one Either r e a b = omega (arith, unless (a || b) (side_no (if_either r Beside (if_either e Alike Apart))) 4 (level_down r e))
+down_one Never r e a b = omega (arith, unless (a || b) (side_no (if_either r Beside (if_either e Alike Apart))) 4 (level_down r e))
+
+-- one end of the link is where it stands on the side of the relation
+on_foot : (relation : Relation) → IsHierarchy relation → (l : Link) → (p : ℕ) × ((n : ℕ) → on n (side_in relation) l ≤ one_at p n)
+on_foot Broader walked l = (
+  foot (broader_way l.kind) l.a l.b,
+  λ n. omega (arith, up_one (broader_way l.kind) (related_way l.kind) (exact_way l.kind) (l.a == n) (l.b == n), foot_tested (broader_way l.kind) l.a l.b n),
+)
+on_foot Narrower walked l = (
+  foot (turned (broader_way l.kind)) l.a l.b,
+  λ n. omega (arith, down_one (broader_way l.kind) (related_way l.kind) (exact_way l.kind) (l.a == n) (l.b == n), foot_tested (turned (broader_way l.kind)) l.a l.b n),
+)
+on_foot _ walked l = absurd walked
+
 module _ (source target : ℕ) where
-  target_one : source ≢ target → (x : ℕ) → one_at x target + one_at x source ≤ one_at (place (Merged source target) x) target
+  target_one : source ≢ target → (x : ℕ) → one_at x target + one_at x source ≤ one_at (node_after (Merged source target) x) target
   target_one two x = grind arith
 
-  other_one : (n x : ℕ) → n ≢ source → one_at x n ≤ one_at (place (Merged source target) x) n
+  other_one : (n x : ℕ) → n ≢ source → one_at x n ≤ one_at (node_after (Merged source target) x) n
   other_one n x off = grind arith
 
   -- what a merge weighs, by what the node is
@@ -59,6 +134,21 @@ module _ (source target : ℕ) where
     where
       go : (p q r : ℕ) → (if source == source then 0 else if source == target then p + q else r) ≡ 0
       go p q r = grind arith
+
+  merged_one : (n : ℕ) (side : Side) (l : Link) (p : ℕ) → ((m : ℕ) → on m side l ≤ one_at p m) → weight (Merged source target) n side l ≤ one_at (node_after (Merged source target) p) n
+  merged_one n side l p at = elim (same_or_not n source) [
+    | inl is ↦ subst IsWithin (sym is) (omega (arith, weight_source side l))
+    | inr off ↦ elim (same_or_not n target) [
+      | inl is ↦ subst IsWithin (sym is) (at_target (λ e. off (is ∙ e)))
+      | inr away ↦ omega (arith, weight_other n off away side l, at n, other_one n p off)
+    ]
+  ]
+    where
+      IsWithin : ℕ → Type 0
+      IsWithin m = weight (Merged source target) m side l ≤ one_at (node_after (Merged source target) p) m
+
+      at_target : target ≢ source → IsWithin target
+      at_target off = omega (arith, weight_target off side l, at target, at source, target_one (λ e. off (sym e)) p)
 
   merged_two : (n : ℕ) (j k : Side) (l : Link) → side_no j ≢ side_no k → weight (Merged source target) n j l + weight (Merged source target) n k l ≤ touches (Merged source target) n l
   merged_two n j k l differ = elim (same_or_not n source) [
@@ -105,3 +195,21 @@ module _ (sight : Sight) (j k : Side) (differ : side_no j ≢ side_no k) where
       sum_by-two (λ n. sum_by (weight sight n j) ns) (λ n. sum_by (weight sight n k) ns) (λ n. sum_by (touches sight n) ns)
       (λ n. sum_by-two (weight sight n j) (weight sight n k) (touches sight n) (weight_two n) ns) nodes in
       omega (arith, each, met_twice sight nodes distinct ns)
+
+module _ (sight : Sight) (relation : Relation) (walked : IsHierarchy relation) where
+  weight_one : (l : Link) → (p : ℕ) × ((n : ℕ) → weight sight n (side_in relation) l ≤ one_at p n)
+  weight_one l = go sight (on_foot relation walked l)
+    where
+      go : (sight : Sight) → ((p : ℕ) × ((n : ℕ) → on n (side_in relation) l ≤ one_at p n)) → (p : ℕ) × ((n : ℕ) → weight sight n (side_in relation) l ≤ one_at p n)
+      go AsHeld (p, at) = (p, at)
+      go (With new) (p, at) = (p, at)
+      go (Merged source target) (p, at) = (node_after (Merged source target) p, λ n. merged_one source target n (side_in relation) l p at)
+
+  -- over distinct nodes
+  pub spent_one : (nodes : List ℕ) → IsDistinct nat_eq nodes → (ns : List Link) → spent sight (side_in relation) nodes ns ≤ length ns
+  spent_one nodes distinct ns = omega (arith, met_at_most nodes (λ n. weight sight n (side_in relation)) 1 each ns)
+    where
+      each : (l : Link) → sum_by (λ n. weight sight n (side_in relation) l) nodes ≤ 1
+      each l =
+          let w = weight_one l in
+          omega (arith, sum_by-le-sum_by (λ n. weight sight n (side_in relation) l) (one_at w.0) nodes w.1, sum_by-one_at w.0 nodes distinct)

@@ -13,9 +13,11 @@ use Rattle.thes_graph.specs.declared.sight.Sight.{Sight}
 use Rattle.thes_graph.specs.declared.sight.Sight.TheVariants.{AsHeld, With, Merged}
 use Rattle.thes_graph.specs.Reading.{HaveTwoEnds, EndsAt, IsRow}
 use Rattle.thes_graph.specs.Side.{side_no, side_at, side_in, IsPart, IsWalked}
-use Rattle.thes_graph.specs.Sight.{place, becomes, WouldBe}
+use Rattle.thes_graph.specs.Sight.{node_after, becomes, WouldBe}
 use Rattle.thes_graph.specs.Steps.{way_of, step_along, Steps, GrowsBy}
 use Rattle.thes_graph.specs.Trail.{seen, led, LeadsWithin, LeadsFrom, Finds, Stands, on}
+use Rattle.std.specs.Cmp.Derive.{both_true}
+use Rattle.std.proofs.lemmas.Bool.{or_left, or_right}
 use Rattle.std.proofs.lemmas.Bool.Decides.{Decides-eqb}
 use Rattle.thes_graph.specs.declared.side.Side.{Side}
 use Rattle.thes_graph.specs.Net.{ends_at}
@@ -136,8 +138,8 @@ module _ (held : Links) (relation : Relation) where
 
     module _ (source target : ℕ) where
       -- back from what a merge makes of both ends
-      lead_back : (d : Direction) (a b x y : ℕ) → Leads d (place (Merged source target) a) (place (Merged source target) b) x y
-          → (at : ℕ) × (z : ℕ) × (place (Merged source target) at ≡ x) × Leads d a b at z
+      lead_back : (d : Direction) (a b x y : ℕ) → Leads d (node_after (Merged source target) a) (node_after (Merged source target) b) x y
+          → (at : ℕ) × (z : ℕ) × (node_after (Merged source target) at ≡ x) × Leads d a b at z
       lead_back Forward a b x y (e, f) = (a, b, e, (refl, refl))
       lead_back Backward a b x y (e, f) = (b, a, e, (refl, refl))
       lead_back Either a b x y (inl (e, f)) = (a, b, e, inl (refl, refl))
@@ -145,15 +147,15 @@ module _ (held : Links) (relation : Relation) where
       lead_back Never a b x y h = absurd h
 
       led_same : (x y : ℕ) (l m : Link) → becomes source target l ≡ Some m → Leads (way_of relation m.kind) m.a m.b x y
-          → Leads (way_of relation l.kind) (place (Merged source target) l.a) (place (Merged source target) l.b) x y
+          → Leads (way_of relation l.kind) (node_after (Merged source target) l.a) (node_after (Merged source target) l.b) x y
       led_same x y l m is leads =
           let ends = becomes-ends source target l m is in
           let P : Direction → ℕ → ℕ → Type 0 = λ d a b. Leads d a b x y in
-          subst (λ d. P d (place (Merged source target) l.a) (place (Merged source target) l.b)) (ap (way_of relation) ends.0)
-          (subst (λ b. P (way_of relation m.kind) (place (Merged source target) l.a) b) ends.2 (subst (λ a. P (way_of relation m.kind) a m.b) ends.1 leads))
+          subst (λ d. P d (node_after (Merged source target) l.a) (node_after (Merged source target) l.b)) (ap (way_of relation) ends.0)
+          (subst (λ b. P (way_of relation m.kind) (node_after (Merged source target) l.a) b) ends.2 (subst (λ a. P (way_of relation m.kind) a m.b) ends.1 leads))
 
       pub Steps-merged_held : (x y : ℕ) → Steps relation (WouldBe (Merged source target) held) x y
-          → (at : ℕ) × (z : ℕ) × (place (Merged source target) at ≡ x) × Steps relation (HeldIn held) at z
+          → (at : ℕ) × (z : ℕ) × (node_after (Merged source target) at ≡ x) × Steps relation (HeldIn held) at z
       Steps-merged_held x y (m, (l, has, is), leads) =
           let back = lead_back (way_of relation l.kind) l.a l.b x y (led_same x y l m is leads) in (back.0, back.1, back.2, (l, has, back.3))
 
@@ -167,11 +169,11 @@ module _ (held : Links) (relation : Relation) where
             | inr at ↦ none back.1 (subst (λ (w : ℕ). Steps relation (HeldIn held) w back.1) (sym at ∙ back.2) back.3)
           ]
         where
-          at_cases : (n : ℕ) → (n ≡ source) ⊎ (place (Merged source target) n ≡ n)
+          at_cases : (n : ℕ) → (n ≡ source) ⊎ (node_after (Merged source target) n ≡ n)
           at_cases n = grind arith
 
       pub Steps-merged : (x y : ℕ) → Steps relation (WouldBe (Merged source target) held) x y
-          → (at : ℕ) × (place (Merged source target) at ≡ x) × LeadsFrom (Merged source target) held relation at x y
+          → (at : ℕ) × (node_after (Merged source target) at ≡ x) × LeadsFrom (Merged source target) held relation at x y
       Steps-merged x y (m, (l, has, is), leads) =
           let back = lead_back (way_of relation l.kind) l.a l.b x y (led_same x y l m is leads) in (
             back.0,
@@ -188,20 +190,9 @@ module _ (held : Links) (relation : Relation) where
 -- what reading a part costs: its places are distinct links that stand on its side
 
 pub on_one : (at : ℕ) (side : Side) (l : Link) → EndsAt at l → side_at at l ≡ side → on at side l ≡ 1
-on_one at side l ends is = ap (λ b. if b then 1 else 0) (both (ends_at at l) (side_no (side_at at l) == side_no side) (ends_true ends) ((Decides-eqb (side_no (side_at at l)) (side_no side)).1 (ap side_no is)))
+on_one at side l ends is =
+    ap (λ b. if b then 1 else 0) (both_true (ends_true ends) ((Decides-eqb (side_no (side_at at l)) (side_no side)).1 (ap side_no is)))
   where
-    both : (a b : Bool) → a ≡ true → b ≡ true → (a && b) ≡ true
-    both true true e f = refl
-    both _ _ e f = cc
-
-    or_left : (a b : Bool) → a ≡ true → (a || b) ≡ true
-    or_left true b e = refl
-    or_left false b e = cc
-
-    or_right : (a b : Bool) → b ≡ true → (a || b) ≡ true
-    or_right true b e = refl
-    or_right false b e = e
-
     ends_true : EndsAt at l → ends_at at l ≡ true
     ends_true (inl a) = or_left (l.a == at) (l.b == at) ((Decides-eqb l.a at).1 a)
     ends_true (inr b) = or_right (l.a == at) (l.b == at) ((Decides-eqb l.b at).1 b)

@@ -14,3 +14,4 @@ pub mod Moved
 pub mod Whole
 pub mod Ends
 pub mod Trail
+pub mod Towards

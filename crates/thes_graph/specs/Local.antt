@@ -3,7 +3,7 @@ use Rattle.std.specs.Prelude.{◌≡◌, ◌≢◌, ◌⊎◌, ℕ, List, Contai
 use Rattle.thes_base.specs.declared.data.Link.{Link}
 use Rattle.thes_base.specs.declared.fault.Refusal.{Refusal}
 use Rattle.thes_base.specs.declared.fault.Refusal.TheVariants as no
-use Rattle.thes_base.specs.Links.{Links, exact_way, Joined, IsBroader, IsAbove, IsRelated, IsExact, IsApart, IsFirstBroken}
+use Rattle.thes_base.specs.Links.{Links, exact_way, Joined, IsBroader, IsAbove, IsRelated, IsExact, IsApart, NoCycle, S27, IsFirstBroken}
 use Rattle.thes_graph.specs.declared.relation.Relation.{Relation}
 use Rattle.thes_graph.specs.declared.sight.Sight.{Sight}
 use Rattle.thes_graph.specs.Reading.{EndsAt}
@@ -46,6 +46,13 @@ IsFirstBrokenAt Held p (Some no.S27) = NoCycleAt Held p × ((x : ℕ) × (y : �
 IsFirstBrokenAt Held p (Some no.S46) =
     NoCycleAt Held p × NoS27At Held p × ((x : ℕ) × (y : ℕ) × InClassOf Held p x × InClassOf Held p y × IsApart Held x y)
 IsFirstBrokenAt Held p (Some _) = ⊥
+
+-- the first of Cycle and S27 that the links break
+abbrev pub IsFirstOfTwo : (Link → Type 0) → Option Refusal → Type 0
+IsFirstOfTwo Held None = NoCycle Held × S27 Held
+IsFirstOfTwo Held (Some no.Cycle) = (x : ℕ) × IsAbove Held x x
+IsFirstOfTwo Held (Some no.S27) = NoCycle Held × ((x : ℕ) × (y : ℕ) × IsRelated Held x y × IsAbove Held x y)
+IsFirstOfTwo Held (Some _) = ⊥
 
 -- the start and all that it leads to, and the links with an end at one of these
 pub record IsGathered (Would : Link → Type 0) (relation : Relation) (start : ℕ) (nodes : List ℕ) (links : List Link) : Type 0 where

@@ -7,10 +7,10 @@ use Rattle.thes_graph.specs.declared.sight.Sight.{Sight}
 use Rattle.thes_graph.specs.declared.sight.Sight.TheVariants.{AsHeld, With, Merged}
 
 -- where a node is after the change
-abbrev pub place : Sight → ℕ → ℕ
-place AsHeld n = n
-place (With new) n = n
-place (Merged source target) n = sent source target n
+abbrev pub node_after : Sight → ℕ → ℕ
+node_after AsHeld n = n
+node_after (With new) n = n
+node_after (Merged source target) n = sent source target n
 
 -- what a merge makes of the link, unless it joins the target to itself then
 abbrev pub becomes : (source target : ℕ) → Link → Option Link
@@ -22,13 +22,13 @@ WouldBe AsHeld held m = HeldIn held m
 WouldBe (With new) held m = HeldIn held m ⊎ (new ≡ m)
 WouldBe (Merged source target) held m = (l : Link) × HeldIn held l × (becomes source target l ≡ Some m)
 
--- the link has an end in this place
+-- the link has this end after the change
 abbrev pub TouchesAt : Sight → ℕ → Link → Type 0
-TouchesAt sight n l = (place sight l.a ≡ n) ⊎ (place sight l.b ≡ n)
+TouchesAt sight n l = (node_after sight l.a ≡ n) ⊎ (node_after sight l.b ≡ n)
 
--- how many of its ends are in this place
+-- how many of its ends are this node then
 abbrev pub touches : Sight → ℕ → Link → ℕ
-touches sight n l = (if place sight l.a == n then 1 else 0) + (if place sight l.b == n then 1 else 0)
+touches sight n l = (if node_after sight l.a == n then 1 else 0) + (if node_after sight l.b == n then 1 else 0)
 
 -- of the held links the list has each that touches the node
 pub record IsReadOf (sight : Sight) (held : Links) (node : ℕ) (row : List Link) : Type 0 where

@@ -29,7 +29,8 @@ led sight relation x l = option_and_then (λ m. step_along relation m x) (seen s
 
 -- a link at one of these places of the row leads from x to y after the edit
 abbrev pub LeadsWithin : Sight → Relation → (x : ℕ) → (row : List Link) → (from to y : ℕ) → Type 0
-LeadsWithin sight relation x row from to y = (k : ℕ) × (l : Link) × (from ≤ k) × (k < to) × (slice_get row k ≡ Some l) × (led sight relation x l ≡ Some y)
+LeadsWithin sight relation x row from to y =
+    (k : ℕ) × (l : Link) × (from ≤ k) × (k < to) × (slice_get row k ≡ Some l) × (led sight relation x l ≡ Some y)
 
 -- a held link that stands at a node, on the side of the relation, leads from x to y after the edit
 abbrev pub LeadsFrom : Sight → Links → Relation → (at x y : ℕ) → Type 0
@@ -78,10 +79,10 @@ pub record IsTrail (sight : Sight) (held : Links) (kind : Relation) (goals : Lis
 abbrev pub LeadsTo : Sight → Links → Relation → (goals : List ℕ) → (start : ℕ) → Type 0
 LeadsTo sight held relation goals start = (y : ℕ) × Contains goals y × Chain (Steps relation (WouldBe sight held)) start y
 
--- so many visits are at most two for each of the links at what the start leads to
+-- so many visits are at most one for each of the links at what the start leads to
 abbrev pub IsPaid : Sight → Links → Relation → (start read : ℕ) → Type 0
 IsPaid sight held relation start read =
-    (ns : List Link) → ((n : ℕ) → Reaches (Steps relation (WouldBe sight held)) start n → CoversAt sight held n ns) → read ≤ 2 * length ns
+    (ns : List Link) → ((n : ℕ) → Reaches (Steps relation (WouldBe sight held)) start n → CoversAt sight held n ns) → read ≤ length ns
 
 -- the walk has found a goal, or goes on
 abbrev pub GoesOn : Sight → Links → Relation → (goals : List ℕ) → (start : ℕ) → Trail → (read : ℕ) → (found : Bool) → Type 0
@@ -106,7 +107,8 @@ CoversBetween sight held low high ns =
 -- two walks in turn, up from the high node and down from the low one, which together took the visits from `from` to `count`
 abbrev pub AreInTurn : Sight → Links → (lows highs : List ℕ) → (low high : ℕ) → (up down : Trail) → (from count : ℕ) → Type 0
 AreInTurn sight held lows highs low high up down from count =
-    (a : ℕ) × (b : ℕ) × IsTrail sight held along.Broader lows high up a × IsTrail sight held along.Narrower highs low down b × (count ≤ from + a + b)
+    (a : ℕ) × (b : ℕ) × IsTrail sight held along.Broader lows high up a × IsTrail sight held along.Narrower highs low down b
+    × (count ≤ from + a + b)
 
 -- one of the two walks has found a goal, by so many visits
 abbrev pub HaveMet : Sight → Links → (lows highs : List ℕ) → (low high : ℕ) → (from count : ℕ) → Type 0

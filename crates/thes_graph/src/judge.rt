@@ -1,22 +1,21 @@
 //! Whether the links, or those that would be, keep the rules. Only links near the edit are read: two walks in turn, up and down, and one
 //! along exact matches find all that the edit can break.
-ghost use Rattle.std.specs.Prelude.{◌≡◌, ◌≢◌, ◌+◌, ◌*◌, ◌≤◌, List, Contains, OnOk, IfOk, MatchBool, length, nat_lt, if◌then◌else◌, ◌&&◌};
+ghost use Rattle.std.specs.Prelude.{◌≡◌, ◌≢◌, ◌+◌, ◌*◌, ◌≤◌, List, Contains, OnOk, IfOk, length, nat_lt, if◌then◌else◌, ◌&&◌};
 ghost use Rattle.thes_base.specs.declared.data.Link.{Link};
 ghost use Rattle.thes_base.specs.Links.{HeldIn, is_symmetric, exchanged, norm, contracted, IsFirstBroken};
 ghost use Rattle.thes_base.specs.Neighbourhood.{Add, Merge, Check};
 ghost use Rattle.thes_graph.specs.declared.sight.Sight.TheVariants.{With};
 ghost use Rattle.thes_graph.specs.Reading.{HaveTwoEnds};
 ghost use Rattle.thes_graph.specs.Sight.{WouldBe, IsFit, LooksAsHeld};
-ghost use Rattle.thes_graph.specs.Local.{BreakNone, AwayFrom, IsS46At, NoS46At, IsFirstBrokenAt, CoversNear};
-ghost use Rattle.thes_graph.specs.Ends.{LeadsUp};
+ghost use Rattle.thes_graph.specs.Local.{BreakNone, AwayFrom, IsFirstBrokenAt, CoversNear};
 ghost use Rattle.thes_graph.specs.Judge.{row_of_add, HasNeighbourhood, AreFewVisits};
 
+use crate::added::judge_one_more;
 use crate::between::judge_between;
-use crate::ends::{is_end_after, is_harmless, leads_up};
+use crate::class::breaks_class;
+use crate::ends::is_harmless;
 use crate::links::Links;
-use crate::relation::Relation;
 use crate::sight::Sight;
-use crate::walk::{gather, some_ties};
 use std::alloc::{AllocError, Global};
 use thes_base::data::{Link, LinkKind};
 use thes_base::fault::Refusal;
@@ -73,30 +72,6 @@ fn probe<L: Links>(
         return Ok(Some(Refusal::S46));
     }
     Ok(None)
-}
-
-// Whether two of the pivot's class of exact matches are broader or related matches after the edit.
-fn breaks_class<L: Links>(
-    alloc: Global,
-    links: &mut L,
-    sight: &Sight,
-    pivot: ResNo,
-) -> Result<bool, AllocError>
-    requires { IsFit sight.now }
-    ensures held { L.held links.new ≡ L.held links.old }
-    ensures outside { L.outside links.new ≡ L.outside links.old }
-    ensures rows { L.links_of links.new ≡ L.links_of links.old }
-    ensures found { IfOk result (λ found. MatchBool found (IsS46At (WouldBe sight.now (L.held links.old)) pivot)
-        (NoS46At (WouldBe sight.now (L.held links.old)) pivot)) }
-    ensures count { OnOk result ((ns : List Link) → CoversNear sight.now (L.held links.old) pivot ns
-        → L.count links.new ≤ L.count links.old + 2 * length ns) }
-{
-    if is_end_after(links, sight, pivot, Relation::Exact) {
-        return Ok(false);
-    }
-    let same = gather(alloc, links, sight, pivot, Relation::Exact)?;
-    let found = some_ties(Relation::Apart, &same.links, &same.nodes, &same.nodes);
-    Ok(found)
 }
 
 /// The first rule that the links held break, where those without an end at the pivot break none.
@@ -161,31 +136,7 @@ fn judge_normal<L: Links>(
     if is_harmless(links, new) {
         return Ok(None);
     }
-    if leads_up(new.kind) {
-        let answer = judge_up(alloc, links, new)?;
-        return Ok(answer);
-    }
-    let sight = Sight::With(*new);
-    let answer = probe(alloc, links, &sight, new.a)?;
-    Ok(answer)
-}
-
-// The first rule that the links with one more link up would break.
-fn judge_up<L: Links>(
-    alloc: Global,
-    links: &mut L,
-    new: &Link,
-) -> Result<Option<Refusal>, AllocError>
-    requires ends { new.now.a ≢ new.now.b }
-    requires unbroken { BreakNone (HeldIn (L.held links.old)) }
-    requires up { LeadsUp new.now.kind }
-    ensures held { L.held links.new ≡ L.held links.old }
-    ensures outside { L.outside links.new ≡ L.outside links.old }
-    ensures first { IfOk result (IsFirstBroken (WouldBe (With new.now) (L.held links.old))) }
-    ensures count { OnOk result ((ns : List Link) → CoversNear (With new.now) (L.held links.old) new.now.a ns
-        → L.count links.new ≤ L.count links.old + 6 * length ns) }
-{
-    let answer = judge_between(alloc, links, &Sight::AsHeld, new.a, new.b)?;
+    let answer = judge_one_more(alloc, links, new)?;
     Ok(answer)
 }
 

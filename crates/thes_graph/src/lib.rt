@@ -1,7 +1,9 @@
 //! Links between concepts: what is held, and whether one more link or a merge keeps the rules.
 #![tactic(auto)]
 
+mod added;
 mod between;
+mod class;
 mod climb;
 mod ends;
 pub mod graph;
@@ -13,6 +15,7 @@ mod nodes;
 mod relation;
 pub mod side;
 mod sight;
+mod towards;
 mod trail;
 mod walk;
 mod whole;

@@ -2,6 +2,7 @@
 ghost use Rattle.std.specs.Prelude.{◌≡◌};
 ghost use Rattle.thes_base.specs.Links.{broader_way};
 ghost use Rattle.thes_graph.specs.Steps.{turned, way_of, step_in, step_along};
+ghost use Rattle.thes_graph.specs.Towards.{back};
 
 use thes_base::data::{Direction, Link, LinkKind};
 use thes_base::number::ResNo;
@@ -55,6 +56,17 @@ pub fn way(relation: Relation, kind: LinkKind) -> Direction
         (Relation::Apart, LinkKind::Narrow) => Direction::Backward,
         (Relation::Apart, LinkKind::RelMatch) => Direction::Either,
         _ => Direction::Never,
+    }
+}
+
+/// The relation that leads back up, or back down.
+pub fn turn_back(relation: Relation) -> Relation
+    ensures { result ≡ back relation }
+{
+    match relation {
+        Relation::Broader => Relation::Narrower,
+        Relation::Narrower => Relation::Broader,
+        other => other,
     }
 }
 

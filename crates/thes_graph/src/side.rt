@@ -1,5 +1,5 @@
 //! Where a link leads from one of its ends, by which the links of a node are kept apart.
-ghost use Rattle.std.specs.Prelude.{◌≡◌};
+ghost use Rattle.std.specs.Prelude.{◌≡◌, ◌-◌};
 ghost use Rattle.std.proofs.Math.Dec.{ltb, leb};
 ghost use Rattle.thes_graph.specs.Side.{side_no, side_in, side_at, standing_at};
 
@@ -58,6 +58,15 @@ pub struct Standing {
 pub struct Part {
     pub from: usize,
     pub to: usize,
+}
+
+impl Part {
+    /// How many places these are.
+    pub fn size(self) -> usize
+        ensures { result ≡ self.to - self.from }
+    {
+        self.to.saturating_sub(self.from)
+    }
 }
 
 /// Where the link leads from the node.

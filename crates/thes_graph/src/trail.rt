@@ -1,10 +1,10 @@
 //! Walks that read of each node the links on one side, link by link; and node by node, so that two walks can go in turn.
-ghost use Rattle.std.specs.Prelude.{◌≡◌, ◌≢◌, ◌+◌, ◌-◌, ◌≤◌, ◌<◌, ◌^◌, ◌∷◌, [], ℕ, true, false, List, Contains, OnOk, IfOk, MatchBool, length, sum_by, slice_get, option_and_then};
+ghost use Rattle.std.specs.Prelude.{◌≡◌, ◌≢◌, ◌+◌, ◌-◌, ◌≤◌, ◌<◌, ◌^◌, ◌∷◌, [], ℕ, true, false, List, Contains, OnOk, IfOk, MatchBool, length, sum_by, get_or, slice_get, option_and_then};
 ghost use Rattle.thes_base.specs.declared.data.Link.{Link};
 ghost use Rattle.thes_base.specs.Links.{HeldIn};
-ghost use Rattle.thes_graph.specs.declared.sight.Sight.TheVariants.{Merged};
-ghost use Rattle.thes_graph.specs.Reading.{HaveTwoEnds};
-ghost use Rattle.thes_graph.specs.Side.{IsWalked, side_in};
+ghost use Rattle.thes_graph.specs.declared.sight.Sight.TheVariants.{AsHeld, Merged};
+ghost use Rattle.thes_graph.specs.Reading.{HaveTwoEnds, IsRow};
+ghost use Rattle.thes_graph.specs.Side.{IsWalked, IsPart, side_in};
 ghost use Rattle.thes_graph.specs.Steps.{Steps};
 ghost use Rattle.thes_graph.specs.Sight.{WouldBe, IsFit, CoversAt, LooksAsHeld};
 ghost use Rattle.thes_graph.specs.Trail.{seen, led, LeadsWithin, LeadsFrom, Finds, Stands, on, weight, IsHierarchy, IsTrail, GoesOn};
@@ -236,6 +236,45 @@ impl Trail {
     {
         let x = self.nodes.as_slice()[self.next];
         let found = follow_on(links, &mut self.nodes, sight, relation, x, goals)?;
+        self.next += 1;
+        Ok(found)
+    }
+
+    /// Between which places at the next node the links held stand that lead on from it.
+    pub fn next_part<L: Links>(&self, links: &L, relation: Relation) -> Part
+        requires more { self.now.next < length self.now.nodes }
+        ensures two_ends { HaveTwoEnds (HeldIn (L.held links.now)) }
+        ensures listed { let x = get_or self.now.nodes self.now.next 0 in IsRow (L.held links.now) x (L.links_of links.now x) }
+        ensures part { let x = get_or self.now.nodes self.now.next 0 in IsPart (L.links_of links.now x) x (side_in relation) result }
+    {
+        links.part(self.nodes.as_slice()[self.next], side_for(relation))
+    }
+
+    /// Reads the next node in the links held, at these places of its row, and answers whether it leads to a goal.
+    pub fn advance_at<L: Links>(
+        &mut self,
+        links: &mut L,
+        relation: Relation,
+        part: Part,
+        goals: &Nodes,
+    ) -> Result<bool, AllocError>
+        requires walked { IsHierarchy relation }
+        requires more { self.old.next < length self.old.nodes }
+        requires two_ends { HaveTwoEnds (HeldIn (L.held links.old)) }
+        requires listed { let x = get_or self.old.nodes self.old.next 0 in IsRow (L.held links.old) x (L.links_of links.old x) }
+        requires part { let x = get_or self.old.nodes self.old.next 0 in IsPart (L.links_of links.old x) x (side_in relation) part }
+        ensures held { L.held links.new ≡ L.held links.old }
+        ensures outside { L.outside links.new ≡ L.outside links.old }
+        ensures rows { L.links_of links.new ≡ L.links_of links.old }
+        ensures next { OnOk result (self.new.next ≡ self.old.next + 1) }
+        ensures count { L.count links.new ≤ L.count links.old + (part.to - part.from) }
+        ensures goes { IfOk result (λ found. (start read : ℕ)
+            → IsTrail AsHeld (L.held links.old) relation goals.now start self.old read
+            → GoesOn AsHeld (L.held links.old) relation goals.now start self.new (read + (part.to - part.from)) found) }
+    {
+        let x = self.nodes.as_slice()[self.next];
+        let sight = Sight::AsHeld;
+        let found = follow_part(links, &mut self.nodes, &sight, relation, x, part, x, goals)?;
         self.next += 1;
         Ok(found)
     }

@@ -53,7 +53,7 @@ pub fn fetch<L: Links>(alloc: Global, links: &mut L, node: ResNo) -> Result<Vec<
     Ok(row)
 }
 
-// The held links that have an end in this place.
+// The held links that have this end after the edit.
 fn read<L: Links>(
     alloc: Global,
     links: &mut L,
@@ -85,7 +85,7 @@ fn read<L: Links>(
     }
 }
 
-// The held links that have an end in this place after the merge: none at the source, and at the target those of both.
+// The held links that have this end after the merge: none at the source, and at the target those of both.
 fn read_merged<L: Links>(
     alloc: Global,
     links: &mut L,

@@ -4,14 +4,15 @@ ghost use Rattle.thes_base.specs.declared.data.Link.{Link};
 ghost use Rattle.thes_base.specs.Links.{HeldIn, NoCycle, S27, S46, IsFirstBroken};
 ghost use Rattle.thes_graph.specs.Reading.{HaveTwoEnds};
 ghost use Rattle.thes_graph.specs.Steps.{GrowsBy};
-ghost use Rattle.thes_graph.specs.Local.{UpTo, NoS46At};
-ghost use Rattle.thes_graph.specs.Whole.{AreAll, HasWay, HasEndAbove, HasNoEndAbove, IsSomeCycle, IsSomeS27, IsSomeS46};
+ghost use Rattle.thes_graph.specs.Local.{NoS46At};
+ghost use Rattle.thes_graph.specs.Whole.{AreAll, HasWay, IsSomeCycle, IsSomeS27, IsSomeS46};
 
 use crate::climb::climb;
 use crate::links::Links;
 use crate::nodes::Nodes;
 use crate::relation::{Relation, way};
 use crate::sight::Sight;
+use crate::towards::has_end_above;
 use crate::walk::{gather, some_ties};
 use std::alloc::{AllocError, Global};
 use thes_base::data::{Direction, Link};
@@ -32,30 +33,6 @@ fn has_cycle<L: Links>(alloc: Global, links: &mut L, all: &[Link]) -> Result<boo
         }
     }
     Ok(false)
-}
-
-// Whether the second node is the first one or above it.
-fn is_up<L: Links>(alloc: Global, links: &mut L, x: ResNo, y: ResNo) -> Result<bool, AllocError>
-    ensures held { L.held links.new ≡ L.held links.old }
-    ensures up { IfOk result (λ found. MatchBool found (UpTo (HeldIn (L.held links.old)) x y) (UpTo
-        (HeldIn (L.held links.old)) x y → ⊥)) }
-{
-    let up = gather(alloc, links, &Sight::AsHeld, x, Relation::Broader)?;
-    let found = up.nodes.has(y);
-    Ok(found)
-}
-
-// Whether one end of the link is above the other.
-fn has_end_above<L: Links>(alloc: Global, links: &mut L, link: &Link) -> Result<bool, AllocError>
-    ensures held { L.held links.new ≡ L.held links.old }
-    ensures above { IfOk result (λ found. MatchBool found (HasEndAbove (HeldIn
-        (L.held links.old)) link.now) (HasNoEndAbove (HeldIn (L.held links.old)) link.now)) }
-{
-    if is_up(alloc, links, link.a, link.b)? {
-        return Ok(true);
-    }
-    let found = is_up(alloc, links, link.b, link.a)?;
-    Ok(found)
 }
 
 // Whether links of this kind have a way in the relation.

@@ -1,10 +1,13 @@
 //! Makes a graph of broader links and checks it whole, which `bench/graph` times.
-//! Words: `ladder` or `tree`, how many nodes, and how wide. Or, for `tests/count-requests`: `requests`, how many further nodes, and
+//! Words: `ladder` or `tree`, how many nodes, and how wide; or `levels`, how many nodes, how many links are judged there, and `merges`
+//! if these are merges and not related links. Or, for `tests/count-requests`: `requests`, how many further nodes, and
 //! `judged` if a link is to be judged.
 #![tactic(auto)]
 
+mod levels;
 mod requests;
 
+use crate::levels::refused;
 use crate::requests::left_after;
 use std::alloc::{AllocError, Global};
 use std::process::ExitCode;
@@ -102,6 +105,16 @@ fn obey<R: Env + Print + Alloc<A = Global>>(rt: &R) -> Result<u8, AllocError> {
     let words: Vec<String> = args.collect(alloc)?;
     if has_word(words.as_slice(), 1, "requests") {
         return print_left(rt, words.as_slice());
+    }
+    if has_word(words.as_slice(), 1, "levels") {
+        let merges = has_word(words.as_slice(), 4, "merges");
+        let _ = refused(
+            alloc,
+            number(words.as_slice(), 2),
+            number(words.as_slice(), 3),
+            merges,
+        )?;
+        return Ok(0);
     }
     match broken(alloc, words.as_slice())? {
         None => Ok(0),

@@ -84,12 +84,15 @@ fn run(rt: &impl Abort, alloc: Global, graph: &mut Graph, steps: &[Step]) -> Res
     Ok(())
 }
 
-use LinkKind::{Broad, Broader, Close, Exact, Member, Narrow, RelMatch, Related};
+use LinkKind::{
+    Broad, Broader, BroaderGeneric, BroaderInstantial, BroaderPartitive, Close, Exact, Member,
+    Narrow, RelMatch, Related,
+};
 
 #[test]
 fn worked_links(rt: HostRuntime) -> Result<(), Fail> {
     let alloc = rt.alloc();
-    let tables: [&[Step]; 6] = [
+    let tables: [&[Step]; 8] = [
         &[
             (Broader, 2, 3, None),
             (Broader, 3, 4, None),
@@ -126,6 +129,24 @@ fn worked_links(rt: HostRuntime) -> Result<(), Fail> {
             (Broad, 2, 7, None),
             (Broad, 7, 2, Some(Refusal::Cycle)),
             (RelMatch, 7, 2, Some(Refusal::S27)),
+        ],
+        &[
+            (BroaderGeneric, 2, 3, None),
+            (BroaderPartitive, 2, 3, None),
+            (BroaderGeneric, 2, 3, Some(Refusal::LinkThere)),
+            (Related, 2, 3, Some(Refusal::S27)),
+            (Broader, 3, 2, Some(Refusal::Cycle)),
+            (BroaderInstantial, 3, 9, None),
+            (Narrow, 4, 9, None),
+            (RelMatch, 2, 4, Some(Refusal::S27)),
+        ],
+        &[
+            (Exact, 2, 9, None),
+            (RelMatch, 9, 4, None),
+            (Exact, 3, 4, None),
+            (Exact, 2, 3, Some(Refusal::S46)),
+            (RelMatch, 9, 2, Some(Refusal::S46)),
+            (Narrow, 9, 2, Some(Refusal::S46)),
         ],
     ];
     for steps in tables {
@@ -259,7 +280,8 @@ fn visits_near_the_edit(rt: HostRuntime) -> Result<(), Fail> {
     for n in 5..505u32 {
         run(&rt, alloc, &mut graph, &[(Broader, n, n + 1, None)])?;
     }
-    assert_eq!(rt; visits(alloc, &graph, &link(Related, 2, 4))?, Some(2));
+    // the link is looked up, and neither a walk up nor one down leads to 4
+    assert_eq!(rt; visits(alloc, &graph, &link(Related, 2, 4))?, Some(1));
     Ok(())
 }
 
@@ -281,7 +303,8 @@ fn next(link: &Link, exact: bool, x: ResNo) -> Option<ResNo> {
     match link.kind {
         Exact if exact && link.a == x => Some(link.b),
         Exact if exact && link.b == x => Some(link.a),
-        Broader | Broad if !exact && link.a == x => Some(link.b),
+        Broader | BroaderGeneric | BroaderPartitive | BroaderInstantial | Broad
+            if !exact && link.a == x => { Some(link.b) }
         Narrow if !exact && link.b == x => Some(link.a),
         _ => None,
     }
@@ -374,14 +397,17 @@ impl Numbers {
     }
 
     fn link(&mut self, nodes: u32) -> Link {
-        let kind = match self.below(10) {
-            0 | 1 | 2 => Broader,
-            3 => Related,
-            4 => Exact,
-            5 => Close,
-            6 => Broad,
-            7 => Narrow,
-            8 => RelMatch,
+        let kind = match self.below(13) {
+            0 | 1 => Broader,
+            2 => BroaderGeneric,
+            3 => BroaderPartitive,
+            4 => BroaderInstantial,
+            5 | 6 => Related,
+            7 => Exact,
+            8 => Close,
+            9 => Broad,
+            10 => Narrow,
+            11 => RelMatch,
             _ => Member,
         };
         let a = self.below(nodes);
@@ -434,6 +460,62 @@ fn compare(
     Ok(())
 }
 
+// How many different links there are, where those of these kinds may be turned unless an end is an outside concept.
+fn count_different(alloc: Global, graph: &Graph, links: &[Link]) -> Result<usize, AllocError> {
+    let mut met = BTreeSet::new(alloc);
+    for link in links {
+        let turns = match link.kind {
+            Related => true,
+            Exact | Close | RelMatch => !graph.is_outside(link.a) && !graph.is_outside(link.b),
+            _ => false,
+        };
+        let (a, b) = if turns && link.b < link.a {
+            (link.b, link.a)
+        } else {
+            (link.a, link.b)
+        };
+        met.insert(Link {
+            kind: link.kind,
+            a,
+            b,
+        })?;
+    }
+    Ok(met.len())
+}
+
+// Tries one merge on a graph that keeps the rules, and compares the answer and the links after it.
+fn compare_merge(
+    rt: &impl Abort,
+    alloc: Global,
+    graph: &mut Graph,
+    list: &mut Vec<Link>,
+    source: u32,
+    target: u32,
+) -> Result<(), Fail> {
+    if no(source) == no(target) {
+        return Ok(());
+    }
+    let merged = plain_merge(alloc, list.as_slice(), no(source), no(target))?;
+    let answer = judge_merge(alloc, graph, source, target)?;
+    assert_eq!(rt;
+        answer,
+        plain(alloc, merged.as_slice())?,
+        "{source} into {target}"
+    );
+    if answer.is_none() {
+        graph.contract(no(source), no(target))?;
+        assert_eq!(rt;
+            graph.size(),
+            count_different(alloc, graph, merged.as_slice())? as u64
+        );
+        for link in merged.as_slice() {
+            assert!(rt; graph.has(link));
+        }
+        *list = merged;
+    }
+    Ok(())
+}
+
 #[test]
 fn as_the_plain_program(rt: HostRuntime) -> Result<(), Fail> {
     let alloc = rt.alloc();
@@ -450,14 +532,9 @@ fn as_the_plain_program(rt: HostRuntime) -> Result<(), Fail> {
                 compare(&rt, alloc, &mut graph, &mut list, &new)?;
             }
         }
-        let source = no(3);
-        let target = no(numbers.below(nodes).saturating_add(1));
-        if source != target {
-            let merged = plain_merge(alloc, list.as_slice(), source, target)?;
-            assert_eq!(rt;
-                judge_merge(alloc, &graph, 3, target.get())?,
-                plain(alloc, merged.as_slice())?
-            );
+        for source in 3..nodes {
+            let target = numbers.below(nodes.saturating_sub(2)).saturating_add(3);
+            compare_merge(&rt, alloc, &mut graph, &mut list, source, target)?;
         }
     }
     Ok(())

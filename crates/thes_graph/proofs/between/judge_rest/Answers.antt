@@ -5,7 +5,7 @@ use Rattle.thes_graph.specs.Sight.{CoversAt, WouldBe}
 use Rattle.thes_graph.specs.declared.relation.Relation.TheVariants.{Related}
 use Rattle.thes_graph.specs.Steps.{Steps}
 use Rattle.thes_graph.specs.Trail.{spent, AreTied, IsTrail, LeadsTo, IsPaid, GoesOn}
-use Rattle.thes_graph.proofs.GoesLemmas.{IsTrail-paid, IsTrail-reach, leads_one_way}
+use Rattle.thes_graph.proofs.GoesLemmas.{IsTrail-paid, IsTrail-reach}
 use Rattle.thes_graph.proofs.between.judge_rest.Goals as goal
 
 pub returns-then-have_none-clause-rest : goal.returns-then-have_none-clause-rest
@@ -13,7 +13,7 @@ returns-then-have_none-clause-rest g c start read is x y has reach related = c.i
 
 pub returns-then-have_none-clause-count : goal.returns-then-have_none-clause-count
 returns-then-have_none-clause-count g c start read ns is covers _ =
-    omega (arith, IsTrail-paid c.args.sight.now (g.L.Links.held c.args.links.now) c.args.relation c.args.goals.now start (leads_one_way c.args.relation c.requires.walked) c.args.other.now read is ns covers)
+    omega (arith, IsTrail-paid c.args.sight.now (g.L.Links.held c.args.links.now) c.args.relation c.args.goals.now start c.requires.walked c.args.other.now read is ns covers)
 
 pub returns-then-branch-clause-rest : goal.returns-then-branch-clause-rest
 returns-then-branch-clause-rest g c start read is =
@@ -37,7 +37,7 @@ pub returns-then-branch-2-clause-count : goal.returns-then-branch-2-clause-count
 returns-then-branch-2-clause-count g c start read ns is covers there =
     let on : IsTrail c.args.sight.now (g.L.Links.held c.args.links.now) c.args.relation c.args.goals.now start c.finish.new.self (read + (g.L.Links.count c.finish.new.links - g.L.Links.count c.args.links.now)) = (rw c.if-branch.false at c.in_ok-finish.ensures.goes) start read is in
     let more : g.L.Links.count c.are_tied.new.links ≤ g.L.Links.count c.finish.new.links + spent c.args.sight.now Beside c.args.ended.now ns = c.in_ok-are_tied.ensures.count ns (rw c.in_ok-finish.ensures.held there) in
-    omega (arith, more, IsTrail-paid c.args.sight.now (g.L.Links.held c.args.links.now) c.args.relation c.args.goals.now start (leads_one_way c.args.relation c.requires.walked) c.finish.new.self _ on ns covers)
+    omega (arith, more, IsTrail-paid c.args.sight.now (g.L.Links.held c.args.links.now) c.args.relation c.args.goals.now start c.requires.walked c.finish.new.self _ on ns covers)
 
 pub returns-clause-rest : goal.returns-clause-rest
 returns-clause-rest g c start read is =
@@ -49,4 +49,4 @@ pub returns-clause-count : goal.returns-clause-count
 returns-clause-count g c start read ns is covers there =
     let on : IsTrail c.args.sight.now (g.L.Links.held c.args.links.now) c.args.relation c.args.goals.now start c.finish.new.self (read + (g.L.Links.count c.finish.new.links - g.L.Links.count c.args.links.now)) = (rw c.if-branch.false at c.in_ok-finish.ensures.goes) start read is in
     let more : g.L.Links.count c.are_tied.new.links ≤ g.L.Links.count c.finish.new.links + spent c.args.sight.now Beside c.args.ended.now ns = c.in_ok-are_tied.ensures.count ns (rw c.in_ok-finish.ensures.held there) in
-    omega (arith, more, IsTrail-paid c.args.sight.now (g.L.Links.held c.args.links.now) c.args.relation c.args.goals.now start (leads_one_way c.args.relation c.requires.walked) c.finish.new.self _ on ns covers)
+    omega (arith, more, IsTrail-paid c.args.sight.now (g.L.Links.held c.args.links.now) c.args.relation c.args.goals.now start c.requires.walked c.finish.new.self _ on ns covers)

@@ -3,20 +3,20 @@ use Rattle.std.proofs.lemmas.Bool.{both_ways}
 use Rattle.thes_base.specs.Links.{Links, HeldIn}
 use Rattle.thes_graph.specs.declared.sight.Sight.TheVariants.{With}
 use Rattle.thes_graph.specs.Local.{BreakNone, CoversNear}
-use Rattle.thes_graph.proofs.JudgeLemmas.{IsFirstBroken-with, CoversNear-with}
+use Rattle.thes_graph.proofs.JudgeLemmas.{CoversNear-with}
 use Rattle.thes_graph.proofs.ContractLemmas.{IsFirstBroken-inserted}
 use Rattle.thes_graph.proofs.judge.judge_normal.Goals as goal
 
 pub returns-clause-answer : goal.returns-clause-answer
 returns-clause-answer g c =
-    let first = c.in_ok-answer-2.ensures.first in
-    inr (both_ways _ (sym c.if-holds.ensures.holds), IsFirstBroken-inserted (g.L.Links.held c.args.links.now) c.args.new.now c.in_ok-answer-2.answer (IsFirstBroken-with (g.L.Links.held c.args.links.now) c.args.new.now c.requires.ends c.if-holds.ensures.two_ends c.requires.unbroken c.in_ok-answer-2.answer (rw c.if-holds.ensures.held at first)))
+    let first = c.in_ok-answer.ensures.first in
+    inr (both_ways _ (sym c.if-holds.ensures.holds), IsFirstBroken-inserted (g.L.Links.held c.args.links.now) c.args.new.now c.in_ok-answer.answer (rw c.if-holds.ensures.held at first))
 
 pub returns-clause-count : goal.returns-clause-count
 returns-clause-count g c ns has_new all =
     let rest = CoversNear-with (g.L.Links.held c.args.links.now) c.args.new.now ns (both_ways _ (sym c.if-holds.ensures.holds)) has_new all in
     let covers : CoversNear (With c.args.new.now) (g.L.Links.held c.args.links.now) c.args.new.now.a rest.0 = rest.2 in
-    let walked : g.L.Links.count c.probe.new.links ≤ g.L.Links.count c.holds.new.self + 6 * length rest.0 = c.in_ok-answer-2.ensures.count rest.0 (rw c.if-holds.ensures.held covers) in
+    let walked : g.L.Links.count c.judge_one_more.new.links ≤ g.L.Links.count c.holds.new.self + 6 * length rest.0 = c.in_ok-answer.ensures.count rest.0 (rw c.if-holds.ensures.held covers) in
     omega (arith, c.if-holds.ensures.count, rest.1)
 
 pub is_harmless-requires-clause-unbroken : goal.is_harmless-requires-clause-unbroken
@@ -32,17 +32,8 @@ returns-then-is_harmless-clause-count g c ns has_new all =
     let some : has_new.0 < length ns = has_new.1 in
     omega (arith, c.if-holds.ensures.count)
 
-pub judge_up-requires-clause-unbroken : goal.judge_up-requires-clause-unbroken
-judge_up-requires-clause-unbroken g c = subst (λ (links : Links). BreakNone (HeldIn links)) (sym c.if-holds.ensures.held) c.requires.unbroken
+pub judge_one_more-requires-clause-two_ends : goal.judge_one_more-requires-clause-two_ends
+judge_one_more-requires-clause-two_ends g c = rw c.if-holds.ensures.held c.if-holds.ensures.two_ends
 
-pub returns-then-leads_up-clause-answer : goal.returns-then-leads_up-clause-answer
-returns-then-leads_up-clause-answer g c =
-    let first = c.in_ok-answer.ensures.first in
-    inr (both_ways _ (sym c.if-holds.ensures.holds), IsFirstBroken-inserted (g.L.Links.held c.args.links.now) c.args.new.now c.in_ok-answer.answer (rw c.if-holds.ensures.held at first))
-
-pub returns-then-leads_up-clause-count : goal.returns-then-leads_up-clause-count
-returns-then-leads_up-clause-count g c ns has_new all =
-    let rest = CoversNear-with (g.L.Links.held c.args.links.now) c.args.new.now ns (both_ways _ (sym c.if-holds.ensures.holds)) has_new all in
-    let covers : CoversNear (With c.args.new.now) (g.L.Links.held c.args.links.now) c.args.new.now.a rest.0 = rest.2 in
-    let walked : g.L.Links.count c.judge_up.new.links ≤ g.L.Links.count c.holds.new.self + 6 * length rest.0 = c.in_ok-answer.ensures.count rest.0 (rw c.if-holds.ensures.held covers) in
-    omega (arith, c.if-holds.ensures.count, rest.1)
+pub judge_one_more-requires-clause-unbroken : goal.judge_one_more-requires-clause-unbroken
+judge_one_more-requires-clause-unbroken g c = subst (λ (links : Links). BreakNone (HeldIn links)) (sym c.if-holds.ensures.held) c.requires.unbroken

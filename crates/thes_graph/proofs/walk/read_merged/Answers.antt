@@ -2,14 +2,14 @@ use Rattle.std.proofs.Common.{◌≡◌, ℕ, subst, arith}
 use Rattle.thes_graph.specs.declared.sight.Sight.TheVariants.{Merged}
 use Rattle.thes_graph.specs.Reading.{IsRow}
 use Rattle.thes_graph.specs.Sight.{CoversAt}
-use Rattle.thes_graph.proofs.ReadLemmas.{IsReadOf-plain, read_few, place-at, place-stays, IsReadOf-target, length-target}
+use Rattle.thes_graph.proofs.ReadLemmas.{IsReadOf-plain, read_few, node_after-at, node_after-stays, IsReadOf-target, length-target}
 use Rattle.thes_graph.proofs.NumberLemmas.{eq_other, ne_other, ne_same}
 use Rattle.thes_graph.proofs.walk.read_merged.Goals as goal
 
 pub returns-then-ne-clause-read : goal.returns-then-ne-clause-read
 returns-then-ne-clause-read g c =
     IsReadOf-plain (Merged c.args.source c.args.target) (g.L.Links.held c.args.links.now) c.args.node c.in_ok-row.row.items c.in_ok-row.ensures.listed
-    (λ x. place-at c.args.source c.args.target c.requires c.args.node x (ne_other _ _ _ c.ne.ensures c.if-ne.true))
+    (λ x. node_after-at c.args.source c.args.target c.requires c.args.node x (ne_other _ _ _ c.ne.ensures c.if-ne.true))
 
 pub returns-then-ne-clause-count : goal.returns-then-ne-clause-count
 returns-then-ne-clause-count g c ns covers =
@@ -17,7 +17,7 @@ returns-then-ne-clause-count g c ns covers =
       arith,
       c.in_ok-row.ensures.count,
       read_few (Merged c.args.source c.args.target) (g.L.Links.held c.args.links.now) c.args.node c.in_ok-row.row.items c.in_ok-row.ensures.listed
-          (λ x. place-stays c.args.source c.args.target c.requires c.args.node x (eq_other _ _ _ c.eq.ensures c.if-eq.false)) ns covers,
+          (λ x. node_after-stays c.args.source c.args.target c.requires c.args.node x (eq_other _ _ _ c.eq.ensures c.if-eq.false)) ns covers,
     )
 
 pub returns-clause-read : goal.returns-clause-read

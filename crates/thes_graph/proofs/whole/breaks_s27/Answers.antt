@@ -30,3 +30,6 @@ pub returns-clause-s27 : goal.returns-clause-s27
 returns-clause-s27 g c =
     s27_all (HeldIn (g.L.Links.held c.args.links.now))
     (λ l held. holds_all (IsFree (HeldIn (g.L.Links.held c.args.links.now))) c.args.all.now c.loop-link.link-index (omega arith) c.loop-link.invariant.free l (c.requires.all.complete l held))
+
+pub has_end_above-requires : goal.has_end_above-requires
+has_end_above-requires g c = c.requires.two_ends c.link-item.result (c.requires.all.sound c.link-item.result (c.loop-link.link-index, c.loop-link-test.true, sym c.link-item.is))

@@ -1,6 +1,6 @@
 use Rattle.std.proofs.Common.{◌≡◌, ◌-◌, ◌+◌, ◌≤◌, ℕ, List, arith, refl, ap, ◌∙◌, get_or}
 use Rattle.std.proofs.lemmas.List.{get_or_default}
-use Rattle.thes_graph.proofs.GoesLemmas.{is_walked, leads_one_way, GoesOn-more}
+use Rattle.thes_graph.proofs.GoesLemmas.{is_walked, GoesOn-more}
 use Rattle.thes_graph.proofs.trail.Trail.advance.Goals as goal
 
 pub follow_on-requires-clause-walked : goal.follow_on-requires-clause-walked
@@ -8,7 +8,7 @@ follow_on-requires-clause-walked g c = is_walked c.args.relation c.requires.walk
 
 pub returns-clause-goes : goal.returns-clause-goes
 returns-clause-goes g c start read is =
-    GoesOn-more c.args.sight.now (g.L.Links.held c.args.links.now) c.args.relation c.args.goals.now start (leads_one_way c.args.relation c.requires.walked)
+    GoesOn-more c.args.sight.now (g.L.Links.held c.args.links.now) c.args.relation c.args.goals.now start c.requires.walked
     c.args.self.now (record { nodes = c.follow_on.new.nodes; next = c.args.self.now.next + 1 }) c.index-as_slice-self.result
     (g.L.Links.count c.follow_on.new.links - g.L.Links.count c.args.links.now) read (read + (g.L.Links.count c.follow_on.new.links - g.L.Links.count c.args.links.now))
     c.requires.more

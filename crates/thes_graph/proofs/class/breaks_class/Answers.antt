@@ -8,7 +8,7 @@ use Rattle.thes_graph.specs.Local.{IsGathered, IsS46At, NoS46At}
 use Rattle.thes_graph.specs.Sight.{WouldBe}
 use Rattle.thes_graph.proofs.SightLemmas.{would_two}
 use Rattle.thes_graph.proofs.ProbeLemmas.{class_alone, s46_found, s46_none, near_same}
-use Rattle.thes_graph.proofs.judge.breaks_class.Goals as goal
+use Rattle.thes_graph.proofs.class.breaks_class.Goals as goal
 
 pub returns-then-is_end_after-clause-found : goal.returns-then-is_end_after-clause-found
 returns-then-is_end_after-clause-found g c =

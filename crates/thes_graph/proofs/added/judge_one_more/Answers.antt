@@ -1,0 +1,37 @@
+use Rattle.std.proofs.Common.{◌≡◌, ◌+◌, ◌*◌, ◌≤◌, length, arith, Option, Some, None, true, false}
+use Rattle.thes_base.specs.declared.fault.Refusal.{Refusal}
+use Rattle.thes_base.specs.Links.{HeldIn, S46}
+use Rattle.thes_graph.specs.declared.sight.Sight.TheVariants.{With}
+use Rattle.thes_graph.specs.Sight.{WouldBe}
+use Rattle.thes_graph.specs.Local.{IsFirstOfTwo}
+use Rattle.thes_graph.specs.Whole.{IsSomeS46}
+use Rattle.thes_graph.proofs.KindLemmas.{IsFirstBroken-two}
+use Rattle.thes_graph.proofs.added.judge_one_more.Goals as goal
+
+pub returns-in-Some-clause-first : goal.returns-in-Some-clause-first
+returns-in-Some-clause-first g c =
+    IsFirstBroken-two (WouldBe (With c.args.new.now) (g.L.Links.held c.args.links.now)) c.in-Some.refusal (rw c.in-Some.is at c.in_ok-refusal.ensures.first)
+
+pub returns-then-branch-clause-first : goal.returns-then-branch-clause-first
+returns-then-branch-clause-first g c =
+    let two : IsFirstOfTwo (WouldBe (With c.args.new.now) (g.L.Links.held c.args.links.now)) None = rw c.in-None.is at c.in_ok-refusal.ensures.first in
+    let found : IsSomeS46 (WouldBe (With c.args.new.now) (g.L.Links.held c.args.links.now)) = rw (c.if-branch.true, c.in_ok-refusal.ensures.held) at c.in_ok-breaks_s46.ensures.s46 in
+    (two.0, two.1, found)
+
+pub returns-then-branch-clause-count : goal.returns-then-branch-clause-count
+returns-then-branch-clause-count g c ns covers =
+    let one : g.L.Links.count c.judge_chains.new.links ≤ g.L.Links.count c.args.links.now + 4 * length ns = c.in_ok-refusal.ensures.count ns covers in
+    let two : g.L.Links.count c.breaks_s46.new.links ≤ g.L.Links.count c.judge_chains.new.links + 2 * length ns = c.in_ok-breaks_s46.ensures.count ns (rw c.in_ok-refusal.ensures.held covers) in
+    omega (arith, one, two)
+
+pub returns-clause-first : goal.returns-clause-first
+returns-clause-first g c =
+    let two : IsFirstOfTwo (WouldBe (With c.args.new.now) (g.L.Links.held c.args.links.now)) None = rw c.in-None.is at c.in_ok-refusal.ensures.first in
+    let off : S46 (WouldBe (With c.args.new.now) (g.L.Links.held c.args.links.now)) = rw (c.if-branch.false, c.in_ok-refusal.ensures.held) at c.in_ok-breaks_s46.ensures.s46 in
+    (two.0, two.1, off)
+
+pub returns-clause-count : goal.returns-clause-count
+returns-clause-count g c ns covers =
+    let one : g.L.Links.count c.judge_chains.new.links ≤ g.L.Links.count c.args.links.now + 4 * length ns = c.in_ok-refusal.ensures.count ns covers in
+    let two : g.L.Links.count c.breaks_s46.new.links ≤ g.L.Links.count c.judge_chains.new.links + 2 * length ns = c.in_ok-breaks_s46.ensures.count ns (rw c.in_ok-refusal.ensures.held covers) in
+    omega (arith, one, two)

@@ -1,0 +1,39 @@
+use Rattle.std.proofs.Common.{◌≡◌, ◌+◌, ◌-◌, ◌≤◌, ◌<◌, ℕ, List, true, false, arith, subst, sym, get_or}
+use Rattle.thes_base.specs.declared.data.Link.{Link}
+use Rattle.thes_base.specs.Links.{Links, HeldIn}
+use Rattle.thes_graph.specs.Reading.{HaveTwoEnds, IsRow}
+use Rattle.thes_graph.specs.Side.{side_in, IsPart}
+use Rattle.thes_graph.specs.Towards.{AreTowards, HasLed}
+use Rattle.thes_graph.proofs.TowardsLemmas.{back_walked, second_step}
+use Rattle.thes_graph.proofs.towards.take_step.Goals as goal
+
+pub advance_at-requires-clause-walked : goal.advance_at-requires-clause-walked
+advance_at-requires-clause-walked g c = rw c.turn_back-back.ensures (back_walked c.args.relation c.requires.walked)
+
+pub advance_at-requires-clause-two_ends : goal.advance_at-requires-clause-two_ends
+advance_at-requires-clause-two_ends g c = rw c.in_ok-earn.ensures.held c.next_part-part.ensures.two_ends
+
+pub advance_at-requires-clause-listed : goal.advance_at-requires-clause-listed
+advance_at-requires-clause-listed g c = rw (c.in_ok-earn.ensures.held, c.in_ok-earn.ensures.rows) c.next_part-part.ensures.listed
+
+pub advance_at-requires-clause-part : goal.advance_at-requires-clause-part
+advance_at-requires-clause-part g c = rw c.in_ok-earn.ensures.rows c.next_part-part.ensures.part
+
+pub returns-then-branch-clause-goes : goal.returns-then-branch-clause-goes
+returns-then-branch-clause-goes g c from to before are =
+    (rw c.if-branch.true at c.in_ok-earn.ensures.goes) c.args.froms.now from to before c.args.second.now are
+
+pub returns-then-left-size-clause-goes : goal.returns-then-left-size-clause-goes
+returns-then-left-size-clause-goes g c from to before are =
+    (rw c.if-branch.false at c.in_ok-earn.ensures.goes) c.args.froms.now from to before c.args.second.now are
+
+pub returns-clause-goes : goal.returns-clause-goes
+returns-clause-goes g c from to before are =
+    let on : AreTowards (g.L.Links.held c.args.links.now) c.args.relation c.args.froms.now c.args.tos.now from to c.earn.new.first c.args.second.now c.earn.new.left before (g.L.Links.count c.earn.new.links) =
+    (rw c.if-branch.false at c.in_ok-earn.ensures.goes) c.args.froms.now from to before c.args.second.now are in
+    rw c.size-size.ensures (
+    second_step (g.L.Links.held c.args.links.now) c.args.relation c.requires.walked c.args.froms.now c.args.tos.now from to before
+    c.earn.new.first c.args.second.now c.advance_at.new.self c.earn.new.left (c.next_part-part.result.to - c.next_part-part.result.from)
+    (g.L.Links.count c.earn.new.links) (g.L.Links.count c.advance_at.new.links) c.in_ok-found.found
+    (omega (arith, c.if-left-size.false, c.size-size.ensures)) c.in_ok-found.ensures.count
+    (λ read. (rw (c.turn_back-back.ensures, c.in_ok-earn.ensures.held) at c.in_ok-found.ensures.goes) to read) on)

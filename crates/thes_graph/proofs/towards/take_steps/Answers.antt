@@ -1,0 +1,14 @@
+use Rattle.std.proofs.Common.{◌∙◌}
+use Rattle.thes_graph.proofs.towards.take_steps.Goals as goal
+
+pub steps-preserved : goal.steps-preserved
+steps-preserved g c = record {
+  held = c.in_ok-take_step.ensures.held ∙ c.steps.invariant.held;
+  outside = c.in_ok-take_step.ensures.outside ∙ c.steps.invariant.outside;
+  rows = c.in_ok-take_step.ensures.rows ∙ c.steps.invariant.rows;
+  goes = λ from to before are. (rw (c.if-branch.false, c.steps.invariant.held) at c.in_ok-take_step.ensures.goes) from to before (c.steps.invariant.goes from to before are);
+}
+
+pub returns-then-branch-clause-goes : goal.returns-then-branch-clause-goes
+returns-then-branch-clause-goes g c from to before are =
+    (rw (c.if-branch.true, c.steps.invariant.held) at c.in_ok-take_step.ensures.goes) from to before (c.steps.invariant.goes from to before are)
