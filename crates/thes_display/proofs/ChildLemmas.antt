@@ -3,10 +3,10 @@ use Rattle.std.proofs.Common.{◌≡◌, ◌∙◌, ◌<◌, ◌≤◌, sym, ap,
 use Rattle.std.specs.Prelude.{Contains, slice_get, IsTrue, ◌↔◌}
 use Rattle.std.specs.Option.{option_map_or}
 use Rattle.std.specs.Ordering.{nat_cmp}
-use Rattle.std.specs.Cmp.{IsTotalOrder, nat_cmp_total}
+use Rattle.std.specs.Cmp.{IsTotalOrder, nat_cmp_total, tied_itself}
 use Rattle.std.proofs.lemmas.Cmp.{on_total}
 use Rattle.std.proofs.lemmas.List.{map-append}
-use Rattle.std.proofs.lemmas.List.Sorted.{Contains-permutation, IsPermutation-sym}
+use Rattle.std.specs.List.Sorted.{IsStrictlySortedBy}
 use Rattle.std.proofs.lemmas.Option.{slice_get_within, slice_get-get_or}
 use Rattle.std.proofs.lemmas.Map.Lookups.{exact_unsigned}
 use Rattle.thes_base.specs.Links.{Links}
@@ -22,7 +22,7 @@ use Rattle.thes_display.specs.Hierarchical.{HasKey, IsBroader, IsTop, IsHome, Is
 use Rattle.thes_display.specs.Gathered.{AreKeys, AreHomes, HaveOneKey, IsHomeKey, IsChildAt, IsChild, IsClosed}
 use Rattle.thes_display.proofs.WalkLemmas.{Among, among, contains_of, among_append}
 use Rattle.thes_display.proofs.GatherLemmas.{one_concept, key_within}
-use Rattle.thes_display.proofs.SortLemmas.{strict_from}
+use Rattle.thes_display.proofs.SortLemmas.{rises_by, relisted}
 use Rattle.thes_display.proofs.HomeLemmas.{key_from, key_to}
 
 module _ (links : Links) (terms : List Term) (b : ℕ) where
@@ -126,11 +126,11 @@ module _ (links : Links) (terms : List Term) (b : ℕ) where
   broader_of_child true k p = p.broader
   broader_of_child false k p = p.broader
 
-  pub children_listed : (keys : ℕ → Option ℕ) → AreKeys terms keys → (n : ℕ) → HasKey terms n b → (xs ks : List ℕ) → IsListing nat_cmp (λ a. HasBroader links a n) xs → map (λ k. Some k) ks ≡ map keys xs
-      → (made children : List Child) → AreChildren ks made → IsPermutation made children → IsSorted child_cmp children → IsListing child_cmp (IsChild links terms b) children
-  children_listed keys are n here xs ks listed found made children a p sorted = record {
-    rises = strict_from child_cmp child_total (λ (c : Child). concept_at c.key) (λ x y e. ap concept_at (exact_unsigned x.key y.key e)) xs made children listed.rises (concepts_are keys are ks xs made found a.keys_are) p sorted;
-    sound = λ c i. a.kinds c (among c made (Contains-permutation children made c (IsPermutation-sym made children p) i));
+  made_children : (keys : ℕ → Option ℕ) → AreKeys terms keys → (n : ℕ) → HasKey terms n b → (xs ks : List ℕ) → IsListing nat_cmp (λ a. HasBroader links a n) xs → map (λ k. Some k) ks ≡ map keys xs
+      → (made : List Child) → AreChildren ks made → IsListing (λ x y. nat_cmp (concept_at x.key) (concept_at y.key)) (IsChild links terms b) made
+  made_children keys are n here xs ks listed found made a = record {
+    rises = rises_by (λ (c : Child). concept_at c.key) made (subst (IsStrictlySortedBy nat_cmp) (sym (concepts_are keys are ks xs made found a.keys_are)) listed.rises);
+    sound = λ c i. a.kinds c (among c made i);
     complete = λ c i.
         let r = broader_of_child c.at_home c.key i.0 in
         let link = subst (λ m. HasBroader links r.lower m) (one_concept terms r.upper n b r.upper_key here) r.link in
@@ -140,8 +140,15 @@ module _ (links : Links) (terms : List Term) (b : ℕ) where
         let home = one_kind c.key c.at_home d.0.at_home i.0 (subst (λ k. IsChildAt links terms d.0.at_home k b) d.2 made_as.0) in
         let types = one_types c.key c.types d.0.types i.1 (subst (λ k. AreTypes links terms d.0.types k b) d.2 made_as.1) in
         let same = same_child c d.0 (sym d.2) types home in
-        Contains-permutation made children c p (contains_of c made (subst (λ z. Among z made) (sym same) d.1));
+        contains_of c made (subst (λ z. Among z made) (sym same) d.1);
   }
+
+  pub children_listed : (keys : ℕ → Option ℕ) → AreKeys terms keys → (n : ℕ) → HasKey terms n b → (xs ks : List ℕ) → IsListing nat_cmp (λ a. HasBroader links a n) xs → map (λ k. Some k) ks ≡ map keys xs
+      → (made children : List Child) → AreChildren ks made → IsPermutation made children → IsSorted child_cmp children → IsListing child_cmp (IsChild links terms b) children
+  children_listed keys are n here xs ks listed found made children a p sorted =
+      relisted (λ x y. nat_cmp (concept_at x.key) (concept_at y.key)) child_cmp (on_total (λ (c : Child). concept_at c.key) nat_cmp_total) child_total
+        (λ x y e. ap (λ i. nat_cmp (concept_at i) (concept_at y.key)) (exact_unsigned x.key y.key e) ∙ tied_itself nat_cmp_total (concept_at y.key))
+        (IsChild links terms b) made children (made_children keys are n here xs ks listed found made a) p sorted
 
   -- each key found is that of a narrower concept
   pub broader_at : (keys : ℕ → Option ℕ) → AreKeys terms keys → (n : ℕ) → HasKey terms n b → (xs ks : List ℕ) → IsListing nat_cmp (λ a. HasBroader links a n) xs → map (λ k. Some k) ks ≡ map keys xs → (k : ℕ) → Contains ks k → IsBroader links terms k b

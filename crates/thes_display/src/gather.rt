@@ -2,20 +2,19 @@
 ghost use Rattle.std.specs.Prelude.{◌≡◌, ◌<◌, ◌≤◌, Contains, true, OnOk, IsPermutation, IsSorted, ◌↔◌, ℕ, Some, false, length, slice_get, map, IsSome, All, IfOk, MatchOption, IsTrue};
 ghost use Rattle.std.specs.BTreeMap.{get};
 ghost use Rattle.std.specs.Ordering.{nat_cmp};
-ghost use Rattle.thes_base.specs.Links.{IsHierarchical as IsHierarchicalKind};
 ghost use Rattle.thes_base.specs.Listing.{IsListing};
-ghost use Rattle.thes_base.specs.Views.{HasLink};
 ghost use Rattle.thes_vocab.specs.Vocabulary.{IsConceptOf};
 ghost use Rattle.thes_display.specs.Below.{child_cmp, lists};
 ghost use Rattle.thes_display.specs.Lines.{untyped as no_types};
 ghost use Rattle.thes_display.specs.Hierarchical.{AreTerms, AreTypes, IsHierarchical};
 ghost use Rattle.thes_display.specs.Gathered.{AreHomes, AreKeys, HaveOneKey, IsClosed, IsChild, IsHomeKey, AreBelow, IsHomeless};
 
-use crate::term::{Term, sort_terms};
+use crate::chosen::{has_link, terms_of_all};
+use crate::term::Term;
 use crate::walk::{Child, Types, hierarchy_text};
 use std::alloc::{AllocError, Global};
 use std::collections::BTreeMap;
-use thes_base::data::{Link, LinkKind};
+use thes_base::data::LinkKind;
 use thes_base::number::ResNo;
 use thes_base::text::Tag;
 use thes_core::Core;
@@ -27,12 +26,7 @@ pub fn terms_of(alloc: Global, core: &Core, scheme: ResNo, tag: &Tag) -> Result<
     ensures one_key { IfOk result (λ terms. HaveOneKey terms.items) }
     ensures closed { IfOk result (λ terms. IsClosed core.now.state.links terms.items) }
 {
-    let mut terms = Vec::new(alloc);
-    for concept in core.live_of(scheme) {
-        let text = core.term(alloc, *concept, tag)?;
-        terms.push(Term::new(alloc, text, *concept)?)?;
-    }
-    sort_terms(&mut terms)?;
+    let terms = terms_of_all(alloc, core, core.live_of(scheme), tag)?;
     Ok(terms)
 }
 
@@ -116,15 +110,6 @@ fn sort_children(children: &mut Vec<Child>) -> Result<(), AllocError>
 {
     children.sort_by_key(|child| child.key)?;
     Ok(())
-}
-
-// Whether the concept a is narrower than b by a link of this kind.
-fn has_link(core: &Core, kind: LinkKind, a: ResNo, b: ResNo) -> bool
-    requires unspent { core.now.spent ≡ false }
-    requires hierarchical { IsHierarchicalKind kind }
-    ensures { IsTrue result ↔ HasLink core.now.state.links kind a b }
-{
-    core.has(&Link { kind, a, b })
 }
 
 // The types of the links from a concept to a broader one, both by their keys.
