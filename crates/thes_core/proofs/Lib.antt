@@ -4,3 +4,4 @@ pub mod JudgeLemmas
 pub mod OutsideLemmas
 pub mod ApplyLemmas
 pub mod ShownLemmas
+pub mod DisplayLemmas

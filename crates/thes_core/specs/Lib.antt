@@ -4,3 +4,4 @@ pub mod Decides
 pub mod Requests
 pub mod View
 pub mod Shown
+pub mod Terms

@@ -3,6 +3,7 @@
 
 mod arguments;
 mod changing;
+pub mod displayed;
 mod judging;
 pub mod machine;
 pub mod reading;

@@ -1,0 +1,38 @@
+//! What displays ask of a core. None may be asked of a spent one.
+ghost use Rattle.std.specs.Prelude.{◌≡◌, ◌↔◌, ℕ, false, string_bytes, IfOk};
+ghost use Rattle.std.specs.Ordering.{nat_cmp};
+ghost use Rattle.thes_base.specs.declared.data.LinkKind.{LinkKind as Kind};
+ghost use Rattle.thes_base.specs.declared.data.LinkForm.TheVariants.{Within};
+ghost use Rattle.thes_base.specs.Links.{form_of};
+ghost use Rattle.thes_base.specs.Listing.{IsListing};
+ghost use Rattle.thes_base.specs.Views.{HasLink};
+ghost use Rattle.thes_core.specs.Terms.{term_text};
+ghost use Rattle.thes_vocab.specs.Vocabulary.{IsConceptOf};
+
+use crate::machine::Core;
+use std::alloc::{AllocError, Global};
+use thes_base::number::ResNo;
+use thes_base::text::Tag;
+
+impl Core {
+    /// Lists the scheme's live concepts, rising. What a link within a scheme joins to one of them is one of them.
+    pub fn live_of(&self, scheme: ResNo) -> &[ResNo]
+        requires { self.now.spent ≡ false }
+        ensures listed { IsListing nat_cmp (IsConceptOf self.now.state.resources scheme) result.now }
+        ensures closed { let is_in = IsConceptOf self.now.state.resources scheme in
+            (kind : Kind) (a b : ℕ) → form_of kind ≡ Within → HasLink self.now.state.links kind a b → is_in a ↔ is_in b }
+    {
+        self.thesaurus.vocab.live_of(scheme)
+    }
+
+    /// Makes what stands for a concept in the language: its preferred label, or its number in brackets where it has none.
+    pub fn term(&self, alloc: Global, n: ResNo, tag: &Tag) -> Result<String, AllocError>
+        requires { self.now.spent ≡ false }
+        ensures { IfOk result (λ text. string_bytes text ≡ term_text self.now.state.labels tag.now n) }
+    {
+        match self.preferred(n, tag) {
+            Some(text) => String::from_str(alloc, text.as_str()),
+            None => format!(in alloc; "[{}]", n.get()),
+        }
+    }
+}

@@ -1,0 +1,87 @@
+-- The tops are the concepts without a home.
+use Rattle.std.proofs.Common.{◌≡◌, ◌∙◌, ◌⊎◌, ◌<◌, ◌≤◌, ◌+◌, sym, ap, refl, subst, ℕ, Bool, true, false, List, [], ◌∷◌, ◌++◌, length, get_or, Option, Some, None, arith, Ordering, Less, ⊎_elim, inl, inr, lt-ltb, true≢false}
+use Rattle.std.specs.Prelude.{Contains, slice_get, is_some, not}
+use Rattle.std.specs.Ordering.{nat_cmp}
+use Rattle.std.proofs.lemmas.Bool.{cases_lt, cases_eq}
+use Rattle.std.proofs.lemmas.Option.{slice_get_within, slice_get-get_or}
+use Rattle.thes_base.specs.Links.{Links}
+use Rattle.thes_base.specs.Listing.{IsListing}
+use Rattle.thes_base.specs.Views.{HasBroader}
+use Rattle.thes_display.specs.declared.walk.Child.{Child}
+use Rattle.thes_display.specs.Order.{Term}
+use Rattle.thes_display.specs.Lines.{untyped}
+use Rattle.thes_display.specs.Below.{child, child_cmp}
+use Rattle.thes_display.specs.Hierarchical.{HasKey, IsTop}
+use Rattle.thes_display.specs.Gathered.{AreHomes, AreBelow, IsHomeless, IsGathered}
+use Rattle.thes_display.proofs.WalkLemmas.{Among, among, contains_of, among_append, among_left, among_right, rises_none, rises_more}
+use Rattle.thes_display.proofs.GatherLemmas.{one_concept, key_within}
+
+less_from : (x y : ℕ) → x < y → nat_cmp x y ≡ Less
+less_from x y l = rw lt-ltb
+
+-- the tops with keys below m
+abbrev pub AreTops : List (Option ℕ) → ℕ → List Child → Type 0
+AreTops homes m tops = IsListing child_cmp (λ c. IsHomeless homes c × (c.key < m)) tops
+
+module _ (homes : List (Option ℕ)) where
+  pub tops_none : (tops : List Child) → tops ≡ [] → AreTops homes 0 tops
+  tops_none tops e = subst (AreTops homes 0) (sym e) (record { rises = rises_none child_cmp; sound = λ c a. absurd (among c [] a); complete = λ c i. let l = i.1 in absurd (omega arith) })
+
+  pub tops_more : (m : ℕ) (tops new : List Child) → AreTops homes m tops → slice_get homes m ≡ Some None → new ≡ tops ++ child m untyped true ∷ [] → AreTops homes (m + 1) new
+  tops_more m tops new t h e = subst (AreTops homes (m + 1)) (sym e) (record {
+    rises = rises_more child_cmp tops (child m untyped true) t.rises (λ w a. less_from w.key m (t.sound w (contains_of w tops a)).1);
+    sound = λ c a. ⊎_elim
+        (λ old. let r = t.sound c (contains_of c tops old) in (r.0, let l = r.1 in omega arith))
+        (λ last. ⊎_elim (λ same. subst (λ x. IsHomeless homes x × (x.key < m + 1)) (sym same) (((refl, refl), h), omega arith)) (λ n. absurd n) last)
+        (among_append c tops (child m untyped true ∷ []) (among c (tops ++ child m untyped true ∷ []) a));
+    complete = λ c i. contains_of c (tops ++ child m untyped true ∷ []) (⊎_elim
+        (λ old. among_left c tops (child m untyped true ∷ []) (among c tops (t.complete c (i.0, old))))
+        (λ last. let l = i.1 in let k : c.key ≡ m = omega (arith, l, last) in among_right c tops (child m untyped true ∷ []) (inl (λ j. record { key = k j; types = i.0.0.1 j; at_home = i.0.0.0 j })))
+        (cases_lt c.key m));
+  })
+
+  one_of : (x y : Option ℕ) → Some x ≡ Some y → x ≡ y
+  one_of x y e = cc
+
+  pub tops_skip : (m j : ℕ) (tops : List Child) → AreTops homes m tops → slice_get homes m ≡ Some (Some j) → AreTops homes (m + 1) tops
+  tops_skip m j tops t h = record {
+    rises = t.rises;
+    sound = λ c a. let r = t.sound c a in (r.0, let l = r.1 in omega arith);
+    complete = λ c i. ⊎_elim (λ old. t.complete c (i.0, old))
+        (λ last. let l = i.1 in let k : c.key ≡ m = omega (arith, l, last) in let f : Some None ≡ Some (Some j) = sym i.0.1 ∙ ap (slice_get homes) k ∙ h in let g : None ≡ Some j = one_of None (Some j) f in absurd (cc))
+        (cases_lt c.key m);
+  }
+
+  pub tops_whole : (m : ℕ) (tops : List Child) → length homes ≤ m → AreTops homes m tops → IsListing child_cmp (IsHomeless homes) tops
+  tops_whole m tops l t = record {
+    rises = t.rises;
+    sound = λ c a. (t.sound c a).0;
+    complete = λ c i. t.complete c (i, let w = slice_get_within homes c.key None i.1 in omega (arith, w, l));
+  }
+
+  pub gathered : (links : Links) (terms : List Term) (tops : List Child) (below : List (List Child)) → AreHomes links terms (length terms) homes → IsListing child_cmp (IsHomeless homes) tops → AreBelow links terms (length terms) below → IsGathered links terms tops below
+  gathered links terms tops below are t a = record {
+    size = a.size;
+    tops_listed = record {
+      rises = t.rises;
+      sound = λ c i. let r = t.sound c i in (r.0, are.each c.key None r.1);
+      complete = λ c i. t.complete c (i.0, homeless c.key i.1 (homes_at c.key i.1));
+    };
+    below_listed = a.each;
+  }
+    where
+      homes_at : (k : ℕ) → IsTop links terms k → (home : Option ℕ) × (slice_get homes k ≡ Some home)
+      homes_at k top = let s = are.size in let w = key_within terms top.concept k top.key in (_, slice_get-get_or homes k None (omega (arith, s, w)))
+
+      homeless : (k : ℕ) → IsTop links terms k → ((home : Option ℕ) × (slice_get homes k ≡ Some home)) → slice_get homes k ≡ Some None
+      homeless k top (None, e) = e
+      homeless k top (Some j, e) =
+          let x = (are.each k (Some j) e).broader in
+          absurd (top.none x.upper (subst (λ n. HasBroader links n x.upper) (one_concept terms x.lower top.concept k x.lower_key top.key) x.link))
+
+-- one key more, whether it has a home or not
+pub by_home : (homes : List (Option ℕ)) (m : ℕ) (tops new : List Child) (home : Option ℕ) (b : Bool) → AreTops homes m tops → slice_get homes m ≡ Some home → is_some home ≡ not b → (b ≡ true → new ≡ tops ++ child m untyped true ∷ []) → (b ≡ false → new ≡ tops) → AreTops homes (m + 1) new
+by_home homes m tops new None true t at is more same = tops_more homes m tops new t at (more refl)
+by_home homes m tops new None false t at is more same = absurd (cc)
+by_home homes m tops new (Some j) true t at is more same = absurd (cc)
+by_home homes m tops new (Some j) false t at is more same = subst (AreTops homes (m + 1)) (sym (same refl)) (tops_skip homes m j tops t at)

@@ -1,0 +1,217 @@
+-- That a walk from the tops down writes the lines in the order of their paths.
+use Rattle.std.proofs.Common.{◌≡◌, ◌⊎◌, ◌∙◌, ◌<◌, ◌+◌, sym, ap, refl, subst, ℕ, zero, suc, Bool, true, false, List, [], ◌∷◌, ◌++◌, reverse, map, length, arith, ⊎_elim, inl, inr, append_assoc, append-nil, Ordering, Less, Equal, true≢false}
+use mathlib.Core.List.{reverse_aux, reverse_aux-eq, reverse-cons}
+use Rattle.std.specs.Prelude.{Contains}
+use Rattle.std.specs.Ordering.{ordering_then, nat_cmp}
+use Rattle.std.specs.Cmp.{IsTotalOrder, tied_itself, nat_cmp_total}
+use Rattle.std.specs.Cmp.Lexicographic.{slice_cmp}
+use Rattle.std.specs.List.{AllByRecursion, slice_index_or}
+use Rattle.std.specs.List.Sorted.{IsStrictlySortedBy}
+use Rattle.thes_base.specs.Listing.{IsListing}
+use Rattle.thes_display.specs.declared.walk.Child.{Child}
+use Rattle.thes_display.specs.Lines.{Line, path, line_cmp, IsHomeward, IsPlaced, IsLine}
+use Rattle.thes_display.specs.Below.{at, child, child_cmp, IsTopOf, IsUnder, IsLineOf, IsHierarchy}
+
+-- Membership by recursion.
+
+abbrev pub Among : {X : Type 0} → X → List X → Type 0
+Among x [] = ⊥
+Among x (y ∷ ys) = (x ≡ y) ⊎ Among x ys
+
+in_cases : {X : Type 0} (x z : X) (xs : List X) (k : ℕ) → k < length (x ∷ xs) → slice_index_or (x ∷ xs) k z ≡ z → (z ≡ x) ⊎ Contains xs z
+in_cases x z xs zero l e = inl (sym e)
+in_cases x z xs (suc k) l e = inr (k, omega arith, e)
+
+pub among : {X : Type 0} (z : X) (xs : List X) → Contains xs z → Among z xs
+among z [] c = let l = c.1 in absurd (omega arith)
+among z (x ∷ xs) c = ⊎_elim (λ e. inl e) (λ more. inr (among z xs more)) (in_cases x z xs c.0 c.1 c.2)
+
+pub contains_of : {X : Type 0} (z : X) (xs : List X) → Among z xs → Contains xs z
+contains_of z [] c = absurd c
+contains_of z (x ∷ xs) (inl e) = (0, omega arith, sym e)
+contains_of z (x ∷ xs) (inr c) = let r = contains_of z xs c in (suc r.0, omega (arith, r.1), r.2)
+
+pub among_append : {X : Type 0} (z : X) (xs ys : List X) → Among z (xs ++ ys) → Among z xs ⊎ Among z ys
+among_append z [] ys a = inr a
+among_append z (x ∷ xs) ys (inl e) = inl (inl e)
+among_append z (x ∷ xs) ys (inr a) = ⊎_elim (λ l. inl (inr l)) (λ r. inr r) (among_append z xs ys a)
+
+pub among_left : {X : Type 0} (z : X) (xs ys : List X) → Among z xs → Among z (xs ++ ys)
+among_left z [] ys a = absurd a
+among_left z (x ∷ xs) ys (inl e) = inl e
+among_left z (x ∷ xs) ys (inr a) = inr (among_left z xs ys a)
+
+pub among_right : {X : Type 0} (z : X) (xs ys : List X) → Among z ys → Among z (xs ++ ys)
+among_right z [] ys a = a
+among_right z (x ∷ xs) ys a = inr (among_right z xs ys a)
+
+pub among_map : {X Y : Type 0} (f : X → Y) (z : Y) (xs : List X) → Among z (map f xs) → (x : X) × Among x xs × (z ≡ f x)
+among_map f z [] a = absurd a
+among_map f z (x ∷ xs) (inl e) = (x, inl refl, e)
+among_map f z (x ∷ xs) (inr a) = let r = among_map f z xs a in (r.0, inr r.1, r.2)
+
+pub map_among : {X Y : Type 0} (f : X → Y) (x : X) (xs : List X) → Among x xs → Among (f x) (map f xs)
+map_among f x [] a = absurd a
+map_among f x (y ∷ xs) (inl e) = inl (ap f e)
+map_among f x (y ∷ xs) (inr a) = inr (map_among f x xs a)
+
+pub all_of : {X : Type 0} (P : X → Type 0) (xs : List X) → ((z : X) → Among z xs → P z) → AllByRecursion P xs
+all_of P [] f = tt
+all_of P (x ∷ xs) f = (f x (inl refl), all_of P xs (λ z a. f z (inr a)))
+
+pub each_of : {X : Type 0} (P : X → Type 0) (xs : List X) (z : X) → AllByRecursion P xs → Among z xs → P z
+each_of P [] z all a = absurd a
+each_of P (x ∷ xs) z all (inl e) = subst P (sym e) all.0
+each_of P (x ∷ xs) z all (inr a) = each_of P xs z all.1 a
+
+pub rises_none : {X : Type 0} (cmp : X → X → Ordering) → IsStrictlySortedBy cmp []
+unfolding IsStrictlySortedBy
+rises_none cmp = tt
+
+-- one more at the end of a list in order
+pub rises_more : {X : Type 0} (cmp : X → X → Ordering) (xs : List X) (z : X) → IsStrictlySortedBy cmp xs → ((w : X) → Among w xs → cmp w z ≡ Less) → IsStrictlySortedBy cmp (xs ++ z ∷ [])
+unfolding IsStrictlySortedBy
+rises_more cmp [] z s f = (tt, tt)
+rises_more cmp (x ∷ xs) z s f = (
+  all_of _ (xs ++ z ∷ []) (λ y a. ⊎_elim (λ l. each_of _ xs y s.0 l) (λ r. ⊎_elim (λ e. subst (λ q. cmp x q ≡ Less) (sym e) (f x (inl refl))) (λ n. absurd n) r) (among_append y xs (z ∷ []) a)),
+  rises_more cmp xs z s.1 (λ w a. f w (inr a)),
+)
+
+-- Paths.
+
+-- the keys from a line's concept up
+abbrev pub up : Line → List ℕ
+up l = l.key ∷ l.above
+
+-- these keys, each one step further down
+abbrev pub onto : List ℕ → List ℕ → List ℕ
+onto [] u = u
+onto (x ∷ r) u = onto r (x ∷ u)
+
+reverse_onto : (r u : List ℕ) → reverse (onto r u) ≡ reverse u ++ r
+reverse_onto [] u = sym (append-nil (reverse u))
+reverse_onto (x ∷ r) u = reverse_onto r (x ∷ u) ∙ ap (λ z. z ++ r) (reverse-cons x u) ∙ append_assoc (reverse u) (x ∷ []) r
+
+-- the line's path goes through the other's, or is it
+abbrev pub Extends : Line → Line → Type 0
+Extends p l = (r : List ℕ) × (up l ≡ onto r (up p))
+
+then_same : (c : Ordering) (d : Ordering) → c ≡ Equal → ordering_then c d ≡ d
+then_same c d e = ap (λ r. ordering_then r d) e
+
+then_less : (c : Ordering) (d : Ordering) → c ≡ Less → ordering_then c d ≡ Less
+then_less c d e = ap (λ r. ordering_then r d) e
+
+-- below a common front the next keys decide
+less_behind : (front : List ℕ) (x y : ℕ) (a b : List ℕ) → nat_cmp x y ≡ Less → slice_cmp nat_cmp (front ++ x ∷ a) (front ++ y ∷ b) ≡ Less
+less_behind [] x y a b e = then_less _ _ e
+less_behind (c ∷ front) x y a b e = then_same _ _ (tied_itself nat_cmp_total c) ∙ less_behind front x y a b e
+
+-- a list is below each that goes on
+less_longer : (front : List ℕ) (x : ℕ) (a : List ℕ) → slice_cmp nat_cmp front (front ++ x ∷ a) ≡ Less
+less_longer [] x a = refl
+less_longer (c ∷ front) x a = then_same _ _ (tied_itself nat_cmp_total c) ∙ less_longer front x a
+
+pub less_itself : (front : List ℕ) → slice_cmp nat_cmp front front ≡ Equal
+less_itself [] = refl
+less_itself (c ∷ front) = then_same _ _ (tied_itself nat_cmp_total c) ∙ less_itself front
+
+-- a line directly below u, with the rest of the path of l
+path_is : (l : Line) (r u : List ℕ) (x : ℕ) → up l ≡ onto r (x ∷ u) → path l ≡ reverse u ++ x ∷ r
+path_is l r u x e = ap reverse e ∙ reverse_onto (x ∷ r) u
+
+-- two that stand below u by different keys
+apart_below : (u : List ℕ) (x y : ℕ) (l m : Line) (a b : List ℕ) → nat_cmp x y ≡ Less → up l ≡ onto a (x ∷ u) → up m ≡ onto b (y ∷ u) → line_cmp l m ≡ Less
+apart_below u x y l m a b e f g =
+    subst (λ z. slice_cmp nat_cmp z (path m) ≡ Less) (sym (path_is l a u x f))
+    (subst (λ z. slice_cmp nat_cmp (reverse u ++ x ∷ a) z ≡ Less) (sym (path_is m b u y g)) (less_behind (reverse u) x y a b e))
+
+-- each line that goes through p comes before each that goes through q
+pub record Before (p q : Line) : Type 0 where
+  pub less : (l m : Line) → Extends p l → Extends q m → line_cmp l m ≡ Less
+
+abbrev pub PairwiseBefore : List Line → Type 0
+PairwiseBefore [] = Unit {0}
+PairwiseBefore (p ∷ ps) = AllByRecursion (Before p) ps × PairwiseBefore ps
+
+-- the line of a child below these keys
+abbrev pub placed : List ℕ → Child → Line
+placed u c = record { key = c.key; above = u; types = c.types; at_home = c.at_home }
+
+placed_before : (u : List ℕ) (c d : Child) → child_cmp c d ≡ Less → Before (placed u c) (placed u d)
+placed_before u c d e = record { less = λ l m a b. apart_below u c.key d.key l m a.0 b.0 e a.1 b.1 }
+
+all_before : (u : List ℕ) (c : Child) (ds : List Child) → AllByRecursion (λ d. child_cmp c d ≡ Less) ds → AllByRecursion (Before (placed u c)) (map (placed u) ds)
+all_before u c [] s = tt
+all_before u c (d ∷ ds) s = (placed_before u c d s.0, all_before u c ds s.1)
+
+pub placed_apart : (u : List ℕ) (cs : List Child) → IsStrictlySortedBy child_cmp cs → PairwiseBefore (map (placed u) cs)
+unfolding IsStrictlySortedBy
+placed_apart u [] s = tt
+placed_apart u (c ∷ cs) s = (all_before u c cs s.0, placed_apart u cs s.1)
+
+apart_append : (xs ys : List Line) → PairwiseBefore xs → PairwiseBefore ys → ((x y : Line) → Among x xs → Among y ys → Before x y) → PairwiseBefore (xs ++ ys)
+apart_append [] ys p q f = q
+apart_append (x ∷ xs) ys p q f = (
+  all_of _ (xs ++ ys) (λ z a. ⊎_elim (λ l. each_of _ xs z p.0 l) (λ r. f x z (inl refl) r) (among_append z xs ys a)),
+  apart_append xs ys p.1 q (λ z y a b. f z y (inr a) b),
+)
+
+-- What holds in a walk: some lines are written, some wait, the next one first; every line that is not written yet goes through one that waits.
+pub record IsWalk (IsIt : Line → Type 0) (written waiting : List Line) : Type 0 where
+  pub written_lines : (l : Line) → Among l written → IsIt l
+  pub waiting_lines : (l : Line) → Among l waiting → IsIt l
+  pub rises : IsStrictlySortedBy line_cmp written
+  pub earlier : (w p l : Line) → Among w written → Among p waiting → Extends p l → line_cmp w l ≡ Less
+  pub apart : PairwiseBefore waiting
+  pub rest : (l : Line) → IsIt l → Among l written ⊎ ((p : Line) × Among p waiting × Extends p l)
+
+-- a walk with nothing waiting has written all lines, in order
+pub walk_done : (IsIt : Line → Type 0) (written : List Line) → IsWalk IsIt written [] → IsListing line_cmp IsIt written
+walk_done IsIt written h = record {
+  rises = h.rises;
+  sound = λ l c. h.written_lines l (among l written c);
+  complete = λ l q. contains_of l written (⊎_elim (λ w. w) (λ p. absurd p.1) (h.rest l q));
+}
+
+-- One step: the first that waits is written, and what stands right below it waits first.
+module _ (IsIt : Line → Type 0) (written : List Line) (p : Line) (ps kids : List Line) (h : IsWalk IsIt written (p ∷ ps))
+    (below : (k : Line) → Among k kids → IsIt k × ((x : ℕ) × (up k ≡ x ∷ up p)))
+    (apart : PairwiseBefore kids)
+    (all : (l : Line) → IsIt l → Extends p l → (l ≡ p) ⊎ ((k : Line) × Among k kids × Extends k l)) where
+  through : (k l : Line) → Among k kids → Extends k l → Extends p l
+  through k l a e = let b = (below k a).1 in (b.0 ∷ e.0, e.1 ∙ ap (onto e.0) b.1)
+
+  after : (k l : Line) → Among k kids → Extends k l → line_cmp p l ≡ Less
+  after k l a e =
+      let b = (below k a).1 in
+      let f : path l ≡ reverse (up p) ++ b.0 ∷ e.0 = path_is l e.0 (up p) b.0 (e.1 ∙ ap (onto e.0) b.1) in
+      subst (λ z. slice_cmp nat_cmp (path p) z ≡ Less) (sym f) (less_longer (path p) b.0 e.0)
+
+  earlier : (w q l : Line) → Among w (written ++ p ∷ []) → Among q (kids ++ ps) → Extends q l → line_cmp w l ≡ Less
+  earlier w q l a b e =
+      ⊎_elim
+      (λ old. ⊎_elim (λ kid. h.earlier w p l old (inl refl) (through q l kid e)) (λ other. h.earlier w q l old (inr other) e) (among_append q kids ps b))
+      (λ new. ⊎_elim (λ same. subst (λ z. line_cmp z l ≡ Less) (sym same)
+          (⊎_elim (λ kid. after q l kid e) (λ other. (each_of _ ps q h.apart.0 other).less p l ([], refl) e) (among_append q kids ps b))) (λ n. absurd n) new)
+      (among_append w written (p ∷ []) a)
+
+  rest : (l : Line) → IsIt l → Among l (written ++ p ∷ []) ⊎ ((q : Line) × Among q (kids ++ ps) × Extends q l)
+  rest l i =
+      ⊎_elim (λ old. inl (among_left l written (p ∷ []) old))
+      (λ (w : (q : Line) × Among q (p ∷ ps) × Extends q l).
+          ⊎_elim
+          (λ (same : w.0 ≡ p). ⊎_elim (λ e. inl (among_right l written (p ∷ []) (inl e))) (λ k. inr (k.0, among_left k.0 kids ps k.1, k.2)) (all l i (subst (λ q. Extends q l) same w.2)))
+          (λ other. inr (w.0, among_right w.0 kids ps other, w.2))
+          w.1)
+      (h.rest l i)
+
+  pub walk_step : IsWalk IsIt (written ++ p ∷ []) (kids ++ ps)
+  walk_step = record {
+    written_lines = λ l a. ⊎_elim (λ old. h.written_lines l old) (λ new. ⊎_elim (λ e. subst IsIt (sym e) (h.waiting_lines p (inl refl))) (λ n. absurd n) new) (among_append l written (p ∷ []) a);
+    waiting_lines = λ l a. ⊎_elim (λ kid. (below l kid).0) (λ other. h.waiting_lines l (inr other)) (among_append l kids ps a);
+    rises = rises_more line_cmp written p h.rises (λ w a. h.earlier w p p a (inl refl) ([], refl));
+    earlier = earlier;
+    apart = apart_append kids ps apart h.apart.1 (λ k q a b. record { less = λ l m e f. (each_of _ ps q h.apart.0 b).less l m (through k l a e) f });
+    rest = rest;
+  }

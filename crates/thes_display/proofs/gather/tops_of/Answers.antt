@@ -1,0 +1,23 @@
+use Rattle.std.proofs.Common.{◌≡◌, ◌∙◌, ◌++◌, ◌∷◌, [], sym, ap, ℕ, Bool, true, false, not, List, Option, Some, None, arith}
+use Rattle.std.specs.Prelude.{slice_get, is_some}
+use Rattle.std.proofs.lemmas.Option.{slice_get-get_or}
+use Rattle.thes_display.specs.declared.walk.Child.{Child}
+use Rattle.thes_display.specs.Below.{child}
+use Rattle.thes_display.proofs.TopLemmas.{AreTops, tops_none, tops_more, tops_skip, tops_whole, by_home}
+use Rattle.thes_display.proofs.gather.tops_of.Goals as goal
+use Rattle.thes_display.proofs.gather.tops_of.Goals.{then-is_none+in_ok-push, else-is_none}
+
+pub loop-key-init : goal.loop-key-init
+loop-key-init c = tops_none c.args.homes.now _ c.new-tops.ensures.items
+
+pub loop-key-preserved : goal.loop-key-preserved
+loop-key-preserved c =
+    let at = slice_get-get_or c.args.homes.now c.loop-key.key None c.loop-key-test.true in
+    let is = c.is_none.ensures in
+    elim c.if-is_none.branch [
+      | then-is_none+in_ok-push w ↦ by_home c.args.homes.now c.loop-key.key c.loop-key.tops.items c.if-is_none.tops.items _ c.is_none.result c.loop-key.invariant at is (λ e. ap (λ v. v.items) w.tops-is ∙ w.in_ok-push.ensures.items ∙ ap (λ t. c.loop-key.tops.items ++ child c.loop-key.key t true ∷ []) w.untyped.ensures) (λ e. absurd (cc))
+      | else-is_none w ↦ by_home c.args.homes.now c.loop-key.key c.loop-key.tops.items c.if-is_none.tops.items _ c.is_none.result c.loop-key.invariant at is (λ e. absurd (cc)) (λ e. ap (λ v. v.items) w.tops-is)
+    ]
+
+pub returns : goal.returns
+returns c = tops_whole c.args.homes.now c.loop-key.key _ c.loop-key-test.false c.loop-key.invariant

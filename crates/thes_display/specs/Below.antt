@@ -1,0 +1,68 @@
+-- A hierarchy as lists: what stands directly below each concept, and at its top.
+use Rattle.std.specs.Prelude.{◌≡◌, ◌<◌, ℕ, List, [], Bool, true, false, Contains, length, map, slice_get}
+use Rattle.std.specs.Option.{option_map_or}
+use Rattle.std.specs.declared.cmp.Ordering.{Ordering}
+use Rattle.std.specs.Ordering.{nat_cmp}
+use Rattle.std.specs.List.Sorted.{IsStrictlySortedBy}
+use Rattle.thes_display.specs.declared.walk.Child.{Child}
+use Rattle.std.specs.Prelude.{sum_by, vec_len}
+use Rattle.std.specs.Prelude.{Vec}
+use Rattle.std.specs.declared.alloc.Global.{Global}
+use Rattle.thes_base.specs.Listing.{IsListing}
+use Rattle.thes_display.specs.declared.walk.Waiting.{Waiting}
+use Rattle.thes_display.specs.Order.{Term}
+use Rattle.thes_display.specs.declared.walk.Types.{Types}
+use Rattle.thes_display.specs.Lines.{Line, IsLine, line_cmp, lines_text, untyped}
+
+abbrev pub child_cmp : Child → Child → Ordering
+child_cmp x y = nat_cmp x.key y.key
+
+-- what stands directly below a key
+abbrev pub at : List (List Child) → ℕ → List Child
+at below b = option_map_or (λ (cs : List Child). cs) (slice_get below b) []
+
+abbrev pub child : ℕ → Types → Bool → Child
+child k types home = record { key = k; types = types; at_home = home }
+
+module _ (tops : List Child) (below : List (List Child)) where
+  abbrev pub IsTopOf : ℕ → Type 0
+  IsTopOf k = Contains tops (child k untyped true)
+
+  abbrev pub IsUnder : Bool → ℕ → ℕ → Type 0
+  IsUnder home k b = (types : Types) × Contains (at below b) (child k types home)
+
+  abbrev pub IsTypedUnder : Types → ℕ → ℕ → Type 0
+  IsTypedUnder types k b = (home : Bool) × Contains (at below b) (child k types home)
+
+  -- a line of these lists
+  abbrev pub IsLineOf : Line → Type 0
+  IsLineOf = IsLine IsTopOf (IsUnder true) (IsUnder false) IsTypedUnder
+
+  -- Each list is in order, all keys are known, tops are at home and untyped, and each key has one
+  -- home at most, a top none.
+  pub record IsHierarchy (n : ℕ) : Type 0 where
+    pub size : length below ≡ n
+    pub tops_rise : IsStrictlySortedBy child_cmp tops
+    pub rises : (b : ℕ) → IsStrictlySortedBy child_cmp (at below b)
+    pub tops_home : (c : Child) → Contains tops c → (c.at_home ≡ true) × (c.types ≡ untyped) × (c.key < n)
+    pub known : (b : ℕ) (c : Child) → Contains (at below b) c → c.key < n
+    pub one_home : (k b c : ℕ) → IsUnder true k b → IsUnder true k c → b ≡ c
+    pub top_home : (k b : ℕ) → IsTopOf k → IsUnder true k b → ⊥
+
+-- the lists of a vector of vectors
+abbrev pub lists : List (Vec Child Global) → List (List Child)
+lists below = map (λ (v : Vec Child Global). v.items) below
+
+-- how many stand below any
+abbrev pub total : List (Vec Child Global) → ℕ
+total below = sum_by (λ (v : Vec Child Global). vec_len v) below
+
+-- a child that waits at this depth
+abbrev pub waiting_at : ℕ → Child → Waiting
+waiting_at depth c = record { key = c.key; depth = depth; types = c.types; at_home = c.at_home }
+
+-- the text of all lines, in the order of their paths
+pub record IsHierarchyText (terms : List Term) (tops : List Child) (below : List (List Child)) (text : List ℕ) : Type 0 where
+  pub lines : List Line
+  pub listed : IsListing line_cmp (IsLineOf tops below) lines
+  pub is : text ≡ lines_text terms lines

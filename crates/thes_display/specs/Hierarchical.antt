@@ -1,0 +1,69 @@
+-- The hierarchical display of a scheme in a language.
+-- The key of a concept is its place in alphabetical order by its term. Its home broader is its least broader concept by that key.
+use Rattle.std.specs.Prelude.{◌≡◌, ◌≤◌, ◌↔◌, ℕ, List, Some, slice_get, IsTrue}
+use Rattle.thes_base.specs.declared.data.LinkKind.TheVariants.{BroaderGeneric, BroaderPartitive, BroaderInstantial}
+use Rattle.thes_base.specs.Links.{Links}
+use Rattle.thes_base.specs.Listing.{IsListing}
+use Rattle.thes_base.specs.State.{State}
+use Rattle.thes_base.specs.Views.{HasBroader, HasLink}
+use Rattle.thes_core.specs.Terms.{term_text}
+use Rattle.thes_vocab.specs.Vocabulary.{IsConceptOf}
+use Rattle.thes_display.specs.declared.walk.Types.{Types}
+use Rattle.thes_display.specs.Order.{Term, term_cmp}
+use Rattle.thes_display.specs.Lines.{Line, line_cmp, lines_text, IsLine}
+
+-- a live concept of the scheme, under its term in the tag
+pub record IsShownTerm (s : State) (scheme : ℕ) (tag : List ℕ) (t : Term) : Type 0 where
+  pub shown : IsConceptOf s.resources scheme t.concept
+  pub term : t.text ≡ term_text s.labels tag t.concept
+
+-- the live concepts of the scheme under their terms, in alphabetical order
+abbrev pub AreTerms : State → ℕ → List ℕ → List Term → Type 0
+AreTerms s scheme tag terms = IsListing term_cmp (IsShownTerm s scheme tag) terms
+
+-- the concept n has the key k
+pub record HasKey (terms : List Term) (n k : ℕ) : Type 0 where
+  pub term : Term
+  pub stands : slice_get terms k ≡ Some term
+  pub concept : term.concept ≡ n
+
+module _ (links : Links) (terms : List Term) where
+  -- the concept with the key b is broader than the one with the key k
+  pub record IsBroader (k b : ℕ) : Type 0 where
+    pub lower : ℕ
+    pub upper : ℕ
+    pub lower_key : HasKey terms lower k
+    pub upper_key : HasKey terms upper b
+    pub link : HasBroader links lower upper
+
+  -- a concept without a broader one
+  pub record IsTop (k : ℕ) : Type 0 where
+    pub concept : ℕ
+    pub key : HasKey terms concept k
+    pub none : (m : ℕ) → HasBroader links concept m → ⊥
+
+  pub record IsHome (k b : ℕ) : Type 0 where
+    pub broader : IsBroader k b
+    pub least : (c : ℕ) → IsBroader k c → b ≤ c
+
+  pub record IsAway (k b : ℕ) : Type 0 where
+    pub broader : IsBroader k b
+    pub other : IsHome k b → ⊥
+
+  -- the types of the links from the concept with the key k to the one with the key b
+  pub record AreTypes (types : Types) (k b : ℕ) : Type 0 where
+    pub lower : ℕ
+    pub upper : ℕ
+    pub lower_key : HasKey terms lower k
+    pub upper_key : HasKey terms upper b
+    pub generic : IsTrue types.generic ↔ HasLink links BroaderGeneric lower upper
+    pub partitive : IsTrue types.partitive ↔ HasLink links BroaderPartitive lower upper
+    pub instantial : IsTrue types.instantial ↔ HasLink links BroaderInstantial lower upper
+
+-- There is one line for each top concept, and one for each pair of a concept and a broader concept of it.
+pub record IsHierarchical (s : State) (scheme : ℕ) (tag text : List ℕ) : Type 0 where
+  pub terms : List Term
+  pub are_terms : AreTerms s scheme tag terms
+  pub lines : List Line
+  pub are_lines : IsListing line_cmp (IsLine (IsTop s.links terms) (IsHome s.links terms) (IsAway s.links terms) (AreTypes s.links terms)) lines
+  pub is : text ≡ lines_text terms lines

@@ -1,0 +1,144 @@
+//! What stands below a concept's term: its labels and the concepts that it is linked to, as terms in order.
+ghost use Rattle.std.specs.Prelude.{◌≡◌, ◌↔◌, false, IfOk, Contains, IsTrue};
+ghost use Rattle.std.specs.List.Sorted.{IsStrictlySortedBy};
+ghost use Rattle.std.specs.Ordering.{nat_cmp};
+ghost use Rattle.thes_base.specs.Links.{IsHierarchical};
+ghost use Rattle.thes_base.specs.Listing.{IsListing};
+ghost use Rattle.thes_base.specs.Views.{HasLink};
+ghost use Rattle.thes_display.specs.Alphabetical.{IsUnder};
+ghost use Rattle.thes_display.specs.Chosen.{IsTermOf, IsLabelTerm, IsBelow};
+ghost use Rattle.thes_display.specs.Order.{term_cmp};
+
+use crate::symbol::Symbol;
+use crate::term::{Term, sort_terms};
+use std::alloc::{AllocError, Global};
+use thes_base::data::{LabelKind, Link, LinkKind};
+use thes_base::number::ResNo;
+use thes_base::text::Tag;
+use thes_core::Core;
+
+// Whether b is broader than a by a link of this kind.
+pub(crate) fn has_link(core: &Core, kind: LinkKind, a: ResNo, b: ResNo) -> bool
+    requires unspent { core.now.spent ≡ false }
+    requires hierarchical { IsHierarchical kind }
+    ensures { IsTrue result ↔ HasLink core.now.state.links kind a b }
+{
+    core.has(&Link { kind, a, b })
+}
+
+// Concepts under their terms, in alphabetical order.
+pub(crate) fn terms_of_all(
+    alloc: Global,
+    core: &Core,
+    concepts: &[ResNo],
+    tag: &Tag,
+) -> Result<Vec<Term>, AllocError>
+    requires unspent { core.now.spent ≡ false }
+    requires rise { IsStrictlySortedBy nat_cmp concepts.now }
+    ensures { let is_term = IsTermOf core.now.state.labels tag.now (Contains concepts.now) in
+        IfOk result (λ terms. IsListing term_cmp is_term terms.items) }
+{
+    let mut terms = Vec::new(alloc);
+    for concept in concepts {
+        let text = core.term(alloc, *concept, tag)?;
+        terms.push(Term::new(alloc, text, *concept)?)?;
+    }
+    sort_terms(&mut terms)?;
+    Ok(terms)
+}
+
+// A concept's labels of a kind in the language, in alphabetical order.
+pub(crate) fn labels_in(
+    alloc: Global,
+    core: &Core,
+    n: ResNo,
+    kind: LabelKind,
+    tag: &Tag,
+) -> Result<Vec<Term>, AllocError>
+    requires unspent { core.now.spent ≡ false }
+    ensures { let is_label = IsLabelTerm core.now.state.labels n kind tag.now in
+        IfOk result (λ terms. IsListing term_cmp is_label terms.items) }
+{
+    let found = core.labels_of_kind(alloc, n, kind)?;
+    let mut terms = Vec::new(alloc);
+    for label in &found {
+        if label.tag.as_str() == tag.as_str() {
+            let text = String::from_str(alloc, label.text())?;
+            terms.push(Term::new(alloc, text, n)?)?;
+        }
+    }
+    sort_terms(&mut terms)?;
+    Ok(terms)
+}
+
+// The concepts that are broader by a link of this kind, rising.
+fn broader_by(
+    alloc: Global,
+    core: &Core,
+    kind: LinkKind,
+    n: ResNo,
+) -> Result<Vec<ResNo>, AllocError>
+    requires unspent { core.now.spent ≡ false }
+    requires hierarchical { IsHierarchical kind }
+    ensures { IfOk result (λ found. IsListing nat_cmp (HasLink core.now.state.links kind n) found.items) }
+{
+    let broader = core.broader_of(alloc, n)?;
+    let mut found = Vec::new(alloc);
+    for m in &broader {
+        if has_link(core, kind, n, *m) {
+            found.push(*m)?;
+        }
+    }
+    Ok(found)
+}
+
+// The concepts that are narrower by a link of this kind, rising.
+fn narrower_by(
+    alloc: Global,
+    core: &Core,
+    kind: LinkKind,
+    n: ResNo,
+) -> Result<Vec<ResNo>, AllocError>
+    requires unspent { core.now.spent ≡ false }
+    requires hierarchical { IsHierarchical kind }
+    ensures { IfOk result (λ found. IsListing nat_cmp (IsBelow core.now.state.links kind n) found.items) }
+{
+    let narrower = core.narrower_of(alloc, n)?;
+    let mut found = Vec::new(alloc);
+    for m in &narrower {
+        if has_link(core, kind, *m, n) {
+            found.push(*m)?;
+        }
+    }
+    Ok(found)
+}
+
+/// Lists what stands below the term of a concept under a symbol, in alphabetical order.
+pub fn under(
+    alloc: Global,
+    core: &Core,
+    n: ResNo,
+    tag: &Tag,
+    symbol: Symbol,
+) -> Result<Vec<Term>, AllocError>
+    requires { core.now.spent ≡ false }
+    ensures { let is_under = IsUnder core.now.state tag.now n symbol in
+        IfOk result (λ terms. IsListing term_cmp is_under terms.items) }
+{
+    match symbol {
+        Symbol::ScopeNote => labels_in(alloc, core, n, LabelKind::Scope, tag),
+        Symbol::UsedFor => labels_in(alloc, core, n, LabelKind::Alt, tag),
+        Symbol::Broader(hierarchy) => {
+            let broader = broader_by(alloc, core, hierarchy.kind(), n)?;
+            Ok(terms_of_all(alloc, core, broader.as_slice(), tag)?)
+        }
+        Symbol::Narrower(hierarchy) => {
+            let narrower = narrower_by(alloc, core, hierarchy.kind(), n)?;
+            Ok(terms_of_all(alloc, core, narrower.as_slice(), tag)?)
+        }
+        Symbol::Related => {
+            let related = core.related_of(alloc, n)?;
+            Ok(terms_of_all(alloc, core, related.as_slice(), tag)?)
+        }
+    }
+}

@@ -1,0 +1,190 @@
+//! Entries of the alphabetical display.
+ghost use Rattle.std.specs.Prelude.{◌≡◌, ◌++◌, false, IfOk, OnOk, IsPermutation, IsSorted, cond};
+ghost use Rattle.thes_base.specs.Listing.{IsListing};
+ghost use Rattle.thes_display.specs.Added.{IsAdded};
+ghost use Rattle.thes_display.specs.Alphabetical.{AreLinesOf, AreTexts, IsAlphabetical, IsEntry, IsHeading, heading_cmp, line_below, symbols};
+ghost use Rattle.thes_display.specs.Headings.{heading_key, IsHeadingAt};
+
+use crate::chosen::{labels_in, under};
+use crate::symbol::Symbol;
+use crate::term::Term;
+use std::alloc::{AllocError, Global};
+use std::cmp::Ordering;
+use thes_base::data::LabelKind;
+use thes_base::number::ResNo;
+use thes_base::text::Tag;
+use thes_core::Core;
+
+/// What an entry stands under: a concept's term, or an alternative label that leads to it.
+#[derive(Drop)]
+pub struct Heading {
+    pub term: Term,
+    pub lead_in: bool,
+}
+
+impl Heading {
+    // Whether it comes first or second where the texts of a concept are equal.
+    fn rank(&self) -> u8
+        ensures { result ≡ cond self.now.lead_in 1 0 }
+    {
+        if self.lead_in { 1 } else { 0 }
+    }
+
+    // How it stands to another in the display.
+    fn order(&self, other: &Heading) -> Ordering
+        ensures { result ≡ heading_cmp self.now other.now }
+    {
+        match self.term.order(&other.term) {
+            Ordering::Equal => self.rank().cmp(&other.rank()),
+            unequal => unequal,
+        }
+    }
+}
+
+// The headings of one concept: its term, and its alternative labels in alphabetical order.
+fn headings_at(
+    alloc: Global,
+    core: &Core,
+    n: ResNo,
+    tag: &Tag,
+) -> Result<Vec<Heading>, AllocError>
+    requires { core.now.spent ≡ false }
+    ensures { let is_heading = IsHeadingAt core.now.state tag.now n in
+        IfOk result (λ headings. IsListing heading_key is_heading headings.items) }
+{
+    let mut headings = Vec::new(alloc);
+    let text = core.term(alloc, n, tag)?;
+    headings.push(Heading {
+        term: Term::new(alloc, text, n)?,
+        lead_in: false,
+    })?;
+    for term in labels_in(alloc, core, n, LabelKind::Alt, tag)? {
+        headings.push(Heading {
+            term,
+            lead_in: true,
+        })?;
+    }
+    Ok(headings)
+}
+
+// Puts headings in the order of the display.
+fn sort_headings(headings: &mut Vec<Heading>) -> Result<(), AllocError>
+    ensures same { IsPermutation headings.old.items headings.new.items }
+    ensures sorted { OnOk result (IsSorted heading_cmp headings.new.items) }
+{
+    headings.sort_by(|a, b| a.order(b))?;
+    Ok(())
+}
+
+// All headings of a scheme, in the order of the display.
+fn headings_of(
+    alloc: Global,
+    core: &Core,
+    scheme: ResNo,
+    tag: &Tag,
+) -> Result<Vec<Heading>, AllocError>
+    requires { core.now.spent ≡ false }
+    ensures { let is_heading = IsHeading core.now.state tag.now scheme in
+        IfOk result (λ headings. IsListing heading_cmp is_heading headings.items) }
+{
+    let mut headings = Vec::new(alloc);
+    for concept in core.live_of(scheme) {
+        let mut more = headings_at(alloc, core, *concept, tag)?;
+        headings.append(&mut more)?;
+    }
+    sort_headings(&mut headings)?;
+    Ok(headings)
+}
+
+// A line below an entry's first.
+fn write_below(text: &mut Vec<u8>, symbol: &[u8], shown: &[u8]) -> Result<(), AllocError>
+    ensures { OnOk result (text.new.items ≡ text.old.items ++ line_below symbol.now shown.now) }
+{
+    text.extend_from_slice(b"  ")?;
+    text.extend_from_slice(symbol)?;
+    text.push(b' ')?;
+    text.extend_from_slice(shown)?;
+    text.push(b'\n')?;
+    Ok(())
+}
+
+// The lines of one symbol.
+fn write_symbol(
+    alloc: Global,
+    text: &mut Vec<u8>,
+    core: &Core,
+    n: ResNo,
+    tag: &Tag,
+    symbol: Symbol,
+) -> Result<(), AllocError>
+    requires { core.now.spent ≡ false }
+    ensures { let are_lines = AreLinesOf core.now.state tag.now n symbol in
+        OnOk result (IsAdded are_lines text.old.items text.new.items) }
+{
+    let terms = under(alloc, core, n, tag, symbol)?;
+    for term in &terms {
+        write_below(text, symbol.text().as_bytes(), term.text())?;
+    }
+    Ok(())
+}
+
+// The lines of all symbols.
+fn write_symbols(
+    alloc: Global,
+    text: &mut Vec<u8>,
+    core: &Core,
+    n: ResNo,
+    tag: &Tag,
+) -> Result<(), AllocError>
+    requires { core.now.spent ≡ false }
+    ensures { let are_lines = AreTexts (AreLinesOf core.now.state tag.now n) symbols in
+        OnOk result (IsAdded are_lines text.old.items text.new.items) }
+{
+    let symbols = Symbol::all();
+    for symbol in &symbols {
+        write_symbol(alloc, text, core, n, tag, *symbol)?;
+    }
+    Ok(())
+}
+
+// An entry.
+fn write_entry(
+    alloc: Global,
+    text: &mut Vec<u8>,
+    core: &Core,
+    heading: &Heading,
+    tag: &Tag,
+) -> Result<(), AllocError>
+    requires { core.now.spent ≡ false }
+    ensures { let is_entry = IsEntry core.now.state tag.now heading.now in
+        OnOk result (IsAdded is_entry text.old.items text.new.items) }
+{
+    let n = heading.term.concept();
+    text.extend_from_slice(heading.term.text())?;
+    text.push(b'\n')?;
+    if heading.lead_in {
+        let preferred = core.term(alloc, n, tag)?;
+        write_below(text, b"USE", preferred.as_bytes())?;
+    } else {
+        write_symbols(alloc, text, core, n, tag)?;
+    }
+    Ok(())
+}
+
+/// Makes the text of the alphabetical display of a scheme in a language.
+pub fn alphabetical_text(
+    alloc: Global,
+    core: &Core,
+    scheme: ResNo,
+    tag: &Tag,
+) -> Result<Vec<u8>, AllocError>
+    requires { core.now.spent ≡ false }
+    ensures { IfOk result (λ text. IsAlphabetical core.now.state scheme tag.now text.items) }
+{
+    let headings = headings_of(alloc, core, scheme, tag)?;
+    let mut text = Vec::new(alloc);
+    for heading in &headings {
+        write_entry(alloc, &mut text, core, heading, tag)?;
+    }
+    Ok(text)
+}

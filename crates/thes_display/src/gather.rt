@@ -1,0 +1,247 @@
+//! What of a core a hierarchy consists of.
+ghost use Rattle.std.specs.Prelude.{◌≡◌, ◌<◌, ◌≤◌, Contains, true, OnOk, IsPermutation, IsSorted, ◌↔◌, ℕ, Some, false, length, slice_get, map, IsSome, All, IfOk, MatchOption, IsTrue};
+ghost use Rattle.std.specs.BTreeMap.{get};
+ghost use Rattle.std.specs.Ordering.{nat_cmp};
+ghost use Rattle.thes_base.specs.Listing.{IsListing};
+ghost use Rattle.thes_vocab.specs.Vocabulary.{IsConceptOf};
+ghost use Rattle.thes_display.specs.Below.{child_cmp, lists};
+ghost use Rattle.thes_display.specs.Lines.{untyped as no_types};
+ghost use Rattle.thes_display.specs.Hierarchical.{AreTerms, AreTypes, IsHierarchical};
+ghost use Rattle.thes_display.specs.Gathered.{AreHomes, AreKeys, HaveOneKey, IsClosed, IsChild, IsHomeKey, AreBelow, IsHomeless};
+
+use crate::chosen::{has_link, terms_of_all};
+use crate::term::Term;
+use crate::walk::{Child, Types, hierarchy_text};
+use std::alloc::{AllocError, Global};
+use std::collections::BTreeMap;
+use thes_base::data::LinkKind;
+use thes_base::number::ResNo;
+use thes_base::text::Tag;
+use thes_core::Core;
+
+/// The live concepts of a scheme under their terms, in alphabetical order.
+pub fn terms_of(alloc: Global, core: &Core, scheme: ResNo, tag: &Tag) -> Result<Vec<Term>, AllocError>
+    requires { core.now.spent ≡ false }
+    ensures terms { IfOk result (λ terms. AreTerms core.now.state scheme tag.now terms.items) }
+    ensures one_key { IfOk result (λ terms. HaveOneKey terms.items) }
+    ensures closed { IfOk result (λ terms. IsClosed core.now.state.links terms.items) }
+{
+    let terms = terms_of_all(alloc, core, core.live_of(scheme), tag)?;
+    Ok(terms)
+}
+
+/// The key of each concept.
+pub fn keys_of(alloc: Global, terms: &[Term]) -> Result<BTreeMap<ResNo, usize>, AllocError>
+    requires { HaveOneKey terms.now }
+    ensures { IfOk result (λ keys. AreKeys terms.now (get nat_cmp keys)) }
+{
+    let mut keys = BTreeMap::new(alloc);
+    for (key, term) in terms.iter().enumerate() {
+        keys.insert(term.concept(), key)?;
+    }
+    Ok(keys)
+}
+
+// The keys of these concepts.
+fn keys_at(
+    alloc: Global,
+    keys: &BTreeMap<ResNo, usize>,
+    concepts: &[ResNo],
+) -> Result<Vec<usize>, AllocError>
+    requires { All (λ n. IsSome (get nat_cmp keys.now n)) concepts.now }
+    ensures { IfOk result (λ found. map (λ k. Some k) found.items ≡ map (get nat_cmp keys.now) concepts.now) }
+{
+    let mut found = Vec::new(alloc);
+    for concept in concepts {
+        found.push(*keys.get(concept).unwrap())?;
+    }
+    Ok(found)
+}
+
+// The least of some keys.
+fn least(keys: &[usize]) -> Option<usize>
+    ensures { MatchOption result (length keys.now ≡ 0) (λ m. Contains keys.now m × ((k : ℕ) → Contains keys.now k → m ≤ k)) }
+{
+    let mut found: Option<usize> = None;
+    for key in keys {
+        found = match found {
+            Some(least) if least <= *key => Some(least),
+            _ => Some(*key),
+        };
+    }
+    found
+}
+
+// The home broader of a concept, unless it is a top.
+fn home_of(
+    alloc: Global,
+    core: &Core,
+    terms: &[Term],
+    keys: &BTreeMap<ResNo, usize>,
+    key: usize,
+) -> Result<Option<usize>, AllocError>
+    requires unspent { core.now.spent ≡ false }
+    requires within { key < length terms.now }
+    requires keys { AreKeys terms.now (get nat_cmp keys.now) }
+    requires closed { IsClosed core.now.state.links terms.now }
+    ensures { IfOk result (λ home. IsHomeKey core.now.state.links terms.now key home) }
+{
+    let broader = core.broader_of(alloc, terms[key].concept())?;
+    let found = keys_at(alloc, keys, broader.as_slice())?;
+    Ok(least(found.as_slice()))
+}
+
+// Whether a concept's home is the one with this key.
+fn is_home(homes: &[Option<usize>], child: usize, key: usize) -> bool
+    requires { child < length homes.now }
+    ensures at { result ≡ true → slice_get homes.now child ≡ Some (Some key) }
+    ensures other { result ≡ false → slice_get homes.now child ≡ Some (Some key) → ⊥ }
+{
+    match homes[child] {
+        Some(home) => home == key,
+        None => false,
+    }
+}
+
+// Puts children in order of their keys.
+fn sort_children(children: &mut Vec<Child>) -> Result<(), AllocError>
+    ensures same { IsPermutation children.old.items children.new.items }
+    ensures sorted { OnOk result (IsSorted child_cmp children.new.items) }
+{
+    children.sort_by_key(|child| child.key)?;
+    Ok(())
+}
+
+// The types of the links from a concept to a broader one, both by their keys.
+fn types_at(core: &Core, terms: &[Term], child: usize, key: usize) -> Types
+    requires unspent { core.now.spent ≡ false }
+    requires within { (child < length terms.now) × (key < length terms.now) }
+    ensures { AreTypes core.now.state.links terms.now result child key }
+{
+    let (a, b) = (terms[child].concept(), terms[key].concept());
+    Types {
+        generic: has_link(core, LinkKind::BroaderGeneric, a, b),
+        partitive: has_link(core, LinkKind::BroaderPartitive, a, b),
+        instantial: has_link(core, LinkKind::BroaderInstantial, a, b),
+    }
+}
+
+// What stands directly below a concept.
+fn children_of(
+    alloc: Global,
+    core: &Core,
+    terms: &[Term],
+    keys: &BTreeMap<ResNo, usize>,
+    homes: &[Option<usize>],
+    key: usize,
+) -> Result<Vec<Child>, AllocError>
+    requires unspent { core.now.spent ≡ false }
+    requires within { key < length terms.now }
+    requires keys { AreKeys terms.now (get nat_cmp keys.now) }
+    requires closed { IsClosed core.now.state.links terms.now }
+    requires homes { AreHomes core.now.state.links terms.now (length terms.now) homes.now }
+    ensures { IfOk result (λ children. IsListing child_cmp (IsChild core.now.state.links terms.now key) children.items) }
+{
+    let narrower = core.narrower_of(alloc, terms[key].concept())?;
+    let found = keys_at(alloc, keys, narrower.as_slice())?;
+    let mut children = Vec::new(alloc);
+    for child in &found {
+        let types = types_at(core, terms, *child, key);
+        let at_home = is_home(homes, *child, key);
+        children.push(Child {
+            key: *child,
+            types,
+            at_home,
+        })?;
+    }
+    sort_children(&mut children)?;
+    Ok(children)
+}
+
+// The home of each concept.
+fn homes_of(
+    alloc: Global,
+    core: &Core,
+    terms: &[Term],
+    keys: &BTreeMap<ResNo, usize>,
+) -> Result<Vec<Option<usize>>, AllocError>
+    requires unspent { core.now.spent ≡ false }
+    requires keys { AreKeys terms.now (get nat_cmp keys.now) }
+    requires closed { IsClosed core.now.state.links terms.now }
+    ensures { IfOk result (λ homes. AreHomes core.now.state.links terms.now (length terms.now) homes.items) }
+{
+    let mut homes = Vec::new(alloc);
+    for key in 0..terms.len() {
+        homes.push(home_of(alloc, core, terms, keys, key)?)?;
+    }
+    Ok(homes)
+}
+
+// What stands directly below each concept.
+fn below_of(
+    alloc: Global,
+    core: &Core,
+    terms: &[Term],
+    keys: &BTreeMap<ResNo, usize>,
+    homes: &[Option<usize>],
+) -> Result<Vec<Vec<Child>>, AllocError>
+    requires unspent { core.now.spent ≡ false }
+    requires keys { AreKeys terms.now (get nat_cmp keys.now) }
+    requires closed { IsClosed core.now.state.links terms.now }
+    requires homes { AreHomes core.now.state.links terms.now (length terms.now) homes.now }
+    ensures { IfOk result (λ below. AreBelow core.now.state.links terms.now (length terms.now) (lists below.items)) }
+{
+    let mut below = Vec::new(alloc);
+    for key in 0..terms.len() {
+        below.push(children_of(alloc, core, terms, keys, homes, key)?)?;
+    }
+    Ok(below)
+}
+
+// No typed link.
+fn untyped() -> Types
+    ensures { result ≡ no_types }
+{
+    Types {
+        generic: false,
+        partitive: false,
+        instantial: false,
+    }
+}
+
+// The tops, in order of their keys.
+fn tops_of(alloc: Global, homes: &[Option<usize>]) -> Result<Vec<Child>, AllocError>
+    ensures { IfOk result (λ tops. IsListing child_cmp (IsHomeless homes.now) tops.items) }
+{
+    let mut tops = Vec::new(alloc);
+    for key in 0..homes.len() {
+        if homes[key].is_none() {
+            tops.push(Child {
+                key,
+                types: untyped(),
+                at_home: true,
+            })?;
+        }
+    }
+    Ok(tops)
+}
+
+/// The text of the hierarchical display of a scheme in a language.
+pub fn hierarchical_text(
+    alloc: Global,
+    core: &Core,
+    scheme: ResNo,
+    tag: &Tag,
+) -> Result<Vec<u8>, AllocError>
+    requires { core.now.spent ≡ false }
+    ensures { IfOk result (λ text. IsHierarchical core.now.state scheme tag.now text.items) }
+{
+    let owned = terms_of(alloc, core, scheme, tag)?;
+    let terms = owned.as_slice();
+    let keys = keys_of(alloc, terms)?;
+    let homes = homes_of(alloc, core, terms, &keys)?;
+    let tops = tops_of(alloc, homes.as_slice())?;
+    let below = below_of(alloc, core, terms, &keys, homes.as_slice())?;
+    let text = hierarchy_text(alloc, terms, tops, below)?;
+    Ok(text)
+}

@@ -1,0 +1,105 @@
+//! The displays of a scheme, written to a pipe.
+ghost use Rattle.std.specs.Prelude.{◌≡◌, false, IfOk, IfErr, OnOk, MatchOption};
+ghost use Rattle.std.specs.Io.KnownBytes.{Appends};
+ghost use Rattle.thes_base.specs.Pipe.{IsFresh, written};
+ghost use Rattle.thes_base.specs.Resources.{IsScheme};
+ghost use Rattle.thes_display.specs.Alphabetical.{IsAlphabetical};
+ghost use Rattle.thes_display.specs.Hierarchical.{IsHierarchical};
+ghost use Rattle.thes_display.specs.Shown.{IsCut, IsNoScheme, IsShown, IsStopped, KeepsCalls};
+
+use crate::entry::alphabetical_text;
+use crate::gather::hierarchical_text;
+use std::alloc::Global;
+use std::io::Write;
+use thes_base::data::ResourceKind;
+use thes_base::fault::{PipeFault, Refusal};
+use thes_base::number::ResNo;
+use thes_base::pipe::{Budget, Pipe};
+use thes_base::text::Tag;
+use thes_core::Core;
+
+/// What became of a display.
+#[derive(Clone, Copy, Debug, PartialEq, Eq)]
+pub enum Shown {
+    /// It was written.
+    Written,
+    /// There is no such scheme, and nothing was written.
+    No(Refusal),
+}
+
+// Why there is no such scheme, if there is none.
+fn judge_scheme(core: &Core, scheme: ResNo) -> Option<Refusal>
+    requires { core.now.spent ≡ false }
+    ensures { MatchOption result (IsScheme core.now.state.resources scheme)
+        (IsNoScheme core.now.state.resources scheme) }
+{
+    match core.resource(scheme) {
+        None => Some(Refusal::UnknownResource),
+        Some(resource) => match resource.kind {
+            ResourceKind::Scheme => None,
+            _ => Some(Refusal::WrongKind),
+        },
+    }
+}
+
+// Writes a whole text.
+fn write_text<W: Write>(writer: &mut Pipe<W>, text: &[u8]) -> Result<(), PipeFault>
+    requires { IsFresh writer.old }
+    ensures ok { OnOk result (Appends (written W.contents writer.old) (written W.contents writer.new) text.now) }
+    ensures err { IfErr result (IsCut W.contents text.now writer.old writer.new) }
+    ensures calls { KeepsCalls writer.old writer.new }
+{
+    let mut budget = Budget::new();
+    match writer.write_all(&mut budget, text) {
+        Ok(()) => Ok(()),
+        Err(stop) => Err(stop.writing()),
+    }
+}
+
+/// Writes the hierarchical display of a scheme in a language. All memory is had before the first byte is written.
+pub fn hierarchical<W: Write>(
+    alloc: Global,
+    core: &Core,
+    scheme: ResNo,
+    tag: &Tag,
+    writer: &mut Pipe<W>,
+) -> Result<Shown, PipeFault>
+    requires unspent { core.now.spent ≡ false }
+    requires writer { IsFresh writer.old }
+    ensures shown { let is_text = IsHierarchical core.now.state scheme tag.now in
+        IfOk result (IsShown W.contents core.now.state.resources scheme is_text writer.old writer.new) }
+    ensures stopped { let is_text = IsHierarchical core.now.state scheme tag.now in
+        IfErr result (IsStopped W.contents is_text writer.old writer.new) }
+    ensures calls { KeepsCalls writer.old writer.new }
+{
+    if let Some(refusal) = judge_scheme(core, scheme) {
+        return Ok(Shown::No(refusal));
+    }
+    let text = hierarchical_text(alloc, core, scheme, tag)?;
+    write_text(writer, text.as_slice())?;
+    Ok(Shown::Written)
+}
+
+/// Writes the alphabetical display of a scheme in a language. All memory is had before the first byte is written.
+pub fn alphabetical<W: Write>(
+    alloc: Global,
+    core: &Core,
+    scheme: ResNo,
+    tag: &Tag,
+    writer: &mut Pipe<W>,
+) -> Result<Shown, PipeFault>
+    requires unspent { core.now.spent ≡ false }
+    requires writer { IsFresh writer.old }
+    ensures shown { let is_text = IsAlphabetical core.now.state scheme tag.now in
+        IfOk result (IsShown W.contents core.now.state.resources scheme is_text writer.old writer.new) }
+    ensures stopped { let is_text = IsAlphabetical core.now.state scheme tag.now in
+        IfErr result (IsStopped W.contents is_text writer.old writer.new) }
+    ensures calls { KeepsCalls writer.old writer.new }
+{
+    if let Some(refusal) = judge_scheme(core, scheme) {
+        return Ok(Shown::No(refusal));
+    }
+    let text = alphabetical_text(alloc, core, scheme, tag)?;
+    write_text(writer, text.as_slice())?;
+    Ok(Shown::Written)
+}

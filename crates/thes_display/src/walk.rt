@@ -1,0 +1,137 @@
+//! The walk down a hierarchy.
+ghost use Rattle.std.specs.Prelude.{◌≡◌, ◌+◌, ◌*◌, ◌<◌, ◌++◌, [], length, reverse, map, replicate, slice_set, IfOk, OnOk, vec_len, if◌then◌else◌};
+ghost use Rattle.thes_display.specs.Lines.{line_end, placed_text, types_text};
+ghost use Rattle.thes_display.specs.Below.{at, lists, total, waiting_at, IsHierarchy, IsHierarchyText};
+
+use crate::term::Term;
+use std::alloc::{AllocError, Global};
+use std::mem;
+
+/// Which typed links a concept has to a broader one.
+#[derive(Clone, Copy)]
+pub struct Types {
+    pub generic: bool,
+    pub partitive: bool,
+    pub instantial: bool,
+}
+
+/// A concept directly below another, by its key, and whether that other is its home.
+#[derive(Clone, Copy)]
+pub struct Child {
+    pub key: usize,
+    pub types: Types,
+    pub at_home: bool,
+}
+
+/// A line that waits to be written.
+#[derive(Clone, Copy)]
+pub struct Waiting {
+    key: usize,
+    depth: usize,
+    types: Types,
+    at_home: bool,
+}
+
+// Two spaces for each step below the top.
+fn indent(text: &mut Vec<u8>, depth: usize) -> Result<(), AllocError>
+    ensures { OnOk result (text.new.items ≡ text.old.items ++ replicate (2 * depth) 32) }
+{
+    for _i in 0..depth {
+        text.extend_from_slice(b"  ")?;
+    }
+    Ok(())
+}
+
+// These bytes, if they are wanted.
+fn write_if(text: &mut Vec<u8>, wanted: bool, bytes: &[u8]) -> Result<(), AllocError>
+    ensures { OnOk result (text.new.items ≡ text.old.items ++ (if wanted then bytes.now else [])) }
+{
+    if wanted {
+        text.extend_from_slice(bytes)?;
+    }
+    Ok(())
+}
+
+// The types of the links to the broader concept.
+fn write_types(text: &mut Vec<u8>, types: Types) -> Result<(), AllocError>
+    ensures { OnOk result (text.new.items ≡ text.old.items ++ types_text types) }
+{
+    write_if(text, types.generic, b" (G)")?;
+    write_if(text, types.partitive, b" (P)")?;
+    write_if(text, types.instantial, b" (I)")
+}
+
+// The end of a line.
+fn write_end(text: &mut Vec<u8>, at_home: bool) -> Result<(), AllocError>
+    ensures { OnOk result (text.new.items ≡ text.old.items ++ line_end at_home) }
+{
+    if at_home {
+        text.extend_from_slice(b"\n")
+    } else {
+        text.extend_from_slice(b" *\n")
+    }
+}
+
+// A line.
+fn write_line(text: &mut Vec<u8>, terms: &[Term], line: Waiting) -> Result<(), AllocError>
+    requires { line.key < length terms.now }
+    ensures { OnOk result (text.new.items ≡ text.old.items ++ placed_text terms.now line.key line.depth line.types line.at_home) }
+{
+    indent(text, line.depth)?;
+    text.extend_from_slice(terms[line.key].text())?;
+    write_types(text, line.types)?;
+    write_end(text, line.at_home)?;
+    Ok(())
+}
+
+// Lets these wait, the first of them to be next.
+fn push_below(
+    stack: &mut Vec<Waiting>,
+    mut children: Vec<Child>,
+    depth: usize,
+) -> Result<(), AllocError>
+    ensures { OnOk result (stack.new.items ≡ stack.old.items ++ reverse (map (waiting_at depth) children.items)) }
+{
+    while let Some(child) = children.pop() {
+        stack.push(Waiting {
+            key: child.key,
+            depth,
+            types: child.types,
+            at_home: child.at_home,
+        })?;
+    }
+    Ok(())
+}
+
+// Takes what stands directly below a concept.
+fn take_below(alloc: Global, below: &mut Vec<Vec<Child>>, key: usize) -> Vec<Child>
+    requires { key < length (lists below.old.items) }
+    ensures taken { result.items ≡ at (lists below.old.items) key }
+    ensures left { lists below.new.items ≡ slice_set (lists below.old.items) key [] }
+    ensures fewer { total below.new.items + vec_len result ≡ total below.old.items }
+{
+    mem::replace(&mut below[key], Vec::new(alloc))
+}
+
+/// The lines of a hierarchy in the order of their paths.
+pub fn hierarchy_text(
+    alloc: Global,
+    terms: &[Term],
+    tops: Vec<Child>,
+    mut below: Vec<Vec<Child>>,
+) -> Result<Vec<u8>, AllocError>
+    requires { IsHierarchy tops.items (lists below.items) (length terms.now) }
+    ensures { IfOk result (λ text. IsHierarchyText terms.now tops.items (lists below.items) text.items) }
+{
+    let mut text = Vec::new(alloc);
+    let mut stack = Vec::new(alloc);
+    push_below(&mut stack, tops, 0)?;
+    while let Some(next) = stack.pop() {
+        write_line(&mut text, terms, next)?;
+        if next.at_home {
+            let children = take_below(alloc, &mut below, next.key);
+            push_below(&mut stack, children, next.depth + 1)?;
+        }
+    }
+    Ok(text)
+}
