@@ -24,7 +24,7 @@ use Rattle.thes_lists.specs.Lists.{AreListings}
 use Rattle.thes_vocab.specs.Vocabulary.{Vocabulary, IsConceptIn, IsConceptOf, concept_scheme}
 use Rattle.thes_vocab.specs.LabelData.{data_cmp, has_own}
 use Rattle.thes_vocab.specs.Named.{IsLabelNoted}
-use Rattle.thes_vocab.specs.Kept.{IsKept}
+use Rattle.thes_vocab.specs.Kept.{IsConsistent}
 use Rattle.thes_vocab.specs.Loading.{AreSound, IsLoading, AreLabelsSoFar, FitsIri, FitsLabel, IsFreeLabel, HaveIris}
 use Rattle.thes_vocab.proofs.JudgingLemmas.{breaks_s13, keeps_s13, breaks_s14, keeps_s14, breaks_unique, keeps_unique}
 use Rattle.thes_vocab.proofs.KeptLemmas.{IsSchemeOf, finds_label_noted, finds_label_added}
@@ -116,7 +116,7 @@ module _ (base : List ℕ) (rs : List Resource) (iris : Iris) (labels : Labels) 
       both m k x (inr a) (inr b) = is.iris_so_far.distinct m k x a b
 
   -- at the end
-  pub loading_kept : HaveIris (vocabulary base rs iris labels) → EachHasPreferred rs labels → IsKept base rs iris labels old concepts
+  pub loading_kept : HaveIris (vocabulary base rs iris labels) → EachHasPreferred rs labels → IsConsistent base rs iris labels old concepts
   loading_kept all named = record {
     legal = record {
       few = is.sound.few;
