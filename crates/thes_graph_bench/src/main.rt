@@ -1,5 +1,6 @@
 //! Makes a graph of broader links and checks it whole, which `bench/graph` times.
-//! Words: `ladder` or `tree`, how many nodes, and how wide. Or, for `tests/count-requests`: `requests`, how many further nodes, and
+//! Words: `ladder` or `tree`, how many nodes, and how wide; or `levels`, how many nodes, how many links are judged there, and `merges`
+//! if these are merges and not related links. Or, for `tests/count-requests`: `requests`, how many further nodes, and
 //! `judged` if a link is to be judged.
 #![tactic(auto)]
 
