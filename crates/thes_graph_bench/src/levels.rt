@@ -32,20 +32,33 @@ fn link(kind: LinkKind, a: u32, b: u32) -> Link {
     }
 }
 
+// Links the node to one of those in the level above.
+fn climb(
+    graph: &mut Graph,
+    numbers: &mut Numbers,
+    node: u32,
+    width: u32,
+) -> Result<(), AllocError> {
+    let level = node / width.max(1);
+    let above = level.saturating_sub(1).wrapping_mul(width);
+    let broader = above.wrapping_add(numbers.below(width));
+    let new = link(
+        LinkKind::Broader,
+        node.wrapping_add(1),
+        broader.wrapping_add(1),
+    );
+    if new.a != new.b {
+        graph.add(&new)?;
+    }
+    Ok(())
+}
+
 // Each node below the first level with two broader ones.
 fn levels(alloc: Global, numbers: &mut Numbers, width: u32) -> Result<Graph, AllocError> {
     let mut graph = Graph::new(alloc);
-    for level in 1..12u32 {
-        for place in 0..width {
-            for _ in 0..2u32 {
-                let n = level.wrapping_mul(width).wrapping_add(place);
-                let above = level.wrapping_sub(1).wrapping_mul(width).wrapping_add(numbers.below(width));
-                let new = link(LinkKind::Broader, n.wrapping_add(1), above.wrapping_add(1));
-                if new.a != new.b {
-                    graph.add(&new)?;
-                }
-            }
-        }
+    for node in width..width.saturating_mul(12) {
+        climb(&mut graph, numbers, node, width)?;
+        climb(&mut graph, numbers, node, width)?;
     }
     Ok(graph)
 }
@@ -74,9 +87,19 @@ fn is_refused(
 // A pair of nodes, on one level, or for a merge one of them on the level below the other.
 fn pair(numbers: &mut Numbers, width: u32, merges: bool) -> Link {
     let level = numbers.below(11);
-    let a = level.wrapping_mul(width).wrapping_add(numbers.below(width)).wrapping_add(1);
-    let b = level.wrapping_mul(width).wrapping_add(numbers.below(width)).wrapping_add(1);
-    link(LinkKind::Related, a, if merges { a.wrapping_add(width) } else { b })
+    let a = level
+        .wrapping_mul(width)
+        .wrapping_add(numbers.below(width))
+        .wrapping_add(1);
+    let b = level
+        .wrapping_mul(width)
+        .wrapping_add(numbers.below(width))
+        .wrapping_add(1);
+    link(
+        LinkKind::Related,
+        a,
+        if merges { a.wrapping_add(width) } else { b },
+    )
 }
 
 // Judges so many links or merges, and answers how many were refused.
@@ -101,12 +124,7 @@ fn judge_all(
 }
 
 /// How many of so many related links, or merges, are refused in such a hierarchy.
-pub fn refused(
-    alloc: Global,
-    nodes: u32,
-    count: u32,
-    merges: bool,
-) -> Result<u32, AllocError> {
+pub fn refused(alloc: Global, nodes: u32, count: u32, merges: bool) -> Result<u32, AllocError> {
     let mut numbers = Numbers(1);
     let width = nodes / 12;
     let graph = levels(alloc, &mut numbers, width)?;

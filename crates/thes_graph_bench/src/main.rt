@@ -108,7 +108,12 @@ fn obey<R: Env + Print + Alloc<A = Global>>(rt: &R) -> Result<u8, AllocError> {
     }
     if has_word(words.as_slice(), 1, "levels") {
         let merges = has_word(words.as_slice(), 4, "merges");
-        let _ = refused(alloc, number(words.as_slice(), 2), number(words.as_slice(), 3), merges)?;
+        let _ = refused(
+            alloc,
+            number(words.as_slice(), 2),
+            number(words.as_slice(), 3),
+            merges,
+        )?;
         return Ok(0);
     }
     match broken(alloc, words.as_slice())? {

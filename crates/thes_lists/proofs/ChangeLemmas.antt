@@ -82,12 +82,12 @@ module _ {A : Type 0} (old new : Lists A) (v : Vec A Global) (empty : v.items �
   before_last : (m : ℕ) → m ≢ length old.lists.items → slice_get new.lists.items m ≡ slice_get old.lists.items m
   before_last m apart = ap (λ xs. slice_get xs m) pushed ∙ elim (cases_lt m (length old.lists.items)) [
     | inl within ↦
-      slice_get-get_or (old.lists.items ++ v ∷ []) m v (omega (arith, within, length-append old.lists.items (v ∷ [])))
-      ∙ ap Some (get_or_append_left old.lists.items (v ∷ []) v m within)
-      ∙ sym (slice_get-get_or old.lists.items m v within)
+        slice_get-get_or (old.lists.items ++ v ∷ []) m v (omega (arith, within, length-append old.lists.items (v ∷ [])))
+        ∙ ap Some (get_or_append_left old.lists.items (v ∷ []) v m within)
+        ∙ sym (slice_get-get_or old.lists.items m v within)
     | inr past ↦
-      slice_get_past (old.lists.items ++ v ∷ []) m (beyond past)
-      ∙ sym (slice_get_past old.lists.items m past)
+        slice_get_past (old.lists.items ++ v ∷ []) m (beyond past)
+        ∙ sym (slice_get_past old.lists.items m past)
   ]
     where
       more : (m n : ℕ) → m ≢ n → n ≤ m → n + 1 ≤ m
@@ -121,12 +121,12 @@ module _ {A : Type 0} (lists : Lists A) (n i : ℕ) (at : i ≡ n) (inside : i <
   pub wrote_elsewhere : (m : ℕ) → m ≢ n → slice_get wrote.lists.items m ≡ slice_get lists.lists.items m
   wrote_elsewhere m apart = elim (cases_lt m (length lists.lists.items)) [
     | inl within ↦
-      slice_get-get_or (set lists.lists.items i v) m v (omega (arith, within, length-set lists.lists.items i v))
-      ∙ ap Some (get_or-set_other lists.lists.items i m v v (λ same. apart (same ∙ at)))
-      ∙ sym (slice_get-get_or lists.lists.items m v within)
+        slice_get-get_or (set lists.lists.items i v) m v (omega (arith, within, length-set lists.lists.items i v))
+        ∙ ap Some (get_or-set_other lists.lists.items i m v v (λ same. apart (same ∙ at)))
+        ∙ sym (slice_get-get_or lists.lists.items m v within)
     | inr past ↦
-      slice_get_past (set lists.lists.items i v) m (omega (arith, past, length-set lists.lists.items i v))
-      ∙ sym (slice_get_past lists.lists.items m past)
+        slice_get_past (set lists.lists.items i v) m (omega (arith, past, length-set lists.lists.items i v))
+        ∙ sym (slice_get_past lists.lists.items m past)
   ]
 
   pub was_there : v ≡ get_or lists.lists.items i v → Some v ≡ slice_get lists.lists.items n
