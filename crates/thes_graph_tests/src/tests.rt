@@ -492,10 +492,11 @@ fn compare_merge(
     source: u32,
     target: u32,
 ) -> Result<(), Fail> {
-    if no(source) == no(target) {
+    let (from, to) = (no(source), no(target));
+    if from == to {
         return Ok(());
     }
-    let merged = plain_merge(alloc, list.as_slice(), no(source), no(target))?;
+    let merged = plain_merge(alloc, list.as_slice(), from, to)?;
     let answer = judge_merge(alloc, graph, source, target)?;
     assert_eq!(rt;
         answer,
@@ -503,7 +504,7 @@ fn compare_merge(
         "{source} into {target}"
     );
     if answer.is_none() {
-        graph.contract(no(source), no(target))?;
+        graph.contract(from, to)?;
         assert_eq!(rt;
             graph.size(),
             count_different(alloc, graph, merged.as_slice())? as u64

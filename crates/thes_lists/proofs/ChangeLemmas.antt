@@ -1,26 +1,24 @@
 -- One list is written.
-use Rattle.std.proofs.Common.{◌≡◌, ◌≢◌, ◌<◌, ◌≤◌, inl, inr, ℕ, true, false, [], Vec, Global, refl, sym, ap, subst, ◌∙◌, arith}
-use Rattle.std.specs.Prelude.{Option, Some, None, vec_len}
+use Rattle.std.proofs.Common.{◌≡◌, ◌≢◌, ◌<◌, ◌≤◌, ◌+◌, ◌∷◌, ◌++◌, length, length-append, set, get_or, inl, inr, ℕ, true, false, [], Vec, Global, refl, sym, ap, subst, ◌∙◌, arith}
+use Rattle.std.specs.Prelude.{Option, Some, None, vec_len, slice_get}
 use Rattle.std.specs.Option.{is_some, IsSomeAnd, option_map_or}
 use Rattle.std.specs.Vec.{vec_capacity}
-use Rattle.std.specs.Cmp.{unsigned_tied}
-use Rattle.std.specs.Ordering.{nat_cmp}
-use Rattle.std.specs.BTreeMap.{get, UpdatesBy}
-use Rattle.std.proofs.lemmas.Bool.{cases_eq}
-use borrow.Author.Tests.{ne_eqb}
+use Rattle.std.proofs.lemmas.Bool.{cases_eq, cases_lt}
+use Rattle.std.specs.Vec.{with_item}
+use Rattle.std.proofs.lemmas.Grind.{get_or-set_at}
+use Rattle.std.proofs.lemmas.List.{get_or_push, get_or_append_left, get_or-set_other, length-set}
+use Rattle.std.proofs.lemmas.Option.{slice_get_past, slice_get-get_or}
 use Rattle.thes_lists.specs.declared.lists.Lists.{Lists}
 use Rattle.thes_lists.specs.Lists.{listed_at, HasList, HasSpare, AreSame, KeepsLists, KeepsRooms, ChangesAt}
 
 abbrev IsRoomy : {A : Type 0} → Vec A Global → Type 0
 IsRoomy v = vec_len v < vec_capacity v
 
-module _ {A : Type 0} (old new : Lists A) (n : ℕ) (v : Vec A Global) (updates : UpdatesBy nat_cmp (nat_cmp n) old.lists new.lists (Some v)) where
-  elsewhere : (m : ℕ) → m ≢ n → get nat_cmp new.lists m ≡ get nat_cmp old.lists m
-  elsewhere m apart = updates.2 m (unsigned_tied n m ∙ ne_eqb n m (λ same. apart (sym same)))
-
+module _ {A : Type 0} (old new : Lists A) (n : ℕ) (v : Vec A Global) (written : slice_get new.lists.items n ≡ Some v)
+    (elsewhere : (m : ℕ) → m ≢ n → slice_get new.lists.items m ≡ slice_get old.lists.items m) where
   pub changes_written : ChangesAt old new n v.items
   changes_written = record {
-    here = ap (λ o. option_map_or (λ (w : Vec A Global). w.items) o []) updates.1;
+    here = ap (λ o. option_map_or (λ (w : Vec A Global). w.items) o []) written;
     others = λ m apart. ap (λ o. option_map_or (λ (w : Vec A Global). w.items) o []) (elsewhere m apart);
   }
 
@@ -29,7 +27,7 @@ module _ {A : Type 0} (old new : Lists A) (n : ℕ) (v : Vec A Global) (updates 
 
   pub lists_kept : KeepsLists old new
   lists_kept m has = elim (cases_eq m n) [
-    | inl here ↦ subst (HasList new) (sym here) (ap is_some updates.1)
+    | inl here ↦ subst (HasList new) (sym here) (ap is_some written)
     | inr apart ↦ subst (λ o. is_some o ≡ true) (sym (elsewhere m apart)) has
   ]
 
@@ -43,27 +41,27 @@ module _ {A : Type 0} (old new : Lists A) (n : ℕ) (v : Vec A Global) (updates 
   -- with as much room
   rooms_written : (HasSpare old n → IsRoomy v) → KeepsRooms old new
   rooms_written keeps m room = elim (cases_eq m n) [
-    | inl here ↦ subst (HasSpare new) (sym here) (subst (λ o. IsSomeAnd o IsRoomy) (sym updates.1) (keeps (subst (HasSpare old) here room)))
+    | inl here ↦ subst (HasSpare new) (sym here) (subst (λ o. IsSomeAnd o IsRoomy) (sym written) (keeps (subst (HasSpare old) here room)))
     | inr apart ↦ rooms_elsewhere m apart room
   ]
 
   -- an empty list for a number that had none
 
-  no_list : is_some (get nat_cmp old.lists n) ≡ false → get nat_cmp old.lists n ≡ None
-  no_list none = go (get nat_cmp old.lists n) none
+  no_list : is_some (slice_get old.lists.items n) ≡ false → slice_get old.lists.items n ≡ None
+  no_list none = go (slice_get old.lists.items n) none
     where
       go : (o : Option (Vec A Global)) → is_some o ≡ false → o ≡ None
       go None e = refl
       go (Some w) e = cc
 
-  pub same_opened : v.items ≡ [] → is_some (get nat_cmp old.lists n) ≡ false → AreSame old new
+  pub same_opened : v.items ≡ [] → is_some (slice_get old.lists.items n) ≡ false → AreSame old new
   same_opened empty none = same_written (empty ∙ sym (ap (λ o. option_map_or (λ (w : Vec A Global). w.items) o []) (no_list none)))
 
-  pub rooms_opened : is_some (get nat_cmp old.lists n) ≡ false → KeepsRooms old new
+  pub rooms_opened : is_some (slice_get old.lists.items n) ≡ false → KeepsRooms old new
   rooms_opened none = rooms_written (λ room. absurd (subst (λ o. IsSomeAnd o IsRoomy) (no_list none) room))
 
   -- a list with more room
-  module _ (before : Vec A Global) (was : Some before ≡ get nat_cmp old.lists n) where
+  module _ (before : Vec A Global) (was : Some before ≡ slice_get old.lists.items n) where
     pub same_grown : v.items ≡ before.items → AreSame old new
     same_grown same = same_written (same ∙ ap (λ o. option_map_or (λ (w : Vec A Global). w.items) o []) was)
 
@@ -72,3 +70,67 @@ module _ {A : Type 0} (old new : Lists A) (n : ℕ) (v : Vec A Global) (updates 
       where
         more : IsRoomy before → IsRoomy v
         more room = omega arith
+
+-- an empty list behind the others
+module _ {A : Type 0} (old new : Lists A) (v : Vec A Global) (empty : v.items ≡ []) (pushed : new.lists.items ≡ old.lists.items ++ v ∷ []) where
+  last_written : slice_get new.lists.items (length old.lists.items) ≡ Some v
+  last_written =
+      ap (λ xs. slice_get xs (length old.lists.items)) pushed
+      ∙ slice_get-get_or (old.lists.items ++ v ∷ []) (length old.lists.items) v (omega (arith, length-append old.lists.items (v ∷ [])))
+      ∙ ap Some (get_or_push old.lists.items v v (length old.lists.items) refl)
+
+  before_last : (m : ℕ) → m ≢ length old.lists.items → slice_get new.lists.items m ≡ slice_get old.lists.items m
+  before_last m apart = ap (λ xs. slice_get xs m) pushed ∙ elim (cases_lt m (length old.lists.items)) [
+    | inl within ↦
+        slice_get-get_or (old.lists.items ++ v ∷ []) m v (omega (arith, within, length-append old.lists.items (v ∷ [])))
+        ∙ ap Some (get_or_append_left old.lists.items (v ∷ []) v m within)
+        ∙ sym (slice_get-get_or old.lists.items m v within)
+    | inr past ↦
+        slice_get_past (old.lists.items ++ v ∷ []) m (beyond past)
+        ∙ sym (slice_get_past old.lists.items m past)
+  ]
+    where
+      more : (m n : ℕ) → m ≢ n → n ≤ m → n + 1 ≤ m
+      more m n off past = grind arith
+
+      beyond : length old.lists.items ≤ m → length (old.lists.items ++ v ∷ []) ≤ m
+      beyond past = omega (arith, length-append old.lists.items (v ∷ []), more m (length old.lists.items) apart past)
+
+  none_last : is_some (slice_get old.lists.items (length old.lists.items)) ≡ false
+  none_last = ap is_some (slice_get_past old.lists.items (length old.lists.items) (omega arith))
+
+  pub same_pushed : AreSame old new
+  same_pushed = same_opened old new (length old.lists.items) v last_written before_last empty none_last
+
+  pub rooms_pushed : KeepsRooms old new
+  rooms_pushed = rooms_opened old new (length old.lists.items) v last_written before_last none_last
+
+  pub lists_pushed : KeepsLists old new
+  lists_pushed = lists_kept old new (length old.lists.items) v last_written before_last
+
+-- the list of a number that has one is written
+module _ {A : Type 0} (lists : Lists A) (n i : ℕ) (at : i ≡ n) (inside : i < length lists.lists.items) (v : Vec A Global) where
+  abbrev pub wrote : Lists A
+  wrote = record lists { lists = with_item lists.lists i v }
+
+  pub wrote_here : slice_get wrote.lists.items n ≡ Some v
+  wrote_here =
+      slice_get-get_or (set lists.lists.items i v) n v (omega (arith, at, inside, length-set lists.lists.items i v))
+      ∙ ap Some (get_or-set_at lists.lists.items i n v v (sym at) inside)
+
+  pub wrote_elsewhere : (m : ℕ) → m ≢ n → slice_get wrote.lists.items m ≡ slice_get lists.lists.items m
+  wrote_elsewhere m apart = elim (cases_lt m (length lists.lists.items)) [
+    | inl within ↦
+        slice_get-get_or (set lists.lists.items i v) m v (omega (arith, within, length-set lists.lists.items i v))
+        ∙ ap Some (get_or-set_other lists.lists.items i m v v (λ same. apart (same ∙ at)))
+        ∙ sym (slice_get-get_or lists.lists.items m v within)
+    | inr past ↦
+        slice_get_past (set lists.lists.items i v) m (omega (arith, past, length-set lists.lists.items i v))
+        ∙ sym (slice_get_past lists.lists.items m past)
+  ]
+
+  pub was_there : v ≡ get_or lists.lists.items i v → Some v ≡ slice_get lists.lists.items n
+  was_there is = ap Some is ∙ sym (slice_get-get_or lists.lists.items i v inside) ∙ ap (slice_get lists.lists.items) at
+
+  pub was_listed : v ≡ get_or lists.lists.items i v → listed_at lists n ≡ v.items
+  was_listed is = ap (λ o. option_map_or (λ (w : Vec A Global). w.items) o []) (sym (was_there is))

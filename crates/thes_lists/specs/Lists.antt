@@ -1,9 +1,7 @@
 -- What is listed under each number, and which lists have room.
-use Rattle.std.specs.Prelude.{◌≡◌, ◌≢◌, ◌<◌, ℕ, List, [], IsSome, vec_len}
+use Rattle.std.specs.Prelude.{◌≡◌, ◌≢◌, ◌<◌, ℕ, List, [], IsSome, vec_len, slice_get}
 use Rattle.std.specs.Option.{IsSomeAnd, option_map_or}
 use Rattle.std.specs.Vec.{vec_capacity}
-use Rattle.std.specs.Ordering.{nat_cmp}
-use Rattle.std.specs.BTreeMap.{get}
 use Rattle.std.specs.List.Sorted.{IsStrictlySortedBy}
 use Rattle.std.specs.declared.cmp.Ordering.{Ordering}
 use Rattle.thes_base.specs.Listing.{IsListing}
@@ -12,15 +10,15 @@ use Rattle.thes_lists.specs.declared.lists.Lists.{Lists}
 module _ {A : Type 0} where
   -- the values of the number
   abbrev pub listed_at : Lists A → ℕ → List A
-  listed_at lists n = option_map_or (λ v. v.items) (get nat_cmp lists.lists n) []
+  listed_at lists n = option_map_or (λ v. v.items) (slice_get lists.lists.items n) []
 
   -- the number has a list, if only an empty one
   abbrev pub HasList : Lists A → ℕ → Type 0
-  HasList lists n = IsSome (get nat_cmp lists.lists n)
+  HasList lists n = IsSome (slice_get lists.lists.items n)
 
   -- and in its list is room for one value more
   abbrev pub HasSpare : Lists A → ℕ → Type 0
-  HasSpare lists n = IsSomeAnd (get nat_cmp lists.lists n) (λ v. vec_len v < vec_capacity v)
+  HasSpare lists n = IsSomeAnd (slice_get lists.lists.items n) (λ v. vec_len v < vec_capacity v)
 
   abbrev pub AreSame : Lists A → Lists A → Type 0
   AreSame old new = (n : ℕ) → listed_at new n ≡ listed_at old n

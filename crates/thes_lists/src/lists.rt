@@ -8,14 +8,14 @@ ghost use Rattle.std.specs.Vec.{vec_len, vec_capacity};
 ghost use Rattle.thes_lists.specs.Lists.{listed_at, HasList, HasSpare, AreSame, KeepsLists, KeepsRooms, ChangesAt};
 
 use std::alloc::{AllocError, Global};
-use std::collections::BTreeMap;
 use thes_base::number::ResNo;
 
-/// For each number a list of values that rise. Room for a value is made first, so that a change can't fail.
+/// For each number a list of values that rise. Room for a value is made first, so that a change can't fail. The lists stand by their
+/// numbers, so they take memory for the greatest number that has one: resources are numbered without gaps.
 #[derive(Drop)]
 pub struct Lists<T> {
     alloc: Global,
-    lists: BTreeMap<ResNo, Vec<T>>,
+    lists: Vec<Vec<T>>,
 }
 
 impl<T: Ord + Drop> Lists<T> {
@@ -25,7 +25,7 @@ impl<T: Ord + Drop> Lists<T> {
     {
         Lists {
             alloc,
-            lists: BTreeMap::new(alloc),
+            lists: Vec::new(alloc),
         }
     }
 
@@ -33,7 +33,7 @@ impl<T: Ord + Drop> Lists<T> {
     pub fn at(&self, n: ResNo) -> &[T]
         ensures { result.now ≡ listed_at self.now n }
     {
-        match self.lists.get(&n) {
+        match self.lists.get(n.get() as usize) {
             Some(list) => list.as_slice(),
             None => &[],
         }
@@ -46,8 +46,8 @@ impl<T: Ord + Drop> Lists<T> {
         ensures lists { KeepsLists self.old self.new }
         ensures list { OnOk result (HasList self.new n) }
     {
-        if !self.lists.contains_key(&n) {
-            self.lists.insert(n, Vec::new(self.alloc))?;
+        'opening: while self.lists.len() <= n.get() as usize {
+            self.lists.push(Vec::new(self.alloc))?;
         }
         Ok(())
     }
@@ -73,7 +73,7 @@ impl<T: Ord + Drop> Lists<T> {
         ensures room { IfOk result (λ has. has ≡ true → HasSpare self.new n) }
         ensures open { OnOk result (HasList self.old n → HasSpare self.new n) }
     {
-        match self.lists.get_mut(&n) {
+        match self.lists.get_mut(n.get() as usize) {
             Some(list) => {
                 list.reserve(1)?;
                 Ok(true)
@@ -88,7 +88,7 @@ impl<T: Ord + Drop> Lists<T> {
         ensures list { ChangesAt self.old self.new n list.items }
         ensures lists { KeepsLists self.old self.new }
     {
-        match self.lists.get_mut(&n) {
+        match self.lists.get_mut(n.get() as usize) {
             Some(old) => *old = list,
             None => {}
         }
@@ -101,7 +101,7 @@ impl<T: Ord + Drop> Lists<T> {
         ensures list { ChangesAt self.old self.new n (insert_key T.cmp (listed_at self.old n) x) }
         ensures rooms { (m : ℕ) → m ≢ n → HasSpare self.old m → HasSpare self.new m }
     {
-        match self.lists.get_mut(&n) {
+        match self.lists.get_mut(n.get() as usize) {
             Some(list) => insert_in(list, x),
             None => {}
         }
@@ -112,7 +112,7 @@ impl<T: Ord + Drop> Lists<T> {
         requires { IsStrictlySortedBy T.cmp (listed_at self.old n) }
         ensures { ChangesAt self.old self.new n (remove_key (is_at (T.cmp x.now)) (listed_at self.old n)) }
     {
-        match self.lists.get_mut(&n) {
+        match self.lists.get_mut(n.get() as usize) {
             Some(list) => remove_from(list, x),
             None => {}
         }
