@@ -1,4 +1,6 @@
 //! How a file stores a display, and how it is made.
+ghost use Rattle.std.specs.Prelude.{◌≡◌, false, IfOk};
+
 use std::alloc::{AllocError, Global};
 use std::io;
 use thes_base::data::Limits;
@@ -28,14 +30,8 @@ impl<'a> Example<'a> {
         let (own, shown) = part.split_once("@ ").unwrap_or((part, ""));
         let (words, display) = shown.split_once('\n').unwrap_or((shown, ""));
         let mut requests = String::new(alloc);
-        for lines in [start, own] {
-            for line in lines.lines() {
-                if let Some(request) = line.strip_prefix("> ") {
-                    requests.push_str(request)?;
-                    requests.push('\n')?;
-                }
-            }
-        }
+        push_requests(&mut requests, start)?;
+        push_requests(&mut requests, own)?;
         Ok(Example {
             name: own.lines().next().unwrap_or(""),
             requests,
@@ -45,12 +41,25 @@ impl<'a> Example<'a> {
     }
 }
 
+// Keeps the requests among some lines.
+fn push_requests(requests: &mut String, lines: &str) -> Result<(), AllocError> {
+    for line in lines.lines() {
+        if let Some(request) = line.strip_prefix("> ") {
+            requests.push_str(request)?;
+            requests.push('\n')?;
+        }
+    }
+    Ok(())
+}
+
 fn invalid() -> io::Error {
     io::Error::from(io::ErrorKind::InvalidData)
 }
 
 // A core after these requests, of which none may be refused.
-fn core_after(alloc: Global, requests: &str) -> io::Result<Core> {
+fn core_after(alloc: Global, requests: &str) -> io::Result<Core>
+    ensures { IfOk result (λ core. core.spent ≡ false) }
+{
     let base = Base::read(alloc, BASE).map_err(|_| invalid())?;
     let mut core = Core::new(alloc, base, Limits::default());
     let mut reader = Pipe::new(requests.as_bytes());
