@@ -1,80 +1,17 @@
 //! What statements are given of rows.
-ghost use Rattle.std.specs.Prelude.{◌≡◌, ◌<◌, cond};
-ghost use Rattle.thes_base.specs.Labels.{label_kind_no};
-ghost use Rattle.thes_base.specs.Links.{link_kind_no};
-ghost use Rattle.thes_rows.specs.Cells.{resource_kind_no, hier_type_no, resource_cells, outside_cells};
+ghost use Rattle.std.specs.Prelude.{◌≡◌, ◌<◌};
+ghost use Rattle.thes_rows.specs.Cells.{resource_cells, outside_cells};
 ghost use Rattle.thes_rows.specs.Cells.{label_cells, link_cells, hier_cells, posting_cells, move_cells};
 ghost use Rattle.thes_sql.specs.Stored.{values};
 ghost use Rattle.sqlite.specs.Values.{bound};
 
 use sqlite::params;
 use sqlite::types::ValueRef;
-use thes_base::data::{LabelKind, Link, LinkKind, Resource, ResourceKind};
+use thes_base::data::{Link, Resource};
 use thes_base::number::ResNo;
 use thes_base::text::Iri;
-use thes_rows::rows::{HierRow, HierType, LabelRow, MoveRow, PostingRow};
-
-// The number of a flag.
-fn flag(is_set: bool) -> u32
-    ensures { result ≡ cond is_set 1 0 }
-{
-    if is_set { 1 } else { 0 }
-}
-
-// The number of a kind of resource.
-fn resource_number(kind: ResourceKind) -> u32
-    ensures { result ≡ resource_kind_no kind }
-{
-    match kind {
-        ResourceKind::Scheme => 1,
-        ResourceKind::Concept => 2,
-        ResourceKind::Collection => 3,
-        ResourceKind::Outside => 4,
-    }
-}
-
-// The number of a kind of label.
-fn label_number(kind: LabelKind) -> u32
-    ensures { result ≡ label_kind_no kind }
-{
-    match kind {
-        LabelKind::Pref => 1,
-        LabelKind::Alt => 2,
-        LabelKind::Hidden => 3,
-        LabelKind::Scope => 4,
-    }
-}
-
-// The number of a kind of link.
-fn link_number(kind: LinkKind) -> u32
-    ensures { result ≡ link_kind_no kind }
-{
-    match kind {
-        LinkKind::Broader => 1,
-        LinkKind::Related => 2,
-        LinkKind::Exact => 3,
-        LinkKind::Close => 4,
-        LinkKind::Broad => 5,
-        LinkKind::Narrow => 6,
-        LinkKind::RelMatch => 7,
-        LinkKind::Member => 8,
-        LinkKind::BroaderGeneric => 9,
-        LinkKind::BroaderPartitive => 10,
-        LinkKind::BroaderInstantial => 11,
-    }
-}
-
-// The number of a type of hierarchical relationship.
-fn type_number(typ: HierType) -> u32
-    ensures { result ≡ hier_type_no typ }
-{
-    match typ {
-        HierType::Untyped => 0,
-        HierType::Generic => 1,
-        HierType::Partitive => 2,
-        HierType::Instantial => 3,
-    }
-}
+use thes_rows::numbers::{flag_number, label_number, link_number, resource_number, type_number};
+use thes_rows::rows::{HierRow, LabelRow, MoveRow, PostingRow};
 
 // The number of a resource, if there is one.
 fn number_of(n: Option<ResNo>) -> Option<u32>
@@ -94,7 +31,7 @@ pub(crate) fn resource_values(n: ResNo, resource: &Resource) -> [ValueRef<'stati
         n.get(),
         resource_number(resource.kind),
         number_of(resource.scheme),
-        flag(resource.live),
+        flag_number(resource.live),
         number_of(resource.replaced)
     ]
 }
@@ -142,7 +79,7 @@ pub(crate) fn posting_values(row: &PostingRow) -> [ValueRef<'_>; 6]
         row.rec.as_str(),
         row.first.get(),
         row.place.get(),
-        flag(row.withdrawn)
+        flag_number(row.withdrawn)
     ]
 }
 
