@@ -116,7 +116,7 @@ module _ (links : Links) (terms : List Term) (b : ℕ) where
       let lower = one_concept terms q.lower p.lower k q.lower_key p.lower_key in
       let upper = one_concept terms q.upper p.upper b q.upper_key p.upper_key in
       let moved = λ (kind : LinkKind) (t : Bool) (r : IsTrue t ↔ HasLink links kind q.lower q.upper).
-          subst (λ n. IsTrue t ↔ HasLink links kind p.lower n) upper (subst (λ n. IsTrue t ↔ HasLink links kind n q.upper) lower r) in
+      subst (λ n. IsTrue t ↔ HasLink links kind p.lower n) upper (subst (λ n. IsTrue t ↔ HasLink links kind n q.upper) lower r) in
       let g = same_test x.generic y.generic p.generic (moved BroaderGeneric y.generic q.generic) in
       let h = same_test x.partitive y.partitive p.partitive (moved BroaderPartitive y.partitive q.partitive) in
       let j = same_test x.instantial y.instantial p.instantial (moved BroaderInstantial y.instantial q.instantial) in
@@ -147,8 +147,8 @@ module _ (links : Links) (terms : List Term) (b : ℕ) where
       → (made children : List Child) → AreChildren ks made → IsPermutation made children → IsSorted child_cmp children → IsListing child_cmp (IsChild links terms b) children
   children_listed keys are n here xs ks listed found made children a p sorted =
       relisted (λ x y. nat_cmp (concept_at x.key) (concept_at y.key)) child_cmp (on_total (λ (c : Child). concept_at c.key) nat_cmp_total) child_total
-        (λ x y e. ap (λ i. nat_cmp (concept_at i) (concept_at y.key)) (exact_unsigned x.key y.key e) ∙ tied_itself nat_cmp_total (concept_at y.key))
-        (IsChild links terms b) made children (made_children keys are n here xs ks listed found made a) p sorted
+      (λ x y e. ap (λ i. nat_cmp (concept_at i) (concept_at y.key)) (exact_unsigned x.key y.key e) ∙ tied_itself nat_cmp_total (concept_at y.key))
+      (IsChild links terms b) made children (made_children keys are n here xs ks listed found made a) p sorted
 
   -- each key found is that of a narrower concept
   pub broader_at : (keys : ℕ → Option ℕ) → AreKeys terms keys → (n : ℕ) → HasKey terms n b → (xs ks : List ℕ) → IsListing nat_cmp (λ a. HasBroader links a n) xs → map (λ k. Some k) ks ≡ map keys xs → (k : ℕ) → Contains ks k → IsBroader links terms k b

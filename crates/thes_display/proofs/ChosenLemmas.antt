@@ -73,15 +73,15 @@ module _ {X : Type 0} (cmp : X → X → Ordering) (all : List X) (rises : IsStr
   pub chosen_more : (i : ℕ) (z : X) (found new : List X) → take (i + 1) all ≡ take i all ++ z ∷ [] → Q z → Chosen i found → new ≡ found ++ z ∷ [] → Chosen (i + 1) new
   chosen_more i z found new t q l e =
       listing_more cmp _ _ found new z l e (λ w p. before_taken cmp all i z w rises t p.0)
-        (λ x p. ⊎_elim (λ old. inl (old, p.1)) (λ last. ⊎_elim (λ same. inr same) (λ n. absurd n) last) (among_append x (take i all) (z ∷ []) (subst (Among x) t p.0)))
-        (λ x p. (subst (Among x) (sym t) (among_left x (take i all) (z ∷ []) p.0), p.1))
-        (subst (Among z) (sym t) (among_right z (take i all) (z ∷ []) (inl refl)), q)
+      (λ x p. ⊎_elim (λ old. inl (old, p.1)) (λ last. ⊎_elim (λ same. inr same) (λ n. absurd n) last) (among_append x (take i all) (z ∷ []) (subst (Among x) t p.0)))
+      (λ x p. (subst (Among x) (sym t) (among_left x (take i all) (z ∷ []) p.0), p.1))
+      (subst (Among z) (sym t) (among_right z (take i all) (z ∷ []) (inl refl)), q)
 
   pub chosen_skip : (i : ℕ) (z : X) (found new : List X) → take (i + 1) all ≡ take i all ++ z ∷ [] → (Q z → ⊥) → Chosen i found → new ≡ found → Chosen (i + 1) new
   chosen_skip i z found new t none l e =
       subst (Chosen (i + 1)) (sym e) (listing_as cmp _ _ found
-        (λ x p. (subst (Among x) (sym t) (among_left x (take i all) (z ∷ []) p.0), p.1))
-        (λ x p. ⊎_elim (λ old. (old, p.1)) (λ last. ⊎_elim (λ same. absurd (none (subst Q same p.1))) (λ n. absurd n) last) (among_append x (take i all) (z ∷ []) (subst (Among x) t p.0))) l)
+      (λ x p. (subst (Among x) (sym t) (among_left x (take i all) (z ∷ []) p.0), p.1))
+      (λ x p. ⊎_elim (λ old. (old, p.1)) (λ last. ⊎_elim (λ same. absurd (none (subst Q same p.1))) (λ n. absurd n) last) (among_append x (take i all) (z ∷ []) (subst (Among x) t p.0))) l)
 
   pub chosen_whole : (P : X → Type 0) (i : ℕ) (found : List X) → IsListing cmp P all → length all ≤ i → ((x : X) → Q x → P x) → Chosen i found → IsListing cmp Q found
   chosen_whole P i found listed long has l =

@@ -62,7 +62,7 @@ module _ (s : State) (tag : List ℕ) (n : ℕ) where
   pub own_heading : (t : Term) (headings old : List Heading) → t.text ≡ term_text s.labels tag n → t.concept ≡ n → old ≡ [] → headings ≡ old ++ record { term = t; lead_in = false } ∷ [] → IsListing heading_key (IsMade []) headings
   own_heading t headings old e f g h =
       listing_more heading_key (λ x. ⊥) (IsMade []) old headings _ (listing_none heading_key _ old g (λ x p. p)) h (λ w p. absurd p)
-        (λ x p. inr (⊎_elim (λ own. same_heading x _ (own.1 ∙ sym e) (p.0 ∙ sym f) own.0) (λ l. absurd l.1) p.1)) (λ x p. absurd p) (f, inl (refl, e))
+      (λ x p. inr (⊎_elim (λ own. same_heading x _ (own.1 ∙ sym e) (p.0 ∙ sym f) own.0) (λ l. absurd l.1) p.1)) (λ x p. absurd p) (f, inl (refl, e))
 
   pub lead_in_more : (terms seen rest : List Term) (t : Term) (headings new : List Heading) → IsListing term_cmp (IsLabelTerm s.labels n Alt tag) terms → seen ++ t ∷ rest ≡ terms
       → IsListing heading_key (IsMade seen) headings → new ≡ headings ++ record { term = t; lead_in = true } ∷ [] → IsListing heading_key (IsMade (seen ++ t ∷ [])) new
@@ -70,14 +70,14 @@ module _ (s : State) (tag : List ℕ) (n : ℕ) where
       let rises = subst (IsStrictlySortedBy term_cmp) (sym e) listed.rises in
       let f = (listed.sound t (contains_of t terms (subst (Among t) e (among_right t seen (t ∷ rest) (inl refl))))).0 in
       listing_more heading_key (IsMade seen) _ headings new _ l g
-        (λ w p. after_ties _ _ (same_concept w.term.concept t.concept (p.0 ∙ sym f))
-          (⊎_elim (λ own. ap (λ (b : Bool). ordering_then (nat_cmp (cond b 1 0) 1) (term_cmp w.term t)) own.0)
-            (λ late. after_ties _ _ (ap (λ (b : Bool). nat_cmp (cond b 1 0) 1) late.0) (before term_cmp seen rest t w.term rises late.1)) p.1))
-        (λ x p. ⊎_elim (λ own. inl (p.0, inl own))
-          (λ late. ⊎_elim (λ old. inl (p.0, inr (late.0, old))) (λ last. ⊎_elim (λ same. inr (same_heading x _ (ap (λ (z : Term). z.text) same) (ap (λ (z : Term). z.concept) same) late.0)) (λ no. absurd no) last)
-            (among_append x.term seen (t ∷ []) late.1)) p.1)
-        (λ x p. (p.0, ⊎_elim (λ own. inl own) (λ late. inr (late.0, among_left x.term seen (t ∷ []) late.1)) p.1))
-        (f, inr (refl, among_right t seen (t ∷ []) (inl refl)))
+      (λ w p. after_ties _ _ (same_concept w.term.concept t.concept (p.0 ∙ sym f))
+      (⊎_elim (λ own. ap (λ (b : Bool). ordering_then (nat_cmp (cond b 1 0) 1) (term_cmp w.term t)) own.0)
+      (λ late. after_ties _ _ (ap (λ (b : Bool). nat_cmp (cond b 1 0) 1) late.0) (before term_cmp seen rest t w.term rises late.1)) p.1))
+      (λ x p. ⊎_elim (λ own. inl (p.0, inl own))
+      (λ late. ⊎_elim (λ old. inl (p.0, inr (late.0, old))) (λ last. ⊎_elim (λ same. inr (same_heading x _ (ap (λ (z : Term). z.text) same) (ap (λ (z : Term). z.concept) same) late.0)) (λ no. absurd no) last)
+      (among_append x.term seen (t ∷ []) late.1)) p.1)
+      (λ x p. (p.0, ⊎_elim (λ own. inl own) (λ late. inr (late.0, among_left x.term seen (t ∷ []) late.1)) p.1))
+      (f, inr (refl, among_right t seen (t ∷ []) (inl refl)))
 
   headed : (h : Heading) (terms : List Term) → IsListing term_cmp (IsLabelTerm s.labels n Alt tag) terms → IsMade terms h → IsHeadingAt s tag n h
   headed h terms listed (c, inl own) = (c, subst (λ b. IsHeadedBy s tag b h.term) (sym own.0) (own.1 ∙ ap (term_text s.labels tag) (sym c)))
@@ -104,13 +104,13 @@ module _ (s : State) (tag : List ℕ) (concepts : List ℕ) where
       → IsListing heading_key (IsHeadingAt s tag n) more → new ≡ headings ++ more → IsListing heading_key (IsOfThese (take (i + 1) concepts)) new
   these_more i n headings more new rises e l m f =
       listing_joined heading_key _ _ _ headings more new l m f
-        (λ x y p r. let less = before_taken nat_cmp concepts i n x.term.concept rises e p.0 in ap (λ k. ordering_then (nat_cmp x.term.concept k) (ordering_then (nat_cmp (rank x) (rank y)) (term_cmp x.term y.term))) r.0 ∙ ap (λ o. ordering_then o (ordering_then (nat_cmp (rank x) (rank y)) (term_cmp x.term y.term))) less)
-        (λ x p. ⊎_elim (λ old. inl (old, p.1)) (λ last. ⊎_elim (λ same. inr (same, p.1)) (λ no. absurd no) last) (among_append x.term.concept (take i concepts) (n ∷ []) (subst (Among x.term.concept) e p.0)))
-        (λ x p. (subst (Among x.term.concept) (sym e) (among_left x.term.concept (take i concepts) (n ∷ []) p.0), p.1))
-        (λ x p. (subst (Among x.term.concept) (sym e) (among_right x.term.concept (take i concepts) (n ∷ []) (inl p.0)), p.1))
+      (λ x y p r. let less = before_taken nat_cmp concepts i n x.term.concept rises e p.0 in ap (λ k. ordering_then (nat_cmp x.term.concept k) (ordering_then (nat_cmp (rank x) (rank y)) (term_cmp x.term y.term))) r.0 ∙ ap (λ o. ordering_then o (ordering_then (nat_cmp (rank x) (rank y)) (term_cmp x.term y.term))) less)
+      (λ x p. ⊎_elim (λ old. inl (old, p.1)) (λ last. ⊎_elim (λ same. inr (same, p.1)) (λ no. absurd no) last) (among_append x.term.concept (take i concepts) (n ∷ []) (subst (Among x.term.concept) e p.0)))
+      (λ x p. (subst (Among x.term.concept) (sym e) (among_left x.term.concept (take i concepts) (n ∷ []) p.0), p.1))
+      (λ x p. (subst (Among x.term.concept) (sym e) (among_right x.term.concept (take i concepts) (n ∷ []) (inl p.0)), p.1))
 
   pub these_whole : (scheme i : ℕ) (headings sorted : List Heading) → IsListing nat_cmp (IsConceptOf s.resources scheme) concepts → length concepts ≤ i → IsListing heading_key (IsOfThese (take i concepts)) headings
       → IsPermutation headings sorted → IsSorted heading_cmp sorted → IsListing heading_cmp (IsHeading s tag scheme) sorted
   these_whole scheme i headings sorted listed long l p q =
       listing_as heading_cmp (IsOfThese concepts) _ sorted (λ x r. (listed.sound x.term.concept (contains_of x.term.concept concepts r.0), r.1)) (λ x r. (among x.term.concept concepts (listed.complete x.term.concept r.0), r.1))
-        (relisted heading_key heading_cmp key_total heading_total ties (IsOfThese concepts) headings sorted (subst (λ ns. IsListing heading_key (IsOfThese ns) headings) (take_all i concepts long) l) p q)
+      (relisted heading_key heading_cmp key_total heading_total ties (IsOfThese concepts) headings sorted (subst (λ ns. IsListing heading_key (IsOfThese ns) headings) (take_all i concepts long) l) p q)

@@ -38,6 +38,7 @@ all_known terms keys are P xs listed has k d l =
     is_some_of : (o : Option ℕ) (j : ℕ) → o ≡ Some j → IsSome o
     is_some_of None j e = absurd (cc)
     is_some_of (Some i) j e = search rules
+
     at_any : (xs : List ℕ) (k d e : ℕ) → k < length xs → slice_index_or xs k e ≡ slice_index_or xs k d
     at_any [] k d e l = absurd (omega arith)
     at_any (x ∷ xs) zero d e l = refl

@@ -43,10 +43,10 @@ module _ (n : ℕ) (tag : List ℕ) (all : List Tagged) where
       → IsListing by_text (IsOne (take i all)) terms → new ≡ terms ++ t ∷ [] → IsListing by_text (IsOne (take (i + 1) all)) new
   labels_more i x t terms new rises e f g h l k =
       listing_more by_text _ _ terms new t l k
-        (λ w p. ap (λ u. slice_cmp nat_cmp u t.text) (sym p.1.3) ∙ ap (slice_cmp nat_cmp p.1.0.text) g ∙ text_less p.1.0 x (p.1.2 ∙ sym f) (before_taken tagged_cmp all i x p.1.0 rises e p.1.1))
-        (λ z p. ⊎_elim (λ old. inl (p.0, (p.1.0, old, p.1.2, p.1.3))) (λ last. ⊎_elim (λ same. inr (same_term z t (sym p.1.3 ∙ ap (λ (y : Tagged). y.text) same ∙ sym g) (p.0 ∙ sym h))) (λ no. absurd no) last) (among_append p.1.0 (take i all) (x ∷ []) (subst (Among p.1.0) e p.1.1)))
-        (λ z p. later i x z e p)
-        (h, (x, subst (Among x) (sym e) (among_right x (take i all) (x ∷ []) (inl refl)), f, sym g))
+      (λ w p. ap (λ u. slice_cmp nat_cmp u t.text) (sym p.1.3) ∙ ap (slice_cmp nat_cmp p.1.0.text) g ∙ text_less p.1.0 x (p.1.2 ∙ sym f) (before_taken tagged_cmp all i x p.1.0 rises e p.1.1))
+      (λ z p. ⊎_elim (λ old. inl (p.0, (p.1.0, old, p.1.2, p.1.3))) (λ last. ⊎_elim (λ same. inr (same_term z t (sym p.1.3 ∙ ap (λ (y : Tagged). y.text) same ∙ sym g) (p.0 ∙ sym h))) (λ no. absurd no) last) (among_append p.1.0 (take i all) (x ∷ []) (subst (Among p.1.0) e p.1.1)))
+      (λ z p. later i x z e p)
+      (h, (x, subst (Among x) (sym e) (among_right x (take i all) (x ∷ []) (inl refl)), f, sym g))
     where
       same_term : (x y : Term) → x.text ≡ y.text → x.concept ≡ y.concept → x ≡ y
       same_term x y a b = λ i. record { text = a i; concept = b i }
@@ -54,7 +54,7 @@ module _ (n : ℕ) (tag : List ℕ) (all : List Tagged) where
   pub labels_skip : (i : ℕ) (x : Tagged) (terms new : List Term) → take (i + 1) all ≡ take i all ++ x ∷ [] → (x.tag ≡ tag → ⊥) → IsListing by_text (IsOne (take i all)) terms → new ≡ terms → IsListing by_text (IsOne (take (i + 1) all)) new
   labels_skip i x terms new e other l k =
       subst (IsListing by_text (IsOne (take (i + 1) all))) (sym k) (listing_as by_text _ _ terms (λ z p. later i x z e p)
-        (λ z p. ⊎_elim (λ old. (p.0, (p.1.0, old, p.1.2, p.1.3))) (λ last. ⊎_elim (λ same. absurd (other (ap (λ (y : Tagged). y.tag) (sym same) ∙ p.1.2))) (λ no. absurd no) last) (among_append p.1.0 (take i all) (x ∷ []) (subst (Among p.1.0) e p.1.1))) l)
+      (λ z p. ⊎_elim (λ old. (p.0, (p.1.0, old, p.1.2, p.1.3))) (λ last. ⊎_elim (λ same. absurd (other (ap (λ (y : Tagged). y.tag) (sym same) ∙ p.1.2))) (λ no. absurd no) last) (among_append p.1.0 (take i all) (x ∷ []) (subst (Among p.1.0) e p.1.1))) l)
 
   text_ties : (x y : Term) → term_cmp x y ≡ Equal → by_text x y ≡ Equal
   text_ties x y e = first_ties (by_text x y) (nat_cmp x.concept y.concept) (second_ties _ _ e)
@@ -63,6 +63,6 @@ module _ (n : ℕ) (tag : List ℕ) (all : List Tagged) where
       → IsPermutation terms sorted → IsSorted term_cmp sorted → IsListing term_cmp (IsLabelTerm labels n kind tag) sorted
   labels_whole labels kind i terms sorted listed long l p q =
       listing_as term_cmp (IsOne all) _ sorted
-        (λ t r. (r.0, subst (λ u. HasLabel labels n kind u t.text) r.1.2 (subst (HasLabel labels n kind r.1.0.tag) r.1.3 (listed.sound r.1.0 (contains_of r.1.0 all r.1.1)))))
-        (λ t r. (r.0, (record { tag = tag; text = t.text }, among _ all (listed.complete _ r.1), refl, refl)))
-        (relisted by_text term_cmp by_text_total term_total text_ties (IsOne all) terms sorted (subst (λ ts. IsListing by_text (IsOne ts) terms) (take_all i all long) l) p q)
+      (λ t r. (r.0, subst (λ u. HasLabel labels n kind u t.text) r.1.2 (subst (HasLabel labels n kind r.1.0.tag) r.1.3 (listed.sound r.1.0 (contains_of r.1.0 all r.1.1)))))
+      (λ t r. (r.0, (record { tag = tag; text = t.text }, among _ all (listed.complete _ r.1), refl, refl)))
+      (relisted by_text term_cmp by_text_total term_total text_ties (IsOne all) terms sorted (subst (λ ts. IsListing by_text (IsOne ts) terms) (take_all i all long) l) p q)

@@ -38,9 +38,8 @@ module _ (links : Links) (terms : List Term) where
         each = λ b l. ⊎_elim
             (λ old. subst (IsListing child_cmp (IsChild links terms b)) (sym (ap (λ x. at x b) more ∙ at_front (lists below) v.items b (omega (arith, s, old)))) (a.each b old))
             (λ last.
-                let here : m ≡ b = omega (arith, l, last) in
-                subst (λ k. IsListing child_cmp (IsChild links terms k) (at (lists new) k)) here
-                (subst (IsListing child_cmp (IsChild links terms m)) (sym (ap (λ x. at x m) more ∙ ap (at (lists below ++ v.items ∷ [])) (sym s) ∙ at_last (lists below) v.items)) listed))
+            let here : m ≡ b = omega (arith, l, last) in
+            subst (λ k. IsListing child_cmp (IsChild links terms k) (at (lists new) k)) here
+            (subst (IsListing child_cmp (IsChild links terms m)) (sym (ap (λ x. at x m) more ∙ ap (at (lists below ++ v.items ∷ [])) (sym s) ∙ at_last (lists below) v.items)) listed))
             (cases_lt b m);
       }
-

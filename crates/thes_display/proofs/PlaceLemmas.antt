@@ -90,11 +90,13 @@ module _ (tops : List Child) (below : List (List Child)) (n : ℕ) (o : IsHierar
   -- the children of a line at home are lines
   placed_line : (p : Line) → Homeward (up p) → (c : Child) → Among c (at below p.key) → IsIt (placed (up p) c)
   placed_line p i c a =
-      let here = contains_of c (at below p.key) a in
-      (elim c.at_home as (λ h. IsUnder tops below h c.key p.key → Placed h (c.key ∷ up p)) [
-        | true ↦ λ u. (u, i)
-        | false ↦ λ u. (u, i)
-      ] (c.types, here), (c.at_home, here))
+      let here = contains_of c (at below p.key) a in (
+        elim c.at_home as (λ h. IsUnder tops below h c.key p.key → Placed h (c.key ∷ up p)) [
+          | true ↦ λ u. (u, i)
+          | false ↦ λ u. (u, i)
+        ] (c.types, here),
+        (c.at_home, here),
+      )
 
   pub children_below : (p : Line) → IsIt p → p.at_home ≡ true → (k : Line) → Among k (map (placed (up p)) (at below p.key)) → IsIt k × ((x : ℕ) × (up k ≡ x ∷ up p))
   children_below p i home k a =

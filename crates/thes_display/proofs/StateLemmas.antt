@@ -176,8 +176,8 @@ module _ (terms : List Term) (tops : List Child) (below : List (List Child)) (n 
         let k : next.key ≡ s.line.key = ap (λ (f : Waiting). f.key) s.next_is in
         ⊎_elim (λ e. e)
         (λ (w : (w : Line) × Among w s.written × (w.at_home ≡ true) × (w.key ≡ next.key)).
-            let same : w.0 ≡ s.line = one_home_line tops below n o w.0 s.line (s.walk.written_lines w.0 w.1) next_line w.2 (sym next_home ∙ home) (w.3 ∙ k) in
-            absurd (not_below_line s.line (subst (λ z. line_cmp z s.line ≡ Less) same (s.walk.earlier w.0 s.line s.line w.1 (inl refl) ([], refl)))))
+        let same : w.0 ≡ s.line = one_home_line tops below n o w.0 s.line (s.walk.written_lines w.0 w.1) next_line w.2 (sym next_home ∙ home) (w.3 ∙ k) in
+        absurd (not_below_line s.line (subst (λ z. line_cmp z s.line ≡ Less) same (s.walk.earlier w.0 s.line s.line w.1 (inl refl) ([], refl)))))
         (s.left_is next.key)
 
     left_more : (left' : List (List Child)) → next.at_home ≡ true → left' ≡ set left next.key [] → (k : ℕ) → (at left' k ≡ at below k) ⊎ ((w : Line) × Among w (s.written ++ s.line ∷ []) × (w.at_home ≡ true) × (w.key ≡ k))
@@ -212,9 +212,9 @@ module _ (terms : List Term) (tops : List Child) (below : List (List Child)) (n 
           left_is = left_more left' home g;
           depths = λ l a. ⊎_elim
               (λ kid. let c = among_map (placed (up s.line)) l (at below s.line.key) kid in
-                  let d : length l.above ≡ length (up s.line) = ap (λ (z : Line). length z.above) c.2 in
-                  let q = s.depths s.line (inl refl) in
-                  omega (arith, d, q, longer))
+              let d : length l.above ≡ length (up s.line) = ap (λ (z : Line). length z.above) c.2 in
+              let q = s.depths s.line (inl refl) in
+              omega (arith, d, q, longer))
               (λ other. let q = s.depths l (inr other) in omega (arith, q, longer))
               (among_append l kids s.others a);
           left_size = ap length g ∙ length-set left next.key [] ∙ s.left_size;

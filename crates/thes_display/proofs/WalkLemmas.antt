@@ -193,17 +193,17 @@ module _ (IsIt : Line → Type 0) (written : List Line) (p : Line) (ps kids : Li
       ⊎_elim
       (λ old. ⊎_elim (λ kid. h.earlier w p l old (inl refl) (through q l kid e)) (λ other. h.earlier w q l old (inr other) e) (among_append q kids ps b))
       (λ new. ⊎_elim (λ same. subst (λ z. line_cmp z l ≡ Less) (sym same)
-          (⊎_elim (λ kid. after q l kid e) (λ other. (each_of _ ps q h.apart.0 other).less p l ([], refl) e) (among_append q kids ps b))) (λ n. absurd n) new)
+      (⊎_elim (λ kid. after q l kid e) (λ other. (each_of _ ps q h.apart.0 other).less p l ([], refl) e) (among_append q kids ps b))) (λ n. absurd n) new)
       (among_append w written (p ∷ []) a)
 
   rest : (l : Line) → IsIt l → Among l (written ++ p ∷ []) ⊎ ((q : Line) × Among q (kids ++ ps) × Extends q l)
   rest l i =
       ⊎_elim (λ old. inl (among_left l written (p ∷ []) old))
       (λ (w : (q : Line) × Among q (p ∷ ps) × Extends q l).
-          ⊎_elim
-          (λ (same : w.0 ≡ p). ⊎_elim (λ e. inl (among_right l written (p ∷ []) (inl e))) (λ k. inr (k.0, among_left k.0 kids ps k.1, k.2)) (all l i (subst (λ q. Extends q l) same w.2)))
-          (λ other. inr (w.0, among_right w.0 kids ps other, w.2))
-          w.1)
+      ⊎_elim
+      (λ (same : w.0 ≡ p). ⊎_elim (λ e. inl (among_right l written (p ∷ []) (inl e))) (λ k. inr (k.0, among_left k.0 kids ps k.1, k.2)) (all l i (subst (λ q. Extends q l) same w.2)))
+      (λ other. inr (w.0, among_right w.0 kids ps other, w.2))
+      w.1)
       (h.rest l i)
 
   pub walk_step : IsWalk IsIt (written ++ p ∷ []) (kids ++ ps)

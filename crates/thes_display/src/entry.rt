@@ -42,12 +42,7 @@ impl Heading {
 }
 
 // The headings of one concept: its term, and its alternative labels in alphabetical order.
-fn headings_at(
-    alloc: Global,
-    core: &Core,
-    n: ResNo,
-    tag: &Tag,
-) -> Result<Vec<Heading>, AllocError>
+fn headings_at(alloc: Global, core: &Core, n: ResNo, tag: &Tag) -> Result<Vec<Heading>, AllocError>
     requires { core.now.spent ≡ false }
     ensures { let is_heading = IsHeadingAt core.now.state tag.now n in
         IfOk result (λ headings. IsListing heading_key is_heading headings.items) }

@@ -20,7 +20,12 @@ use thes_base::text::Tag;
 use thes_core::Core;
 
 /// The live concepts of a scheme under their terms, in alphabetical order.
-pub fn terms_of(alloc: Global, core: &Core, scheme: ResNo, tag: &Tag) -> Result<Vec<Term>, AllocError>
+pub fn terms_of(
+    alloc: Global,
+    core: &Core,
+    scheme: ResNo,
+    tag: &Tag,
+) -> Result<Vec<Term>, AllocError>
     requires { core.now.spent ≡ false }
     ensures terms { IfOk result (λ terms. AreTerms core.now.state scheme tag.now terms.items) }
     ensures one_key { IfOk result (λ terms. HaveOneKey terms.items) }

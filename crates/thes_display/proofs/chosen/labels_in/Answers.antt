@@ -20,8 +20,8 @@ loop-label-preserved c =
     let i = c.loop-label.label-index in
     let x : Tagged = tagged c.label-item.result.now in
     let t : take (i + 1) all ≡ take i all ++ x ∷ [] =
-        take-map (λ b. tagged b.now) (i + 1) labels ∙ ap (map (λ b. tagged b.now)) (take_more labels i c.label-item.result (omega arith) ∙ ap (λ z. take i labels ++ z ∷ []) (sym c.label-item.is))
-        ∙ map-append (λ b. tagged b.now) (take i labels) (c.label-item.result ∷ []) ∙ ap (λ z. z ++ x ∷ []) (sym (take-map (λ b. tagged b.now) i labels)) in
+    take-map (λ b. tagged b.now) (i + 1) labels ∙ ap (map (λ b. tagged b.now)) (take_more labels i c.label-item.result (omega arith) ∙ ap (λ z. take i labels ++ z ∷ []) (sym c.label-item.is))
+    ∙ map-append (λ b. tagged b.now) (take i labels) (c.label-item.result ∷ []) ∙ ap (λ z. z ++ x ∷ []) (sym (take-map (λ b. tagged b.now) i labels)) in
     elim c.if-eq.branch [
       | then-eq+in_ok-text+in_ok-new+in_ok-push w ↦ labels_more c.args.n c.args.tag.now all i x _ _ _ listed.rises t (ap (λ b. b.now.tag) (sym c.label.view_is) ∙ sym c.as_str.ensures.text ∙ (bytes_decides _ _).0 (sym c.eq.ensures ∙ w.if-eq.true) ∙ c.as_str-in-loop-label.ensures.text) (w.in_ok-new.ensures.text ∙ w.in_ok-text.ensures.ok ∙ w.text.ensures) w.in_ok-new.ensures.concept c.loop-label.invariant (ap (λ v. v.items) w.terms-is ∙ w.in_ok-push.ensures.items)
       | else-eq w ↦ labels_skip c.args.n c.args.tag.now all i x _ _ t (λ same. true≢false (sym ((bytes_decides _ _).1 (c.as_str.ensures.text ∙ ap (λ b. b.now.tag) c.label.view_is ∙ same ∙ sym c.as_str-in-loop-label.ensures.text)) ∙ sym c.eq.ensures ∙ w.if-eq.false)) c.loop-label.invariant (ap (λ v. v.items) w.terms-is)

@@ -7,9 +7,11 @@ use Rattle.thes_display.proofs.HeadingLemmas.{own_heading, lead_in_more, heading
 use Rattle.thes_display.proofs.entry.headings_at.Goals as goal
 
 pub loop-term-init : goal.loop-term-init
-loop-term-init c =
-    (own_heading c.args.core.now.state c.args.tag.now c.args.n c.in_ok-new.field-0 _ _ (c.in_ok-new.ensures.text ∙ c.in_ok-text.ensures) c.in_ok-new.ensures.concept c.new-headings.ensures.items c.in_ok-push.ensures.items,
-     refl, ap length c.into_iter-term-iterator.ensures.into_iter_gives.0 ∙ sym c.in_ok-term-items.term-items.ok.0 ∙ sym c.into_iter-term-iterator.ensures.into_iter_gives.1)
+loop-term-init c = (
+  own_heading c.args.core.now.state c.args.tag.now c.args.n c.in_ok-new.field-0 _ _ (c.in_ok-new.ensures.text ∙ c.in_ok-text.ensures) c.in_ok-new.ensures.concept c.new-headings.ensures.items c.in_ok-push.ensures.items,
+  refl,
+  ap length c.into_iter-term-iterator.ensures.into_iter_gives.0 ∙ sym c.in_ok-term-items.term-items.ok.0 ∙ sym c.into_iter-term-iterator.ensures.into_iter_gives.1,
+)
 
 pub loop-term-preserved : goal.loop-term-preserved
 loop-term-preserved c =
@@ -17,10 +19,11 @@ loop-term-preserved c =
     let a = ap length step.0 in
     let b = step.1 in
     let d = c.loop-term.invariant.2 in
-    let whole = ap (λ r. c.loop-term.yielded ++ r) (sym step.0) ∙ c.loop-term.invariant.1 in
-    (lead_in_more c.args.core.now.state c.args.tag.now c.args.n _ c.loop-term.yielded c.next.new.self.rest.items c.in-Some.term _ _ (subst (IsListing term_cmp (IsLabelTerm c.args.core.now.state.labels c.args.n Alt c.args.tag.now)) (sym c.into_iter-term-iterator.ensures.into_iter_gives.0) c.in_ok-term-items.ensures) whole c.loop-term.invariant.0 c.in_ok-push-2.ensures.items,
-     append_assoc c.loop-term.yielded (c.in-Some.term ∷ []) c.next.new.self.rest.items ∙ whole,
-     omega (arith, a, b, d))
+    let whole = ap (λ r. c.loop-term.yielded ++ r) (sym step.0) ∙ c.loop-term.invariant.1 in (
+      lead_in_more c.args.core.now.state c.args.tag.now c.args.n _ c.loop-term.yielded c.next.new.self.rest.items c.in-Some.term _ _ (subst (IsListing term_cmp (IsLabelTerm c.args.core.now.state.labels c.args.n Alt c.args.tag.now)) (sym c.into_iter-term-iterator.ensures.into_iter_gives.0) c.in_ok-term-items.ensures) whole c.loop-term.invariant.0 c.in_ok-push-2.ensures.items,
+      append_assoc c.loop-term.yielded (c.in-Some.term ∷ []) c.next.new.self.rest.items ∙ whole,
+      omega (arith, a, b, d),
+    )
 
 pub returns : goal.returns
 returns c =
