@@ -1,5 +1,6 @@
 -- A link within a scheme joins live concepts of one scheme.
-use Rattle.std.proofs.Common.{◌≡◌, ◌∙◌, sym, ap, subst, ℕ, Bool, true, false, ◌&&◌, Some, ◌↔◌}
+use Rattle.std.proofs.Common.{◌≡◌, ◌∙◌, sym, ap, subst, ℕ, Bool, true, false, Some, ◌↔◌}
+use Rattle.std.proofs.lemmas.Bool.{and_from}
 use Rattle.thes_base.specs.declared.data.Resource.{Resource}
 use Rattle.thes_base.specs.declared.data.LinkKind.{LinkKind}
 use Rattle.thes_base.specs.declared.data.LinkForm.TheVariants.{Within}
@@ -12,10 +13,6 @@ use Rattle.thes_core.specs.declared.thesaurus.Thesaurus.{Thesaurus}
 use Rattle.thes_core.specs.Kept.{Kept}
 use Rattle.thes_core.specs.View.{state_of, setting_of, IsKept}
 
-both : (a b : Bool) → a ≡ true → b ≡ true → (a && b) ≡ true
-both true b e f = f
-both false b e f = absurd (cc)
-
 one_resource : (r q : Resource) → Some r ≡ Some q → r ≡ q
 one_resource r q e = cc
 
@@ -23,7 +20,7 @@ module _ (t : Thesaurus) (kept : IsKept t) where
   live_concept : (n : ℕ) → IsConcept t.vocab.resources n → IsLive t.vocab.resources n → IsLiveConcept t.vocab.resources n
   live_concept n (r, at, kind) (q, at_q, live) =
       let same = one_resource q r (sym at_q ∙ at) in
-      (r, at, both (is_concept_kind r.kind) r.live kind (sym (ap (λ (x : Resource). x.live) same) ∙ live))
+      (r, at, and_from (is_concept_kind r.kind) r.live kind (sym (ap (λ (x : Resource). x.live) same) ∙ live))
 
   within : (scheme : ℕ) (kind : LinkKind) (a b : ℕ) → form_of kind ≡ Within → HasLink t.graph.links kind a b → IsConceptOf t.vocab.resources scheme a ↔ IsConceptOf t.vocab.resources scheme b
   within scheme kind a b f h =
@@ -36,4 +33,4 @@ module _ (t : Thesaurus) (spent : Bool) (k : Kept) (is : record { state = state_
   pub closed : (scheme : ℕ) (kind : LinkKind) (a b : ℕ) → form_of kind ≡ Within → HasLink k.state.links kind a b → IsConceptOf k.state.resources scheme a ↔ IsConceptOf k.state.resources scheme b
   closed scheme kind a b f =
       subst (λ (x : Kept). HasLink x.state.links kind a b → IsConceptOf x.state.resources scheme a ↔ IsConceptOf x.state.resources scheme b) is
-        (within t (kept (ap (λ (x : Kept). x.spent) is ∙ unspent)) scheme kind a b f)
+      (within t (kept (ap (λ (x : Kept). x.spent) is ∙ unspent)) scheme kind a b f)

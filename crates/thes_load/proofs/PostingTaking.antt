@@ -35,14 +35,6 @@ any_append q key (k ∷ keys) = ap (λ b. eq_by_cmp (slice_cmp nat_cmp) q k || b
     swap false true c = refl
     swap false false c = refl
 
-pub new_key : (b : Bool) → not b ≡ true → b ≡ false
-new_key true e = absurd (cc)
-new_key false e = refl
-
-pub old_key : (b : Bool) → not b ≡ false → b ≡ true
-old_key true e = refl
-old_key false e = absurd (cc)
-
 either : (a b : Bool) → cond a true b ≡ (a || b)
 either true b = refl
 either false b = refl

@@ -1,6 +1,7 @@
 use Rattle.std.proofs.Common.{◌≡◌, ◌++◌, ◌∷◌, [], ◌∙◌, List, ℕ, subst, sym, length, true≢false, rules}
 use Rattle.thes_load.specs.Taken.{has_key, HasPostings, IsNextPosting}
-use Rattle.thes_load.proofs.PostingTaking.{not_next, key_held, next_taken, new_key, old_key}
+use Rattle.thes_load.proofs.PostingTaking.{not_next, key_held, next_taken}
+use Rattle.std.proofs.lemmas.Bool.{not-true, not-false}
 use Rattle.thes_load.proofs.postings.PostingLoad.take.Goals as goal
 
 pub returns-then-branch : goal.returns-then-branch
@@ -12,12 +13,12 @@ returns-then-branch c = λ rows has.
     subst (λ (ls : List ℕ × List ℕ). HasPostings c.args.resources.now c.take_key.new.keys.keys ls.0 ls.1 (rows ++ c.args.row ∷ [])) (λ i. (sym firsts i, sym ats i))
     (next_taken c.args.resources.now c.args.self.now.keys.keys c.args.self.now.firsts.items c.args.self.now.ats.items rows c.args.row has c.take_key.new.keys.keys
     (subst (λ k. IsNextPosting c.args.resources.now k c.args.row) count (c.is_next.ensures.0 c.if-is_next.true)) c.requires
-    (new_key (has_key c.args.self.now.keys.keys c.args.row.key) (sym key.0 ∙ c.if-branch.true)) key.1)
+    (not-true (has_key c.args.self.now.keys.keys c.args.row.key) (sym key.0 ∙ c.if-branch.true)) key.1)
 
 pub returns-then-is_next : goal.returns-then-is_next
 returns-then-is_next c = λ rows has.
     key_held c.args.resources.now c.args.self.now.keys.keys c.args.self.now.firsts.items c.args.self.now.ats.items rows c.args.row has
-    (old_key (has_key c.args.self.now.keys.keys c.args.row.key) (sym (c.in_ok-take_key.ensures).0 ∙ c.if-branch.false))
+    (not-false (has_key c.args.self.now.keys.keys c.args.row.key) (sym (c.in_ok-take_key.ensures).0 ∙ c.if-branch.false))
 
 pub returns : goal.returns
 returns c = λ rows has.
