@@ -34,10 +34,6 @@ module _ {S A : Type 0} (gives : S → A → Result (Unit {0}) Fault → S → T
   some_more (x ∷ xs) ys fault old new (inr (inl refused)) = inr (inl refused)
   some_more (x ∷ xs) ys fault old new (inr (inr (mid, g, t))) = inr (inr (mid, g, some_more xs ys fault mid new t))
 
-  pub hands_then : (xs ys : List A) (old mid new : S) (result : Result (Unit {0}) Fault) → Takes gives old xs mid → Hands gives mid ys result new → Hands gives old (xs ++ ys) result new
-  hands_then xs ys old mid new (Ok done) t h = takes_then xs ys old mid new t h
-  hands_then xs ys old mid new (Err fault) t h = some_then xs ys fault old mid new t h
-
   -- one row of a list after another
   module _ {R : Type 0} (f : R → A) where
     pub takes_next : (xs : List R) (i : ℕ) (x : R) (old mid new : S) → i < length xs → x ≡ get_or xs i x → Takes gives old (map f (take i xs)) mid → Takes gives mid (f x ∷ []) new → Takes gives old (map f (take (i + 1) xs)) new
