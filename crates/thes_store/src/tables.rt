@@ -94,7 +94,7 @@ impl MemTables {
         }
     }
 
-    /// Makes changes in their order, where an index tells before each at which concept each posting stands.
+    /// Makes changes in their order, where an index tells before each where each posting stands.
     pub fn make_all(&mut self, changes: Vec<Change>, standing: &Index)
         requires room { HasRoom (length changes.items) self.old }
         requires standing { StandThroughout standing.now changes.items (tables_of self.old) }
