@@ -1,11 +1,12 @@
 -- Rows are found after a change, too.
 use Rattle.std.proofs.Common.{◌≡◌, ◌⊎◌, ◌+◌, ◌-◌, ◌<◌, ◌≤◌, ◌∙◌, inl, inr, ℕ, zero, suc, List, [], ◌∷◌, length, map, Bool, true, false, cond, take, get_or, refl, sym, ap, subst, arith, ⊎_elim, length-append}
-use Rattle.std.specs.Prelude.{Option, None, Some, slice_get, slice_set, not, ◌&&◌, ◌==◌}
+use Rattle.std.specs.Prelude.{Option, None, Some, Result, slice_get, slice_set, not, ◌&&◌, ◌==◌}
 use Rattle.std.specs.Ordering.{nat_cmp}
+use Rattle.std.specs.declared.alloc.AllocError.{AllocError}
 use Rattle.std.specs.Cmp.Lexicographic.{slice_cmp}
 use Rattle.std.specs.BTreeMap.{BTreeMap, UpdatesBy, get}
 use Rattle.std.specs.Str.{bytes_eq}
-use Rattle.std.proofs.lemmas.Bool.{cases_Bool}
+use Rattle.std.proofs.lemmas.Bool.{cases_Bool, cases_eq, cases_lt}
 use Rattle.std.proofs.lemmas.Map.Text.{is_eq-slice_cmp}
 use Rattle.std.proofs.lemmas.Option.{same_Some}
 use Rattle.std.proofs.lemmas.Slice.Eq.{bytes_eq-Decides}
@@ -19,10 +20,10 @@ use Rattle.thes_rows.specs.Tables.{Tables, IsIn}
 use Rattle.thes_rows.specs.Rows.{changed, all_changed, with_posting, withdrawn_row, placed_row, moved_row, Fits, FitAll}
 use Rattle.thes_rows.proofs.Sets.{append_left, map_in}
 use Rattle.thes_rows.proofs.Steps.{all_append}
-use Rattle.thes_store.proofs.Places.{take_one}
+use Rattle.thes_store.proofs.Places.{take_one, take_whole}
 use Rattle.thes_store.specs.declared.indexes.Indexes.{Indexes}
 use Rattle.thes_store.specs.Index.{IsAt}
-use Rattle.thes_store.specs.Covers.{Covers, Grows, IsOtherKey, Reaches, moves_more}
+use Rattle.thes_store.specs.Covers.{Covers, CoversAll, CoversBoth, AreStanding, Grows, IsOtherKey, Reaches, moves_more}
 
 -- Rows of a list that is changed.
 
@@ -212,14 +213,16 @@ fit_at [] i c t lt e fits = absurd (omega arith)
 fit_at (x ∷ changes) zero c t lt e fits = subst (λ y. Fits y t) (sym e) fits.0
 fit_at (x ∷ changes) (suc i) c t lt e fits = fit_at changes i c (changed x t) (omega arith) e fits.1
 
--- the rows of the first tables are found, and so are those that these changes make of them
-pub record SoFar (x : Indexes) (done : List Change) (t : Tables) (step : ℕ) : Type 0 where
+-- the rows of the first tables are found, and so are those that the first i changes make of them; in between each posting is
+-- found by the concept where it stands
+pub record SoFar (x : Indexes) (changes : List Change) (i : ℕ) (t : Tables) (step : ℕ) : Type 0 where
   pub first : Covers x t
-  pub last : Covers x (all_changed done t)
-  pub moves : length (all_changed done t).move ≡ step
+  pub last : Covers x (all_changed (take i changes) t)
+  pub standing : (k : ℕ) → k ≤ i → AreStanding x.standing (all_changed (take k changes) t).posting
+  pub moves : length (all_changed (take i changes) t).move ≡ step
 
-pub begins : (x : Indexes) (t : Tables) (moves : ℕ) → length t.move ≡ moves → Covers x t → SoFar x [] t moves
-begins x t moves len covers = record { first = covers; last = covers; moves = len }
+pub begins : (x : Indexes) (changes : List Change) (t : Tables) (moves : ℕ) → length t.move ≡ moves → Covers x t → SoFar x changes 0 t moves
+begins x changes t moves len covers = record { first = covers; last = covers; standing = λ k least. subst (λ n. AreStanding x.standing (all_changed (take n changes) t).posting) (let e : 0 ≡ k = omega (arith, least) in e) covers.standing; moves = len }
 
 moves_grow : (c : Change) (t : Tables) → length (changed c t).move ≡ length t.move + moves_more c
 moves_grow (change.AddResource n r) t = omega arith
@@ -255,21 +258,43 @@ moves_few (change.SetPlace n place) = omega arith
 moves_few (change.MoveAll source target) = omega arith
 moves_few (change.AddMove r) = omega arith
 
-pub stops : (old new : Indexes) (changes : List Change) (i : ℕ) (c : Change) (t : Tables) (step : ℕ) → i < length changes → c ≡ get_or changes i c → FitAll changes t → SoFar old (take i changes) t step → Grows c old new → Covers new t
+pub stops : (old new : Indexes) (changes : List Change) (i : ℕ) (c : Change) (t : Tables) (step : ℕ) → i < length changes → c ≡ get_or changes i c → FitAll changes t → SoFar old changes i t step → Grows c old new → Covers new t
 stops old new changes i c t step lt is fits so_far grows =
     let s = all_changed (take i changes) t in
     grown c old new t grows (λ row h. let z = keys_stay (take i changes) t row h in subst (IsOtherKey c) z.2 (other_key c s z.0 (fit_at changes i c t lt is fits) z.1)) so_far.first
 
-pub goes_on : (old new : Indexes) (changes : List Change) (i : ℕ) (c : Change) (t : Tables) (step next : ℕ) → i < length changes → c ≡ get_or changes i c → FitAll changes t → SoFar old (take i changes) t step → Grows c old new → ((s : Tables) → Fits c s → Covers old s → Reaches new c s step)
-    → next ≡ step + moves_more c → SoFar new (take (i + 1) changes) t next
+pub goes_on : (old new : Indexes) (changes : List Change) (i : ℕ) (c : Change) (t : Tables) (step next : ℕ) → i < length changes → c ≡ get_or changes i c → FitAll changes t → SoFar old changes i t step → Grows c old new → ((s : Tables) → Fits c s → Covers old s → Reaches new c s step)
+    → next ≡ step + moves_more c → SoFar new changes (i + 1) t next
 goes_on old new changes i c t step next lt is fits so_far grows reaches next_is =
     let s = all_changed (take i changes) t in
     let fit = fit_at changes i c t lt is fits in
     let done : all_changed (take (i + 1) changes) t ≡ changed c s = ap (λ (l : List Change). all_changed l t) (take_one changes i c lt is) ∙ all_append (take i changes) (c ∷ []) t in
     let more = moves_grow c s in
     let before = so_far.moves in
+    let last = subst (Covers new) (sym done) (covered new c s step so_far.moves (reaches s fit so_far.last) (grown c old new s grows (λ row h. other_key c s row fit h) so_far.last)) in
     record {
       first = stops old new changes i c t step lt is fits so_far grows;
-      last = subst (Covers new) (sym done) (covered new c s step so_far.moves (reaches s fit so_far.last) (grown c old new s grows (λ row h. other_key c s row fit h) so_far.last));
+      last = last;
+      standing = λ k least. elim (cases_eq k (i + 1)) [
+        | inl now ↦ subst (λ n. AreStanding new.standing (all_changed (take n changes) t).posting) (sym now) last.standing
+        | inr apart ↦ λ j row at. grows.standing row.place j (so_far.standing k (omega (arith, least, apart)) j row at)
+      ];
       moves = ap (λ (u : Tables). length u.move) done ∙ more ∙ ap (λ n. n + moves_more c) before ∙ sym next_is;
     }
+
+pub ends : (x : Indexes) (changes : List Change) (i : ℕ) (t : Tables) (step : ℕ) → length changes ≤ i → SoFar x changes i t step → CoversAll x changes t
+ends x changes i t step all so_far =
+    let same = take_whole changes i all in
+    record {
+      last = subst (λ (l : List Change). Covers x (all_changed l t)) same so_far.last;
+      standing = λ k. elim (cases_lt i k) [
+        | inr least ↦ so_far.standing k least
+        | inl past ↦ subst (λ (l : List Change). AreStanding x.standing (all_changed l t).posting) (same ∙ sym (take_whole changes k (omega (arith, all, past)))) so_far.last.standing
+      ];
+    }
+
+-- what is found where a commit begins and ends: it fits the tables as they are seen, and makes room in them before
+pub covers_both : (x y : Indexes) (changes given : List Change) (moves : ℕ) (room inside seen : Tables) (result : Result (Unit {0}) AllocError) → ((t : Tables) → FitAll given t → length t.move ≡ moves → Covers x t → CoversBoth y given t result)
+    → given ≡ changes → room ≡ inside → inside ≡ seen → FitAll changes seen → length room.move ≡ moves → Covers x inside → CoversBoth y given room result
+covers_both x y changes given moves room inside seen result both same roomy view fits len covers =
+    both room (subst (λ (l : List Change). FitAll l room) (sym same) (subst (FitAll changes) (sym (roomy ∙ view)) fits)) len (subst (Covers x) (sym roomy) covers)

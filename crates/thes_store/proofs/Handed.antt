@@ -1,7 +1,7 @@
 -- What a sink takes, part after part.
-use Rattle.std.proofs.Common.{◌≡◌, ◌<◌, ◌+◌, ◌++◌, ◌∙◌, inl, inr, ℕ, zero, suc, List, [], ◌∷◌, length, map, take, get_or, Bool, refl, sym, ap, subst, arith, append_assoc, append-nil}
+use Rattle.std.proofs.Common.{◌≡◌, ◌<◌, ◌+◌, ◌++◌, ◌∙◌, inl, inr, ℕ, zero, suc, List, [], ◌∷◌, length, map, take, get_or, refl, sym, ap, subst, arith, append_assoc, append-nil}
 use Rattle.std.proofs.lemmas.List.{map-append}
-use Rattle.std.specs.Prelude.{Option, Some, slice_get, Result, Ok, Err}
+use Rattle.std.specs.Prelude.{Option, Some, Result, Ok, Err}
 use Rattle.std.specs.Result.{IsErr}
 use Rattle.thes_base.specs.declared.fault.Fault.{Fault}
 use Rattle.thes_base.specs.declared.fault.Table.{Table}
@@ -10,9 +10,8 @@ use Rattle.thes_base.specs.declared.data.Resource.{Resource}
 use Rattle.thes_rows.specs.declared.cells.Cell.{Cell}
 use Rattle.thes_rows.specs.Cells.{Raw, resource_cells, resource_rows}
 use Rattle.thes_store.specs.Handing.{Takes, TakesSome, Hands, handed_of, handed}
-use Rattle.thes_store.specs.Loading.{handed_first, handed_last}
-use Rattle.thes_store.specs.Picked.{passing, picked}
-use Rattle.thes_store.proofs.Places.{take_one, split_at, picked_append, picked_cons}
+use Rattle.thes_store.specs.Loading.{rows_of, handed_tables}
+use Rattle.thes_store.proofs.Places.{take_one, split_at}
 
 module _ {S A : Type 0} (gives : S → A → Result (Unit {0}) Fault → S → Type 0) where
   -- one more was taken, or refused
@@ -34,18 +33,6 @@ module _ {S A : Type 0} (gives : S → A → Result (Unit {0}) Fault → S → T
   some_more (x ∷ xs) ys fault old new (inl none) = inl none
   some_more (x ∷ xs) ys fault old new (inr (inl refused)) = inr (inl refused)
   some_more (x ∷ xs) ys fault old new (inr (inr (mid, g, t))) = inr (inr (mid, g, some_more xs ys fault mid new t))
-
-  pub hands_then : (xs ys : List A) (old mid new : S) (result : Result (Unit {0}) Fault) → Takes gives old xs mid → Hands gives mid ys result new → Hands gives old (xs ++ ys) result new
-  hands_then xs ys old mid new (Ok done) t h = takes_then xs ys old mid new t h
-  hands_then xs ys old mid new (Err fault) t h = some_then xs ys fault old mid new t h
-
-  -- one part after another, of which the last may fail
-
-  pub stage : (xs ys : List A) (old mid new : S) (r result : Result (Unit {0}) Fault) (done : Unit {0}) → r ≡ Ok done → Hands gives old xs r mid → Hands gives mid ys result new → Hands gives old (xs ++ ys) result new
-  stage xs ys old mid new r result done is t h = hands_then xs ys old mid new result (subst (λ q. Hands gives old xs q mid) is t) h
-
-  pub failed : (xs ys : List A) (old new : S) (r : Result (Unit {0}) Fault) (fault : Fault) → r ≡ Err fault → Hands gives old xs r new → TakesSome gives fault old (xs ++ ys) new
-  failed xs ys old new r fault is h = some_more xs ys fault old new (subst (λ q. Hands gives old xs q new) is h)
 
   -- one row of a list after another
   module _ {R : Type 0} (f : R → A) where
@@ -105,22 +92,40 @@ module _ {S : Type 0} (gives : S → Table × Option (List Cell) → Result (Uni
       (some_then gives (map as_resource (resource_rows 1 (take i rs))) (as_resource (resource_cells (1 + i) r) ∷ map as_resource h.0) fault old mid new t
       (some_more gives (as_resource (resource_cells (1 + i) r) ∷ []) (map as_resource h.0) fault mid new u))
 
--- the two halves are all tables
-pub halves : (raw : Raw) → handed_first raw ++ handed_last raw ≡ handed raw
-halves raw =
-    let m = handed_of table.Meta raw.meta in
-    let r = handed_of table.Resource raw.resource in
-    let o = handed_of table.Outside raw.outside in
-    let l = handed_of table.Label raw.label in
-    let k = handed_of table.Link raw.link in
-    let h = handed_of table.Hier raw.hier in
-    let p = handed_of table.Posting raw.posting in
-    let v = handed_of table.Move raw.move in
-    let f = ((m ++ r) ++ o) ++ l in
-    sym (append_assoc ((f ++ k) ++ h) p v ∙ append_assoc (f ++ k) h (p ++ v) ∙ append_assoc f k (h ++ (p ++ v))
-    ∙ ap (λ (x : List (Table × Option (List Cell))). x ++ (k ++ (h ++ (p ++ v)))) (append_assoc (m ++ r) o l ∙ append_assoc m r (o ++ l)))
+-- Tables, in turn.
 
--- Rows at places.
+pub tables_append : (raw : Raw) (names more : List Table) → handed_tables raw (names ++ more) ≡ handed_tables raw names ++ handed_tables raw more
+tables_append raw [] more = refl
+tables_append raw (name ∷ names) more = ap (λ l. handed_of name (rows_of name raw) ++ l) (tables_append raw names more) ∙ sym (append_assoc (handed_of name (rows_of name raw)) (handed_tables raw names) (handed_tables raw more))
+
+abbrev handed_after : List (Table × Option (List Cell)) → Raw → List Table → List (Table × Option (List Cell))
+handed_after before raw [] = before
+handed_after before raw (name ∷ names) = handed_after (before ++ handed_of name (rows_of name raw)) raw names
+
+after_tables : (before : List (Table × Option (List Cell))) (raw : Raw) (names : List Table) → before ++ handed_tables raw names ≡ handed_after before raw names
+after_tables before raw [] = append-nil before
+after_tables before raw (name ∷ names) = sym (append_assoc before (handed_of name (rows_of name raw)) (handed_tables raw names)) ∙ after_tables (before ++ handed_of name (rows_of name raw)) raw names
+
+-- all tables, in their order
+pub all_tables : (raw : Raw) → handed_tables raw (table.Meta ∷ table.Resource ∷ table.Outside ∷ table.Label ∷ table.Link ∷ table.Hier ∷ table.Posting ∷ table.Move ∷ []) ≡ handed raw
+all_tables raw = after_tables [] raw (table.Meta ∷ table.Resource ∷ table.Outside ∷ table.Label ∷ table.Link ∷ table.Hier ∷ table.Posting ∷ table.Move ∷ [])
+
+-- One part after another.
+
+module _ {S A X : Type 0} (gives : S → A → Result (Unit {0}) Fault → S → Type 0) (parts : List X → List A) (splits : (xs ys : List X) → parts (xs ++ ys) ≡ parts xs ++ parts ys) where
+  pub part_taken : (xs : List X) (i : ℕ) (x : X) (old mid new : S) (r : Result (Unit {0}) Fault) (done : Unit {0}) → i < length xs → x ≡ get_or xs i x → Takes gives old (parts (take i xs)) mid → r ≡ Ok done → Hands gives mid (parts (x ∷ [])) r new → Takes gives old (parts (take (i + 1) xs)) new
+  part_taken xs i x old mid new r done lt is t ok h =
+      subst (λ l. Takes gives old l new) (sym (ap parts (take_one xs i x lt is) ∙ splits (take i xs) (x ∷ [])))
+      (takes_then gives (parts (take i xs)) (parts (x ∷ [])) old mid new t (subst (λ q. Hands gives mid (parts (x ∷ [])) q new) ok h))
+
+  pub part_refused : (xs : List X) (i : ℕ) (x : X) (fault : Fault) (old mid new : S) (r : Result (Unit {0}) Fault) → i < length xs → x ≡ get_or xs i x → Takes gives old (parts (take i xs)) mid → r ≡ Err fault → Hands gives mid (parts (x ∷ [])) r new → TakesSome gives fault old (parts xs) new
+  part_refused xs i x fault old mid new r lt is t err h =
+      let rest = split_at xs i x lt is in
+      subst (λ l. TakesSome gives fault old l new) (sym (ap parts rest.1 ∙ splits (take i xs) (x ∷ rest.0) ∙ ap (λ l. parts (take i xs) ++ l) (splits (x ∷ []) rest.0)))
+      (some_then gives (parts (take i xs)) (parts (x ∷ []) ++ parts rest.0) fault old mid new t
+      (some_more gives (parts (x ∷ [])) (parts rest.0) fault mid new (subst (λ q. Hands gives mid (parts (x ∷ [])) q new) err h)))
+
+-- Nothing is handed out.
 
 module _ {S A : Type 0} (gives : S → A → Result (Unit {0}) Fault → S → Type 0) where
   pub none_taken : (xs : List A) (fault : Fault) (old : S) → TakesSome gives fault old xs old
@@ -131,18 +136,3 @@ module _ {S A : Type 0} (gives : S → A → Result (Unit {0}) Fault → S → T
   pub none_handed : (xs : List A) (old : S) (r : Result (Unit {0}) Fault) → IsErr r → Hands gives old xs r old
   none_handed xs old (Ok done) is = absurd (cc)
   none_handed xs old (Err fault) is = none_taken xs fault old
-
-  module _ (p : A → Bool) where
-    pub place_handed : (rows : List A) (places : List ℕ) (i place : ℕ) (old mid new : S) (r : Result (Unit {0}) Fault) (done : Unit {0}) → i < length places → place ≡ get_or places i place → Takes gives old (picked p rows (take i places)) mid → r ≡ Ok done → Hands gives mid (passing p (slice_get rows place)) r new
-        → Takes gives old (picked p rows (take (i + 1) places)) new
-    place_handed rows places i place old mid new r done lt is t ok h =
-        subst (λ l. Takes gives old l new) (sym (ap (picked p rows) (take_one places i place lt is) ∙ picked_append p rows (take i places) (place ∷ []) ∙ ap (λ l. picked p rows (take i places) ++ l) (picked_cons p rows place [] ∙ append-nil (passing p (slice_get rows place)))))
-        (takes_then gives (picked p rows (take i places)) (passing p (slice_get rows place)) old mid new t (subst (λ q. Hands gives mid (passing p (slice_get rows place)) q new) ok h))
-
-    pub place_refused : (rows : List A) (places : List ℕ) (i place : ℕ) (fault : Fault) (old mid new : S) (r : Result (Unit {0}) Fault) → i < length places → place ≡ get_or places i place → Takes gives old (picked p rows (take i places)) mid → r ≡ Err fault → Hands gives mid (passing p (slice_get rows place)) r new
-        → TakesSome gives fault old (picked p rows places) new
-    place_refused rows places i place fault old mid new r lt is t err h =
-        let rest = split_at places i place lt is in
-        subst (λ l. TakesSome gives fault old l new) (sym (ap (picked p rows) rest.1 ∙ picked_append p rows (take i places) (place ∷ rest.0) ∙ ap (λ l. picked p rows (take i places) ++ l) (picked_cons p rows place rest.0)))
-        (some_then gives (picked p rows (take i places)) (passing p (slice_get rows place) ++ picked p rows rest.0) fault old mid new t
-        (some_more gives (passing p (slice_get rows place)) (picked p rows rest.0) fault mid new (subst (λ q. Hands gives mid (passing p (slice_get rows place)) q new) err h)))

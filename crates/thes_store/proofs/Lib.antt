@@ -3,3 +3,4 @@ pub mod Tabling
 pub mod Covering
 pub mod Handed
 pub mod Finding
+pub mod Moving

@@ -21,7 +21,7 @@ use Rattle.thes_store.specs.Picked.{passing, picked}
 
 -- Places of an index.
 
-in_keys : (ks : List ℕ) (place : ℕ) → list_any (is_at (nat_cmp place)) ks ≡ true → IsIn place ks
+pub in_keys : (ks : List ℕ) (place : ℕ) → list_any (is_at (nat_cmp place)) ks ≡ true → IsIn place ks
 in_keys [] place h = absurd (cc)
 in_keys (k ∷ ks) place h = go (nat_cmp place k) (ranked place k (nat_cmp place k) refl) h (in_keys ks place)
   where

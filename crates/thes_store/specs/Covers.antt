@@ -1,5 +1,5 @@
 -- By what the rows of postings and of moves are found.
-use Rattle.std.specs.Prelude.{◌≡◌, ◌≢◌, ◌-◌, ℕ, List, length, Some, slice_get, Result, OnOk}
+use Rattle.std.specs.Prelude.{◌≡◌, ◌≢◌, ◌-◌, ℕ, List, length, Some, slice_get, take, Result, OnOk}
 use Rattle.std.specs.BTreeMap.{get}
 use Rattle.std.specs.Cmp.Lexicographic.{slice_cmp}
 use Rattle.std.specs.Ordering.{nat_cmp}
@@ -10,13 +10,22 @@ use Rattle.thes_rows.specs.declared.rows.MoveRow.{MoveRow}
 use Rattle.thes_rows.specs.Tables.{Tables}
 use Rattle.thes_rows.specs.Rows.{all_changed}
 use Rattle.thes_store.specs.declared.indexes.Indexes.{Indexes}
+use Rattle.thes_store.specs.declared.index.Index.{Index}
 use Rattle.thes_store.specs.Index.{IsAt, KeepsPlaces}
+
+-- each posting is found by the concept where it stands
+abbrev pub AreStanding : Index → List PostingRow → Type 0
+AreStanding index rows = (i : ℕ) (row : PostingRow) → slice_get rows i ≡ Some row → IsAt index row.place i
+
+-- so it is after any first ones of these changes
+abbrev pub StandThroughout : Index → List Change → Tables → Type 0
+StandThroughout index changes t = (k : ℕ) → AreStanding index (all_changed (take k changes) t).posting
 
 -- Each row is found: a posting by its key and by the concept where it stands, a move by its posting. There may be more places
 -- in the indexes than rows that stand there.
 pub record Covers (x : Indexes) (t : Tables) : Type 0 where
   pub keys : (i : ℕ) (row : PostingRow) → slice_get t.posting i ≡ Some row → get (slice_cmp nat_cmp) x.keys row.key ≡ Some i
-  pub standing : (i : ℕ) (row : PostingRow) → slice_get t.posting i ≡ Some row → IsAt x.standing row.place i
+  pub standing : AreStanding x.standing t.posting
   pub moves : (i : ℕ) (row : MoveRow) → slice_get t.move i ≡ Some row → IsAt x.moves row.posting i
 
 -- a key that the change doesn't bring
@@ -51,6 +60,11 @@ abbrev pub moves_more : Change → ℕ
 moves_more (change.AddMove row) = 1
 moves_more _ = 0
 
+-- the rows that the changes make of these tables are found, and in between each posting by the concept where it stands
+pub record CoversAll (x : Indexes) (changes : List Change) (t : Tables) : Type 0 where
+  pub last : Covers x (all_changed changes t)
+  pub standing : StandThroughout x.standing changes t
+
 -- the rows of these tables are found, and if all went well those that the changes make of them
 abbrev pub CoversBoth : {E : Type 0} → Indexes → List Change → Tables → Result (Unit {0}) E → Type 0
-CoversBoth x changes t result = Covers x t × OnOk result (Covers x (all_changed changes t))
+CoversBoth x changes t result = Covers x t × OnOk result (CoversAll x changes t)

@@ -1,13 +1,23 @@
--- The tables in two halves, as they are handed out.
-use Rattle.std.specs.Prelude.{List, ◌++◌, Option}
+-- Tables as they are handed out, one after another.
+use Rattle.std.specs.Prelude.{List, [], ◌∷◌, ◌++◌, Option}
 use Rattle.thes_base.specs.declared.fault.Table.{Table}
 use Rattle.thes_base.specs.declared.fault.Table.TheVariants as table
 use Rattle.thes_rows.specs.declared.cells.Cell.{Cell}
-use Rattle.thes_rows.specs.Cells.{Raw}
+use Rattle.thes_rows.specs.Cells.{Raw, RawTable}
 use Rattle.thes_store.specs.Handing.{handed_of}
 
-abbrev pub handed_first : Raw → List (Table × Option (List Cell))
-handed_first raw = handed_of table.Meta raw.meta ++ (handed_of table.Resource raw.resource ++ (handed_of table.Outside raw.outside ++ handed_of table.Label raw.label))
+-- the rows of the table with this name
+abbrev pub rows_of : Table → Raw → RawTable
+rows_of table.Meta raw = raw.meta
+rows_of table.Resource raw = raw.resource
+rows_of table.Outside raw = raw.outside
+rows_of table.Label raw = raw.label
+rows_of table.Link raw = raw.link
+rows_of table.Hier raw = raw.hier
+rows_of table.Posting raw = raw.posting
+rows_of table.Move raw = raw.move
 
-abbrev pub handed_last : Raw → List (Table × Option (List Cell))
-handed_last raw = handed_of table.Link raw.link ++ (handed_of table.Hier raw.hier ++ (handed_of table.Posting raw.posting ++ handed_of table.Move raw.move))
+-- the tables with these names, in turn
+abbrev pub handed_tables : Raw → List Table → List (Table × Option (List Cell))
+handed_tables raw [] = []
+handed_tables raw (name ∷ names) = handed_of name (rows_of name raw) ++ handed_tables raw names

@@ -6,7 +6,7 @@ ghost use Rattle.thes_rows.specs.declared.cells.Cell.TheVariants.{Text};
 ghost use Rattle.thes_rows.specs.Cells.{number_cell, optional_cell, meta_cells, resource_cells, resource_rows, listed};
 ghost use Rattle.thes_base.specs.declared.fault.Table.TheVariants as table;
 ghost use Rattle.thes_store.specs.Handing.{Hands, handed_of, handed};
-ghost use Rattle.thes_store.specs.Loading.{handed_first, handed_last};
+ghost use Rattle.thes_store.specs.Loading.{rows_of, handed_tables};
 ghost use Rattle.thes_store.specs.Room.{tables_of};
 
 use crate::sink::RowSink;
@@ -221,42 +221,48 @@ pub fn hand_resources<S: RowSink>(rows: &[Resource], sink: &mut S) -> Result<(),
     Ok(())
 }
 
-// Hands the rows of meta, resource, outside and label to a sink.
-fn hand_first<S: RowSink>(alloc: Global, tables: &MemTables, sink: &mut S) -> Result<(), Fault>
+// Hands the rows of one table to a sink.
+fn hand_table<S: RowSink>(
+    alloc: Global,
+    tables: &MemTables,
+    name: Table,
+    sink: &mut S,
+) -> Result<(), Fault>
     ensures hands { Hands S.gives sink.old
-        (handed_first (listed (tables_of tables.now)))
+        (handed_of name (rows_of name (listed (tables_of tables.now))))
         result sink.new }
     ensures err { IfErr result (λ fault. fault ≡ Fault.OutOfMemory) }
 {
-    if let Err(fault) = hand_meta(alloc, &tables.base, sink) {
-        return Err(fault);
+    match name {
+        Table::Meta => hand_meta(alloc, &tables.base, sink),
+        Table::Resource => hand_resources(tables.resource.as_slice(), sink),
+        Table::Outside => hand_rows(alloc, Table::Outside, tables.outside.as_slice(), sink),
+        Table::Label => hand_rows(alloc, Table::Label, tables.label.as_slice(), sink),
+        Table::Link => hand_rows(alloc, Table::Link, tables.link.as_slice(), sink),
+        Table::Hier => hand_rows(alloc, Table::Hier, tables.hier.as_slice(), sink),
+        Table::Posting => hand_rows(alloc, Table::Posting, tables.posting.as_slice(), sink),
+        Table::Move => hand_rows(alloc, Table::Move, tables.steps.as_slice(), sink),
     }
-    if let Err(fault) = hand_resources(tables.resource.as_slice(), sink) {
-        return Err(fault);
-    }
-    if let Err(fault) = hand_rows(alloc, Table::Outside, tables.outside.as_slice(), sink) {
-        return Err(fault);
-    }
-    hand_rows(alloc, Table::Label, tables.label.as_slice(), sink)
 }
 
-// Hands the rows of link, hier, posting and move to a sink.
-fn hand_last<S: RowSink>(alloc: Global, tables: &MemTables, sink: &mut S) -> Result<(), Fault>
+// Hands the rows of some tables to a sink, table after table.
+fn hand_tables<S: RowSink>(
+    alloc: Global,
+    tables: &MemTables,
+    names: &[Table],
+    sink: &mut S,
+) -> Result<(), Fault>
     ensures hands { Hands S.gives sink.old
-        (handed_last (listed (tables_of tables.now)))
+        (handed_tables (listed (tables_of tables.now)) names.now)
         result sink.new }
     ensures err { IfErr result (λ fault. fault ≡ Fault.OutOfMemory) }
 {
-    if let Err(fault) = hand_rows(alloc, Table::Link, tables.link.as_slice(), sink) {
-        return Err(fault);
+    for name in names {
+        if let Err(fault) = hand_table(alloc, tables, *name, sink) {
+            return Err(fault);
+        }
     }
-    if let Err(fault) = hand_rows(alloc, Table::Hier, tables.hier.as_slice(), sink) {
-        return Err(fault);
-    }
-    if let Err(fault) = hand_rows(alloc, Table::Posting, tables.posting.as_slice(), sink) {
-        return Err(fault);
-    }
-    hand_rows(alloc, Table::Move, tables.steps.as_slice(), sink)
+    Ok(())
 }
 
 /// Hands the rows of all tables to a sink, table after table.
@@ -266,8 +272,15 @@ pub fn hand_all<S: RowSink>(alloc: Global, tables: &MemTables, sink: &mut S) -> 
         result sink.new }
     ensures err { IfErr result (λ fault. fault ≡ Fault.OutOfMemory) }
 {
-    if let Err(fault) = hand_first(alloc, tables, sink) {
-        return Err(fault);
-    }
-    hand_last(alloc, tables, sink)
+    let names = [
+        Table::Meta,
+        Table::Resource,
+        Table::Outside,
+        Table::Label,
+        Table::Link,
+        Table::Hier,
+        Table::Posting,
+        Table::Move,
+    ];
+    hand_tables(alloc, tables, &names, sink)
 }

@@ -1,6 +1,8 @@
 //! Where the rows of a number stand.
 ghost use Rattle.std.specs.Prelude.{◌≡◌, ℕ, true, IfOk, OnOk};
 ghost use Rattle.std.specs.List.Sorted.{IsStrictlySortedBy};
+ghost use Rattle.std.specs.BTreeMap.{get};
+ghost use Rattle.std.specs.Option.{option_copied};
 ghost use Rattle.std.specs.Ordering.{nat_cmp};
 ghost use Rattle.thes_rows.specs.Tables.{IsIn};
 ghost use Rattle.thes_store.specs.Index.{IsAt, IsOpen, KeepsPlaces, ArePlaces};
@@ -75,11 +77,18 @@ impl Index {
         Ok(())
     }
 
+    /// Shows the places of a number, if it has some.
+    pub fn set(&self, n: u32) -> Option<&BTreeSet<usize>>
+        ensures { option_copied result ≡ get nat_cmp self.now.sets n }
+    {
+        self.sets.get(&n)
+    }
+
     /// Collects the places of a number.
     pub fn places(&self, n: u32) -> Result<Vec<usize>, AllocError>
         ensures { IfOk result (λ places. ArePlaces self.now n places.items) }
     {
-        match self.sets.get(&n) {
+        match self.set(n) {
             Some(set) => {
                 let places = listed(self.alloc, set)?;
                 Ok(places)

@@ -173,7 +173,7 @@ impl Keeper for MemKeeper {
         self.tables.make_room(changes.len())?;
         let moves = self.tables.steps.len();
         cover_all(&mut self.indexes, self.alloc, delta.as_slice(), moves)?;
-        self.tables.make_all(changes);
+        self.tables.make_all(changes, &self.indexes.standing);
         Ok(())
     }
 

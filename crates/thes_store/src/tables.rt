@@ -7,9 +7,13 @@ ghost use Rattle.thes_base.specs.Labels.{label_cmp};
 ghost use Rattle.thes_base.specs.Links.{link_cmp};
 ghost use Rattle.thes_rows.specs.Tables.{no_rows, hier_link};
 ghost use Rattle.thes_rows.specs.Rows.{changed, all_changed, with_posting, withdrawn_row, placed_row, moved_row, without_row, without_hier};
+ghost use Rattle.thes_store.specs.Covers.{AreStanding, StandThroughout};
+ghost use Rattle.thes_store.specs.Picked.{with_row, changed_at};
 ghost use Rattle.thes_store.specs.Room.{tables_of, HasRoom};
 
+use crate::index::Index;
 use std::alloc::{AllocError, Global};
+use std::collections::BTreeSet;
 use thes_base::data::{Link, Resource};
 use thes_base::number::{PostNo, ResNo};
 use thes_base::text::Base;
@@ -60,9 +64,10 @@ impl MemTables {
         self.steps.try_reserve(n)
     }
 
-    /// Makes a change.
-    pub fn make(&mut self, change: Change)
-        requires { HasRoom 1 self.old }
+    /// Makes a change, where an index tells at which concept each posting stands.
+    pub fn make(&mut self, change: Change, standing: &Index)
+        requires room { HasRoom 1 self.old }
+        requires standing { AreStanding standing.now self.old.posting.items }
         ensures tables { tables_of self.new ≡ changed change (tables_of self.old) }
         ensures room { (n : ℕ) → HasRoom (n + 1) self.old → HasRoom n self.new }
     {
@@ -82,18 +87,21 @@ impl MemTables {
             Change::AddPosting(row) => self.posting.push_reserved(row),
             Change::Withdraw(n) => withdraw(&mut self.posting, n),
             Change::SetPlace(n, place) => set_place(&mut self.posting, n, place),
-            Change::MoveAll(source, target) => move_all(&mut self.posting, source, target),
+            Change::MoveAll(source, target) => {
+                move_all(&mut self.posting, standing, source, target)
+            }
             Change::AddMove(row) => self.steps.push_reserved(row),
         }
     }
 
-    /// Makes changes in their order.
-    pub fn make_all(&mut self, changes: Vec<Change>)
-        requires { HasRoom (length changes.items) self.old }
+    /// Makes changes in their order, where an index tells before each where each posting stands.
+    pub fn make_all(&mut self, changes: Vec<Change>, standing: &Index)
+        requires room { HasRoom (length changes.items) self.old }
+        requires standing { StandThroughout standing.now changes.items (tables_of self.old) }
         ensures { tables_of self.new ≡ all_changed changes.items (tables_of self.old) }
     {
         for change in changes {
-            self.make(change);
+            self.make(change, standing);
         }
     }
 }
@@ -141,22 +149,44 @@ fn move_row(row: &mut PostingRow, source: ResNo, target: ResNo)
     }
 }
 
-// Moves all postings that stand at the source.
-fn move_rows(postings: &mut [PostingRow], source: ResNo, target: ResNo)
-    ensures { postings.new ≡ map (moved_row source target) postings.old }
+// Moves the posting at a place, if it stands at the source.
+fn move_at(postings: &mut Vec<PostingRow>, place: usize, source: ResNo, target: ResNo)
+    ensures items { postings.new.items ≡ with_row (moved_row source target) place postings.old.items }
+    ensures len { vec_len postings.new ≡ vec_len postings.old }
+    ensures capacity { vec_capacity postings.new ≡ vec_capacity postings.old }
 {
-    for row in postings {
+    if let Some(row) = postings.get_mut(place) {
         move_row(row, source, target);
     }
 }
 
-// The same in a vector.
-fn move_all(postings: &mut Vec<PostingRow>, source: ResNo, target: ResNo)
+// Moves those of the postings at some places that stand at the source.
+fn move_those(
+    postings: &mut Vec<PostingRow>,
+    places: &BTreeSet<usize>,
+    source: ResNo,
+    target: ResNo,
+)
+    ensures items { postings.new.items
+        ≡ changed_at (moved_row source target) places.now.keys postings.old.items }
+    ensures len { vec_len postings.new ≡ vec_len postings.old }
+    ensures capacity { vec_capacity postings.new ≡ vec_capacity postings.old }
+{
+    for place in places.iter() {
+        move_at(postings, *place, source, target);
+    }
+}
+
+// Moves all postings that stand at the source.
+fn move_all(postings: &mut Vec<PostingRow>, standing: &Index, source: ResNo, target: ResNo)
+    requires { AreStanding standing.now postings.old.items }
     ensures items { postings.new.items ≡ map (moved_row source target) postings.old.items }
     ensures len { vec_len postings.new ≡ vec_len postings.old }
     ensures capacity { vec_capacity postings.new ≡ vec_capacity postings.old }
 {
-    move_rows(postings.as_mut_slice(), source, target)
+    if let Some(places) = standing.set(source.get()) {
+        move_those(postings, places, source, target);
+    }
 }
 
 // Whether two labels are equal.

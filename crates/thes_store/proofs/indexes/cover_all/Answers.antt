@@ -1,13 +1,9 @@
-use Rattle.std.proofs.Common.{subst, arith, rules, List}
-use Rattle.thes_rows.specs.declared.change.Change.{Change}
-use Rattle.thes_rows.specs.Rows.{all_changed}
-use Rattle.thes_store.specs.Covers.{Covers}
-use Rattle.thes_store.proofs.Places.{take_whole}
-use Rattle.thes_store.proofs.Covering.{begins, goes_on, stops, moves_few}
+use Rattle.std.proofs.Common.{arith, rules}
+use Rattle.thes_store.proofs.Covering.{begins, goes_on, stops, ends, moves_few}
 use Rattle.thes_store.proofs.indexes.cover_all.Goals as goal
 
 pub loop-change-init : goal.loop-change-init
-loop-change-init c = (omega arith, λ t fits len covers. begins c.args.indexes.now t c.args.moves len covers)
+loop-change-init c = (omega arith, λ t fits len covers. begins c.args.indexes.now c.args.changes.now t c.args.moves len covers)
 
 pub cover-requires : goal.cover-requires
 cover-requires c = let a = c.loop-change.invariant.0 in let b = c.loop-change-test.true in let r = c.requires in omega (arith, a, b, r)
@@ -32,5 +28,4 @@ pub returns : goal.returns
 returns c =
     λ t fits len covers.
     let so_far = c.loop-change.invariant.1 t fits len covers in
-    let all = take_whole c.args.changes.now c.loop-change.change-index c.loop-change-test.false in
-    (so_far.first, subst (λ (l : List Change). Covers c.loop-change.indexes (all_changed l t)) all so_far.last)
+    (so_far.first, ends c.loop-change.indexes c.args.changes.now c.loop-change.change-index t c.loop-change.step c.loop-change-test.false so_far)

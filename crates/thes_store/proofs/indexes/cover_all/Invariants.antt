@@ -1,4 +1,4 @@
-use Rattle.std.proofs.Common.{◌≡◌, ◌≤◌, ◌+◌, take, length}
+use Rattle.std.proofs.Common.{◌≡◌, ◌≤◌, ◌+◌, length}
 use Rattle.thes_rows.specs.Tables.{Tables}
 use Rattle.thes_rows.specs.Rows.{FitAll}
 use Rattle.thes_store.specs.Covers.{Covers}
@@ -8,4 +8,4 @@ use Rattle.thes_store.proofs.indexes.cover_all.Given as goal
 abbrev pub invariant-loop-change : goal.invariant-loop-change
 invariant-loop-change l =
     (l.step ≤ l.moves + l.change-index)
-    × ((t : Tables) → FitAll l.changes t → length t.move ≡ l.moves → Covers l.fn.indexes t → SoFar l.indexes (take l.change-index l.changes) t l.step)
+    × ((t : Tables) → FitAll l.changes t → length t.move ≡ l.moves → Covers l.fn.indexes t → SoFar l.indexes l.changes l.change-index t l.step)

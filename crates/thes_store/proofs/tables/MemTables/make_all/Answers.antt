@@ -1,10 +1,22 @@
-use Rattle.std.proofs.Common.{◌≡◌, ◌∙◌, ◌+◌, ◌-◌, ap, sym, subst, arith, length, length-append, [], ◌∷◌, ◌++◌}
+use Rattle.std.proofs.Common.{List, ◌≡◌, ◌∙◌, ◌+◌, ◌-◌, ap, sym, subst, arith, length, length-append, [], ◌∷◌, ◌++◌}
 use Rattle.std.proofs.lemmas.Iterator.Adapters.{YieldsList-from_vec}
-use Rattle.std.proofs.lemmas.Iterator.Consumers.{YieldsList-turn}
-use Rattle.thes_rows.specs.Rows.{changed}
+use Rattle.std.proofs.lemmas.Iterator.Consumers.{YieldsList-turn, YieldsList-so_far}
+use Rattle.std.proofs.lemmas.List.{map-id}
+use Rattle.thes_rows.specs.declared.change.Change.{Change}
+use Rattle.thes_rows.specs.Tables.{Tables}
+use Rattle.thes_rows.specs.Rows.{changed, all_changed}
 use Rattle.thes_rows.proofs.Steps.{all_append}
+use Rattle.thes_store.specs.Covers.{AreStanding}
 use Rattle.thes_store.specs.Room.{tables_of, HasRoom}
 use Rattle.thes_store.proofs.tables.MemTables.make_all.Goals as goal
+
+pub make-requires-clause-standing : goal.make-requires-clause-standing
+make-requires-clause-standing c =
+    let done = c.loop-change.yielded in
+    let all = c.args.changes.items in
+    let given = c.into_iter-change-iterator.ensures.into_iter_gives in
+    let first = sym (YieldsList-so_far (YieldsList-from_vec {s = c.into_iter-change-iterator.result} all given.0 (given.1 ∙ c.args.changes.ok.0)) done c.loop-change.change-iterator c.loop-change.yielded_by) ∙ map-id done in
+    subst (λ (t : Tables). AreStanding c.args.standing.now t.posting) (ap (λ (l : List Change). all_changed l (tables_of c.args.self.now)) first ∙ sym c.loop-change.invariant.0) (c.requires.standing (length done))
 
 pub loop-change-preserved : goal.loop-change-preserved
 loop-change-preserved c =

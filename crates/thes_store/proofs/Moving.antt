@@ -1,0 +1,115 @@
+-- All rows at a concept are moved, where their places are known.
+use Rattle.std.proofs.Common.{◌≡◌, ◌≢◌, ◌⊎◌, ◌-◌, ◌∙◌, inl, inr, ℕ, zero, suc, List, [], ◌∷◌, ◌++◌, map, Bool, true, false, cond, refl, sym, ap, subst, arith}
+use Rattle.std.specs.Prelude.{Option, None, Some, slice_get, slice_set, not, ◌&&◌, ◌==◌}
+use Rattle.std.specs.Option.{IsSomeAnd}
+use Rattle.std.specs.Ordering.{nat_cmp}
+use Rattle.std.specs.BTreeMap.{get}
+use Rattle.std.specs.BTreeSet.{BTreeSet, contains}
+use Rattle.std.proofs.lemmas.Bool.{cases_eq}
+use Rattle.std.proofs.lemmas.Option.{same_Some}
+use Rattle.thes_base.proofs.NumberedLemmas.{set_cases}
+use Rattle.thes_rows.specs.declared.rows.PostingRow.{PostingRow}
+use Rattle.thes_rows.specs.Tables.{IsIn}
+use Rattle.thes_rows.specs.Rows.{placed_row, moved_row}
+use Rattle.thes_store.proofs.Places.{in_keys}
+use Rattle.thes_store.specs.declared.index.Index.{Index}
+use Rattle.thes_store.specs.Covers.{AreStanding}
+use Rattle.thes_store.specs.Picked.{with_row, changed_at}
+
+-- Rows at places.
+
+set_at : {A : Type 0} (rows : List A) (x y : A) (i j : ℕ) → slice_get (slice_set rows i x) j ≡ Some y → ((j ≡ i) × (y ≡ x)) ⊎ ((j ≢ i) × (slice_get rows j ≡ Some y))
+set_at rows x y i j e = elim (set_cases rows x y (suc i) (suc j) (omega arith) (ap (λ k. slice_get (slice_set rows k x) j) (let q : suc i - 1 ≡ i = omega arith in q) ∙ e)) [
+  | inl here ↦ inl ((let h = here.0 in omega (arith, h)), here.1)
+  | inr other ↦ inr ((λ same. other.0 (ap suc same)), other.1)
+]
+
+module _ {A : Type 0} (f : A → A) where
+  pub changed_append : (places more : List ℕ) (rows : List A) → changed_at f (places ++ more) rows ≡ changed_at f more (changed_at f places rows)
+  changed_append [] more rows = refl
+  changed_append (i ∷ places) more rows = changed_append places more (with_row f i rows)
+
+  -- each row stays, or its place is among these
+  abbrev StayBut : List ℕ → List A → Type 0
+  StayBut places rows = (i : ℕ) (row : A) → slice_get rows i ≡ Some row → (f row ≡ row) ⊎ IsIn i places
+
+  all_stay : (rows : List A) → StayBut [] rows → map f rows ≡ rows
+  all_stay [] stay = refl
+  all_stay (x ∷ rows) stay = (λ j. here (stay 0 x refl) j ∷ all_stay rows (λ i row e. stay (suc i) row e) j)
+    where
+      here : (f x ≡ x) ⊎ ⊥ → f x ≡ x
+      here (inl same) = same
+      here (inr never) = absurd never
+
+  module _ (again : (row : A) → f (f row) ≡ f row) where
+    map_set : (rows : List A) (i : ℕ) (row : A) → slice_get rows i ≡ Some row → map f (slice_set rows i (f row)) ≡ map f rows
+    map_set [] i row e = refl
+    map_set (x ∷ rows) zero row e = ap (λ y. y ∷ map f rows) (again row ∙ ap f (sym (same_Some _ _ e)))
+    map_set (x ∷ rows) (suc i) row e = ap (λ l. f x ∷ l) (map_set rows i row e)
+
+    map_with : (i : ℕ) (rows : List A) → map f (with_row f i rows) ≡ map f rows
+    map_with i rows = go (slice_get rows i) refl
+      where
+        go : (o : Option A) → slice_get rows i ≡ o → map f (elim o [ None ↦ rows | Some row ↦ slice_set rows i (f row) ]) ≡ map f rows
+        go None e = refl
+        go (Some row) e = map_set rows i row e
+
+    stay_with : (i : ℕ) (places : List ℕ) (rows : List A) → StayBut (i ∷ places) rows → StayBut places (with_row f i rows)
+    stay_with i places rows stay = go (slice_get rows i) refl
+      where
+        left : (j : ℕ) (row : A) → j ≢ i → (f row ≡ row) ⊎ IsIn j (i ∷ places) → (f row ≡ row) ⊎ IsIn j places
+        left j row apart (inl same) = inl same
+        left j row apart (inr (inl at)) = absurd (apart at)
+        left j row apart (inr (inr later)) = inr later
+
+        go : (o : Option A) → slice_get rows i ≡ o → StayBut places (elim o [ None ↦ rows | Some row ↦ slice_set rows i (f row) ])
+        go None e j row at = left j row (λ same. let no = sym e ∙ ap (slice_get rows) (sym same) ∙ at in absurd (cc)) (stay j row at)
+        go (Some old) e j row at = elim (set_at rows (f old) row i j at) [
+          | inl here ↦ inl (ap f here.1 ∙ again old ∙ sym here.1)
+          | inr other ↦ left j row other.0 (stay j row other.1)
+        ]
+
+    -- where the places miss no row that changes, all rows are changed
+    pub all_changed_at : (places : List ℕ) (rows : List A) → StayBut places rows → changed_at f places rows ≡ map f rows
+    all_changed_at [] rows stay = sym (all_stay rows stay)
+    all_changed_at (i ∷ places) rows stay = all_changed_at places (with_row f i rows) (stay_with i places rows stay) ∙ map_with i rows
+
+-- Postings that move.
+
+moved_again : (source target : ℕ) (row : PostingRow) → moved_row source target (moved_row source target row) ≡ moved_row source target row
+moved_again source target row = go (not row.withdrawn && row.place == source) refl
+  where
+    twice : (b : Bool) → cond b (placed_row target (placed_row target row)) (placed_row target row) ≡ placed_row target row
+    twice true = refl
+    twice false = refl
+
+    go : (b : Bool) → (not row.withdrawn && row.place == source) ≡ b → moved_row source target (cond b (placed_row target row) row) ≡ cond b (placed_row target row) row
+    go true e = twice (not row.withdrawn && target == source)
+    go false e = ap (λ b. cond b (placed_row target row) row) e
+
+moved_or_stays : (source target : ℕ) (row : PostingRow) → (moved_row source target row ≡ row) ⊎ (row.place ≡ source)
+moved_or_stays source target row = go (not row.withdrawn) (row.place == source) (λ e. same row.place source e)
+  where
+    same : (a b : ℕ) → (a == b) ≡ true → a ≡ b
+    same a b e = grind (arith)
+
+    go : (b d : Bool) → (d ≡ true → row.place ≡ source) → (cond (b && d) (placed_row target row) row ≡ row) ⊎ (row.place ≡ source)
+    go true true is = inr (is refl)
+    go true false is = inl refl
+    go false d is = inl refl
+
+pub moved_those : (index : Index) (source target : ℕ) (set : BTreeSet ℕ) (rows : List PostingRow) → AreStanding index rows → get nat_cmp index.sets source ≡ Some set → changed_at (moved_row source target) set.keys rows ≡ map (moved_row source target) rows
+moved_those index source target set rows standing found =
+    all_changed_at (moved_row source target) (moved_again source target) set.keys rows
+    (λ i row at. elim (moved_or_stays source target row) [
+      | inl stays ↦ inl stays
+      | inr here ↦ inr (in_keys set.keys i (subst (λ (o : Option (BTreeSet ℕ)). IsSomeAnd o (λ s. contains nat_cmp s i ≡ true)) found (subst (λ n. IsSomeAnd (get nat_cmp index.sets n) (λ s. contains nat_cmp s i ≡ true)) here (standing i row at))))
+    ])
+
+pub moved_none : (index : Index) (source target : ℕ) (rows : List PostingRow) → AreStanding index rows → get nat_cmp index.sets source ≡ None → rows ≡ map (moved_row source target) rows
+moved_none index source target rows standing none =
+    all_changed_at (moved_row source target) (moved_again source target) [] rows
+    (λ i row at. elim (moved_or_stays source target row) [
+      | inl stays ↦ inl stays
+      | inr here ↦ absurd (subst (λ (o : Option (BTreeSet ℕ)). IsSomeAnd o (λ s. contains nat_cmp s i ≡ true)) none (subst (λ n. IsSomeAnd (get nat_cmp index.sets n) (λ s. contains nat_cmp s i ≡ true)) here (standing i row at)))
+    ])
