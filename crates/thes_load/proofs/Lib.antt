@@ -7,3 +7,4 @@ pub mod Linking
 pub mod ReadingLemmas
 pub mod RowForms
 pub mod Naming
+pub mod ProgressLemmas

@@ -6,3 +6,4 @@ pub mod Linking
 pub mod Reading
 pub mod Naming
 pub mod Version
+pub mod Progress

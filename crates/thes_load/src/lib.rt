@@ -4,6 +4,7 @@
 pub mod cells;
 pub mod ends;
 pub mod links;
+pub mod loader;
 pub mod meta;
 pub mod moves;
 pub mod names;
