@@ -32,13 +32,42 @@ pub enum Stage {
 }
 
 impl Stage {
-    /// Reads the next row of the table that is read, or answers false if it breaks the rule or is none.
-    pub fn read(&mut self, alloc: Global, cells: &[Cell]) -> Result<bool, AllocError> {
+    // The table that is read.
+    fn at(&self) -> Table {
         match self {
+            Stage::Meta(_) => Table::Meta,
+            Stage::Resource(_, _) => Table::Resource,
+            Stage::Outside(_) => Table::Outside,
+            Stage::Label(_) => Table::Label,
+            Stage::Link(_, _) => Table::Link,
+            Stage::Hier(_, _) => Table::Hier,
+            Stage::Posting(_, _, _) => Table::Posting,
+            Stage::Move(_, _, _, _) => Table::Move,
+            Stage::Stopped(_, at) => *at,
+        }
+    }
+
+    // Reads the next row of the table that is read, or answers false if it breaks the rule or is none.
+    fn read(&mut self, alloc: Global, cells: &[Cell]) -> Result<bool, AllocError> {
+        match self {
+            Stage::Meta(row) => match row {
+                Some(_) => Ok(false),
+                None => match meta_in(alloc, cells)? {
+                    Some(new) => {
+                        *row = Some(new);
+                        Ok(true)
+                    }
+                    None => Ok(false),
+                },
+            },
             Stage::Resource(_, load) => load.read(cells),
             Stage::Outside(load) => load.read(alloc, cells),
             Stage::Label(vocab) => read_label(vocab, alloc, cells),
-            _ => Ok(true),
+            Stage::Link(vocab, load) => load.read(vocab.resources(), cells),
+            Stage::Hier(vocab, load) => load.read_hier(vocab.resources(), cells),
+            Stage::Posting(vocab, _, load) => load.read(alloc, vocab.resources(), cells),
+            Stage::Move(vocab, _, _, load) => Ok(load.read(vocab.resources(), cells)),
+            Stage::Stopped(_, _) => Ok(true),
         }
     }
 }
