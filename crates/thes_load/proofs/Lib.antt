@@ -8,3 +8,4 @@ pub mod ReadingLemmas
 pub mod RowForms
 pub mod Naming
 pub mod ProgressLemmas
+pub mod RowSteps

@@ -1,6 +1,7 @@
 -- How far a loader has come with the rows of cells that were handed to it, table by table.
-use Rattle.std.specs.Prelude.{◌≡◌, ◌⊎◌, ℕ, List, [], ◌∷◌, ◌++◌, map, Option, None, Some, option_map, Ok, Err}
+use Rattle.std.specs.Prelude.{◌≡◌, ◌⊎◌, ℕ, List, [], ◌∷◌, ◌++◌, map, Bool, true, false, Option, None, Some, option_map, Ok, Err}
 use Rattle.thes_base.specs.declared.fault.Fault.{Fault}
+use Rattle.thes_base.specs.declared.fault.Fault.TheVariants.{BadStore}
 use Rattle.thes_base.specs.declared.fault.Table.{Table}
 use Rattle.thes_base.specs.declared.fault.Table.TheVariants as table
 use Rattle.thes_rows.specs.declared.cells.Cell.{Cell}
@@ -130,3 +131,57 @@ HasRead (stage.Move vocab graph ats load) raw =
     × (ats.items ≡ map (λ (row : PostingRow). row.place) t.posting) × (raw.move ≡ Some (map move_cells t.move))
     × HasMoves t.resource t.posting load.taken load.places.items t.move
 HasRead (stage.Stopped fault at) raw = (more : Raw) → Extends at raw more → Loads more (Err fault)
+
+-- the table that is read
+abbrev pub stage_table : Stage → Table
+stage_table (stage.Meta row) = table.Meta
+stage_table (stage.Resource base load) = table.Resource
+stage_table (stage.Outside load) = table.Outside
+stage_table (stage.Label vocab) = table.Label
+stage_table (stage.Link vocab load) = table.Link
+stage_table (stage.Hier vocab load) = table.Hier
+stage_table (stage.Posting vocab graph load) = table.Posting
+stage_table (stage.Move vocab graph ats load) = table.Move
+stage_table (stage.Stopped fault at) = at
+
+-- A row of the table that is read is taken; or it is the fault.
+abbrev pub ReadsRow : Stage → Stage → List Cell → Bool → Type 0
+ReadsRow old new cells true =
+    (stage_table new ≡ stage_table old)
+    × ((raw : Raw) → HasRead old raw → HasRead new (pushed (stage_table old) cells raw))
+ReadsRow old new cells false =
+    (raw : Raw) → HasRead old raw
+    → HasRead (stage.Stopped (BadStore (stage_table old)) (stage_table old)) (pushed (stage_table old) cells raw)
+
+-- the table that is read after this one; after the last there is none
+abbrev pub next_table : Table → Table
+next_table table.Meta = table.Resource
+next_table table.Resource = table.Outside
+next_table table.Outside = table.Label
+next_table table.Label = table.Link
+next_table table.Link = table.Hier
+next_table table.Hier = table.Posting
+next_table table.Posting = table.Move
+next_table table.Move = table.Move
+
+-- No more rows of the table that was read come.
+abbrev pub Closes : Stage → Stage → Type 0
+Closes old new = (stage_table new ≡ next_table (stage_table old)) × ((raw : Raw) → HasRead old raw → HasRead new raw)
+
+-- what is known at a stage stays known at another one, at which this table is read
+abbrev pub Reaches : Stage → Stage → Table → Type 0
+Reaches old new table = (stage_table new ≡ table) × ((raw : Raw) → HasRead old raw → HasRead new raw)
+
+-- tables that can be queried and have no rows
+abbrev pub no_rows : Raw
+no_rows =
+    record {
+      meta = Some [];
+      resource = Some [];
+      outside = Some [];
+      label = Some [];
+      link = Some [];
+      hier = Some [];
+      posting = Some [];
+      move = Some [];
+    }

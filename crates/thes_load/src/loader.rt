@@ -1,7 +1,6 @@
 //! The rows of a store, table by table.
-ghost use Rattle.std.specs.Prelude.{◌≡◌, ◌≤◌, ◌<◌, ◌^◌, IfOk, OnOk};
-ghost use Rattle.thes_rows.specs.Cells.{Raw};
-ghost use Rattle.thes_load.specs.Progress.{table_no, pushed, HasRead};
+ghost use Rattle.std.specs.Prelude.{◌≡◌, IfOk};
+ghost use Rattle.thes_load.specs.Progress.{stage_table, ReadsRow};
 
 use crate::links::LinkLoad;
 use crate::meta::{MetaRow, meta_in};
@@ -33,7 +32,9 @@ pub enum Stage {
 
 impl Stage {
     // The table that is read.
-    fn at(&self) -> Table {
+    fn at(&self) -> Table
+        ensures { result ≡ stage_table self.now }
+    {
         match self {
             Stage::Meta(_) => Table::Meta,
             Stage::Resource(_, _) => Table::Resource,
@@ -48,7 +49,9 @@ impl Stage {
     }
 
     // Reads the next row of the table that is read, or answers false if it breaks the rule or is none.
-    fn read(&mut self, alloc: Global, cells: &[Cell]) -> Result<bool, AllocError> {
+    fn read(&mut self, alloc: Global, cells: &[Cell]) -> Result<bool, AllocError>
+        ensures { IfOk result (ReadsRow self.old self.new cells.now) }
+    {
         match self {
             Stage::Meta(row) => match row {
                 Some(_) => Ok(false),
