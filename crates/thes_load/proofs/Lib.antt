@@ -9,3 +9,4 @@ pub mod RowForms
 pub mod Naming
 pub mod ProgressLemmas
 pub mod RowSteps
+pub mod CloseSteps

@@ -31,25 +31,25 @@ faulty_none cells_of Rule begun faulty queried (inr (more, e)) rows (is, rule) =
 
 -- Tables that pass, in what goes on from them.
 
-meta_stays : (raw more : Raw) (t : Tables) → more.meta ≡ raw.meta → MetaPasses raw t → MetaPasses more t
+pub meta_stays : (raw more : Raw) (t : Tables) → more.meta ≡ raw.meta → MetaPasses raw t → MetaPasses more t
 meta_stays raw more t e passes = subst (λ (q : RawTable). IsMeta q t.base) (sym e) passes
 
-resource_stays : (raw more : Raw) (t : Tables) → more.meta ≡ raw.meta → more.resource ≡ raw.resource → ResourcePasses raw t → ResourcePasses more t
+pub resource_stays : (raw more : Raw) (t : Tables) → more.meta ≡ raw.meta → more.resource ≡ raw.resource → ResourcePasses raw t → ResourcePasses more t
 resource_stays raw more t e0 e1 (a, b) = (meta_stays raw more t e0 a, subst (λ (q : RawTable). IsTable (resource_rows 1) ResourceRule q t.resource) (sym e1) b)
 
-outside_stays : (raw more : Raw) (t : Tables) → more.meta ≡ raw.meta → more.resource ≡ raw.resource → more.outside ≡ raw.outside → OutsidePasses raw t → OutsidePasses more t
+pub outside_stays : (raw more : Raw) (t : Tables) → more.meta ≡ raw.meta → more.resource ≡ raw.resource → more.outside ≡ raw.outside → OutsidePasses raw t → OutsidePasses more t
 outside_stays raw more t e0 e1 e2 (a, b) = (resource_stays raw more t e0 e1 a, subst (λ (q : RawTable). IsTable (map outside_cells) (OutsideRule t.base t.resource) q t.outside) (sym e2) b)
 
-label_stays : (raw more : Raw) (t : Tables) → more.meta ≡ raw.meta → more.resource ≡ raw.resource → more.outside ≡ raw.outside → more.label ≡ raw.label → LabelPasses raw t → LabelPasses more t
+pub label_stays : (raw more : Raw) (t : Tables) → more.meta ≡ raw.meta → more.resource ≡ raw.resource → more.outside ≡ raw.outside → more.label ≡ raw.label → LabelPasses raw t → LabelPasses more t
 label_stays raw more t e0 e1 e2 e3 (a, b) = (outside_stays raw more t e0 e1 e2 a, subst (λ (q : RawTable). IsTable (map label_cells) (LabelRule t.resource) q t.label) (sym e3) b)
 
-link_stays : (raw more : Raw) (t : Tables) → more.meta ≡ raw.meta → more.resource ≡ raw.resource → more.outside ≡ raw.outside → more.label ≡ raw.label → more.link ≡ raw.link → LinkPasses raw t → LinkPasses more t
+pub link_stays : (raw more : Raw) (t : Tables) → more.meta ≡ raw.meta → more.resource ≡ raw.resource → more.outside ≡ raw.outside → more.label ≡ raw.label → more.link ≡ raw.link → LinkPasses raw t → LinkPasses more t
 link_stays raw more t e0 e1 e2 e3 e4 (a, b) = (label_stays raw more t e0 e1 e2 e3 a, subst (λ (q : RawTable). IsTable (map link_cells) (LinkRule t.resource) q t.link) (sym e4) b)
 
-hier_stays : (raw more : Raw) (t : Tables) → more.meta ≡ raw.meta → more.resource ≡ raw.resource → more.outside ≡ raw.outside → more.label ≡ raw.label → more.link ≡ raw.link → more.hier ≡ raw.hier → HierPasses raw t → HierPasses more t
+pub hier_stays : (raw more : Raw) (t : Tables) → more.meta ≡ raw.meta → more.resource ≡ raw.resource → more.outside ≡ raw.outside → more.label ≡ raw.label → more.link ≡ raw.link → more.hier ≡ raw.hier → HierPasses raw t → HierPasses more t
 hier_stays raw more t e0 e1 e2 e3 e4 e5 (a, b) = (link_stays raw more t e0 e1 e2 e3 e4 a, subst (λ (q : RawTable). IsTable (map hier_cells) (HierRule t.resource t.link) q t.hier) (sym e5) b)
 
-posting_stays : (raw more : Raw) (t : Tables) → more.meta ≡ raw.meta → more.resource ≡ raw.resource → more.outside ≡ raw.outside → more.label ≡ raw.label → more.link ≡ raw.link → more.hier ≡ raw.hier → more.posting ≡ raw.posting → PostingPasses raw t → PostingPasses more t
+pub posting_stays : (raw more : Raw) (t : Tables) → more.meta ≡ raw.meta → more.resource ≡ raw.resource → more.outside ≡ raw.outside → more.label ≡ raw.label → more.link ≡ raw.link → more.hier ≡ raw.hier → more.posting ≡ raw.posting → PostingPasses raw t → PostingPasses more t
 posting_stays raw more t e0 e1 e2 e3 e4 e5 e6 (a, b) = (hier_stays raw more t e0 e1 e2 e3 e4 e5 a, subst (λ (q : RawTable). IsTable (map posting_cells) (PostingRule t.resource) q t.posting) (sym e6) b)
 
 -- Resource: the row that is the fault.

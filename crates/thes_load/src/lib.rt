@@ -2,6 +2,7 @@
 #![tactic(auto)]
 
 pub mod cells;
+pub mod closing;
 pub mod ends;
 pub mod links;
 pub mod loader;

@@ -1,7 +1,8 @@
 //! The rows of a store, table by table.
 ghost use Rattle.std.specs.Prelude.{◌≡◌, IfOk};
-ghost use Rattle.thes_load.specs.Progress.{stage_table, ReadsRow};
+ghost use Rattle.thes_load.specs.Progress.{stage_table, next_table, ReadsRow, Closes};
 
+use crate::closing::{close_hier, close_label, close_meta, close_outside, close_posting, close_resource};
 use crate::links::LinkLoad;
 use crate::meta::{MetaRow, meta_in};
 use crate::moves::MoveLoad;
@@ -72,5 +73,37 @@ impl Stage {
             Stage::Move(vocab, _, _, load) => Ok(load.read(vocab.resources(), cells)),
             Stage::Stopped(_, _) => Ok(true),
         }
+    }
+
+    // Ends the rows of the table that is read, and goes on to the next one.
+    fn close(self, alloc: Global) -> Result<Stage, AllocError>
+        ensures { IfOk result (Closes self) }
+    {
+        match self {
+            Stage::Meta(row) => Ok(close_meta(alloc, row)),
+            Stage::Resource(base, load) => close_resource(alloc, base, load),
+            Stage::Outside(load) => Ok(close_outside(load)),
+            Stage::Label(vocab) => close_label(alloc, vocab),
+            Stage::Link(vocab, load) => Ok(Stage::Hier(vocab, load)),
+            Stage::Hier(vocab, load) => close_hier(alloc, vocab, load),
+            Stage::Posting(vocab, graph, load) => Ok(close_posting(vocab, graph, load)),
+            Stage::Move(vocab, graph, ats, load) => Ok(Stage::Move(vocab, graph, ats, load)),
+            Stage::Stopped(fault, at) => Ok(Stage::Stopped(fault, next(at))),
+        }
+    }
+}
+
+// The table that is read after this one.
+fn next(at: Table) -> Table
+    ensures { result ≡ next_table at }
+{
+    match at {
+        Table::Meta => Table::Resource,
+        Table::Resource => Table::Outside,
+        Table::Outside => Table::Label,
+        Table::Label => Table::Link,
+        Table::Link => Table::Hier,
+        Table::Hier => Table::Posting,
+        Table::Posting | Table::Move => Table::Move,
     }
 }
