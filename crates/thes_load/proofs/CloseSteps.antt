@@ -21,7 +21,7 @@ use Rattle.thes_tables.specs.Rules.{ResourceRule, OutsideRule, LabelRule, HierRu
 use Rattle.thes_tables.specs.Loads.{Loads, IsNewer, IsOlder}
 use Rattle.thes_tables.specs.Laws.{MetaPasses, ResourcePasses, OutsidePasses, LinkPasses}
 use Rattle.thes_tables.proofs.Judging.{judged}
-use Rattle.thes_load.specs.declared.loader.Stage.TheVariants as stage
+use Rattle.thes_load.specs.declared.stage.Stage.TheVariants as stage
 use Rattle.thes_load.specs.declared.meta.MetaRow.TheVariants.{Newer, Older, Base}
 use Rattle.thes_load.specs.declared.resources.ResourceLoad.{ResourceLoad}
 use Rattle.thes_load.specs.declared.names.OutsideLoad.{OutsideLoad}
@@ -145,7 +145,7 @@ posting_good vocab graph load moves ats close = (refl, λ raw (t, passes, names,
 
 -- Stopped.
 
-same_grows : (raw queried : RawTable) → queried ≡ raw → Grows raw queried
+pub same_grows : (raw queried : RawTable) → queried ≡ raw → Grows raw queried
 same_grows None queried e = e
 same_grows (Some rows) queried e = inr ([], e ∙ ap (λ (l : List (List Cell)). Some l) (sym (append-nil rows)))
 

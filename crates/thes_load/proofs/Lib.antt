@@ -10,3 +10,4 @@ pub mod Naming
 pub mod ProgressLemmas
 pub mod RowSteps
 pub mod CloseSteps
+pub mod TableOrder

@@ -14,7 +14,7 @@ use Rattle.thes_tables.specs.Rules.{ResourceRule, OutsideRule, LabelRule, LinkRu
 use Rattle.thes_tables.specs.Loads.{Loads, IsTable, IsMeta}
 use Rattle.thes_tables.specs.Laws.{HasNone, MetaPasses, ResourcePasses, OutsidePasses, LabelPasses, LinkPasses, HierPasses, PostingPasses}
 use Rattle.thes_tables.proofs.Judging.{judged}
-use Rattle.thes_load.specs.declared.loader.Stage.TheVariants as stage
+use Rattle.thes_load.specs.declared.stage.Stage.TheVariants as stage
 use Rattle.thes_load.specs.Reading.{IsFaulty, Reads}
 use Rattle.thes_load.specs.Progress.{Grows, Extends, pushed, HasRead, HasNames, NoneAfterOutside, NoneAfterLabel, NoneAfterLink, NoneAfterHier, NoneAfterPosting}
 use Rattle.thes_load.specs.declared.names.OutsideLoad.{OutsideLoad}

@@ -23,8 +23,8 @@ use Rattle.thes_tables.specs.Rules.{ResourceRule, OutsideRule, LabelRule, LinkRu
 use Rattle.thes_tables.specs.Loads.{Loads}
 use Rattle.thes_tables.proofs.Judging.{judged}
 use Rattle.thes_load.specs.declared.meta.MetaRow.{MetaRow}
-use Rattle.thes_load.specs.declared.loader.Stage.{Stage}
-use Rattle.thes_load.specs.declared.loader.Stage.TheVariants as stage
+use Rattle.thes_load.specs.declared.stage.Stage.{Stage}
+use Rattle.thes_load.specs.declared.stage.Stage.TheVariants as stage
 use Rattle.thes_load.specs.declared.resources.ResourceLoad.{ResourceLoad}
 use Rattle.thes_load.specs.declared.names.OutsideLoad.{OutsideLoad}
 use Rattle.thes_load.specs.declared.links.LinkLoad.{LinkLoad}
@@ -40,7 +40,7 @@ use Rattle.thes_load.proofs.ProgressLemmas.{resource_fault, outside_fault, label
 
 -- Meta.
 
-pub blank : List ℕ → Tables
+abbrev pub blank : List ℕ → Tables
 blank base = record { base = base; resource = []; outside = []; label = []; link = []; hier = []; posting = []; move = [] }
 
 -- a table that is no row of a version

@@ -1,5 +1,5 @@
 -- How far a loader has come with the rows of cells that were handed to it, table by table.
-use Rattle.std.specs.Prelude.{◌≡◌, ◌⊎◌, ℕ, List, [], ◌∷◌, ◌++◌, map, Bool, true, false, Option, None, Some, option_map, Ok, Err}
+use Rattle.std.specs.Prelude.{◌≡◌, ◌⊎◌, ℕ, List, [], ◌∷◌, ◌++◌, map, Bool, true, false, Option, None, Some, option_map, Result, Ok, Err}
 use Rattle.thes_base.specs.declared.fault.Fault.{Fault}
 use Rattle.thes_base.specs.declared.fault.Fault.TheVariants.{BadStore}
 use Rattle.thes_base.specs.declared.fault.Table.{Table}
@@ -14,8 +14,8 @@ use Rattle.thes_tables.specs.Rules.{links_of}
 use Rattle.thes_tables.specs.Loads.{Loads}
 use Rattle.thes_tables.specs.Laws.{MetaPasses, ResourcePasses, OutsidePasses, LabelPasses, LinkPasses, HierPasses, PostingPasses}
 use Rattle.thes_load.specs.declared.meta.MetaRow.{MetaRow}
-use Rattle.thes_load.specs.declared.loader.Stage.{Stage}
-use Rattle.thes_load.specs.declared.loader.Stage.TheVariants as stage
+use Rattle.thes_load.specs.declared.stage.Stage.{Stage}
+use Rattle.thes_load.specs.declared.stage.Stage.TheVariants as stage
 use Rattle.thes_load.specs.Version.{SpellsMeta}
 use Rattle.thes_load.specs.Naming.{HasOutside, HasLabels, vocabulary_of}
 use Rattle.thes_load.specs.Linking.{HasLinks}
@@ -185,3 +185,12 @@ no_rows =
       posting = Some [];
       move = Some [];
     }
+
+-- One more row of a table is read.
+abbrev pub HasRow : Stage → Stage → Table → List Cell → Type 0
+HasRow old new table cells =
+    (stage_table new ≡ table) × ((raw : Raw) → HasRead old raw → HasRead new (pushed table cells raw))
+
+-- The rows load, and these are the vocabulary and the links that they tell.
+abbrev pub HasLoaded : Raw → Vocabulary → Net → Type 0
+HasLoaded raw vocab graph = (t : Tables) × Loads raw (Ok t) × HasNames vocab t × HasLinks t.resource graph t.link t.hier

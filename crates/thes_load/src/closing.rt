@@ -1,10 +1,10 @@
 //! The end of each table: no more rows of it come.
 ghost use Rattle.std.specs.Prelude.{IfOk};
-ghost use Rattle.thes_load.specs.declared.loader.Stage.TheVariants as stage;
+ghost use Rattle.thes_load.specs.declared.stage.Stage.TheVariants as stage;
 ghost use Rattle.thes_load.specs.Progress.{Closes};
 
 use crate::links::LinkLoad;
-use crate::loader::Stage;
+use crate::stage::Stage;
 use crate::meta::MetaRow;
 use crate::names::OutsideLoad;
 use crate::postings::PostingLoad;

@@ -12,3 +12,4 @@ pub mod names;
 pub mod postings;
 pub mod resources;
 pub mod rows;
+pub mod stage;

@@ -1,10 +1,10 @@
 use Rattle.std.proofs.Common.{◌≡◌, sym, subst}
 use Rattle.thes_base.specs.declared.fault.Table.{Table}
-use Rattle.thes_load.specs.declared.loader.Stage.{Stage}
-use Rattle.thes_load.specs.declared.loader.Stage.TheVariants as stage
+use Rattle.thes_load.specs.declared.stage.Stage.{Stage}
+use Rattle.thes_load.specs.declared.stage.Stage.TheVariants as stage
 use Rattle.thes_load.specs.Progress.{Closes}
 use Rattle.thes_load.proofs.CloseSteps.{link_good, stopped_on}
-use Rattle.thes_load.proofs.loader.Stage.close.Goals as goal
+use Rattle.thes_load.proofs.stage.Stage.close.Goals as goal
 
 pub returns-in-Link : goal.returns-in-Link
 returns-in-Link c = subst (λ (old : Stage). Closes old (stage.Hier c.in-Link.vocab c.in-Link.load)) (sym c.in-Link.is) (link_good c.in-Link.vocab c.in-Link.load)

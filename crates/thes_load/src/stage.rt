@@ -1,6 +1,6 @@
-//! The rows of a store, table by table.
-ghost use Rattle.std.specs.Prelude.{◌≡◌, IfOk};
-ghost use Rattle.thes_load.specs.Progress.{stage_table, next_table, ReadsRow, Closes};
+//! What is kept while the rows of one table are read.
+ghost use Rattle.std.specs.Prelude.{◌≡◌, ◌≤◌, IfOk};
+ghost use Rattle.thes_load.specs.Progress.{stage_table, next_table, table_no, ReadsRow, Closes, Reaches};
 
 use crate::closing::{close_hier, close_label, close_meta, close_outside, close_posting, close_resource};
 use crate::links::LinkLoad;
@@ -49,8 +49,8 @@ impl Stage {
         }
     }
 
-    // Reads the next row of the table that is read, or answers false if it breaks the rule or is none.
-    fn read(&mut self, alloc: Global, cells: &[Cell]) -> Result<bool, AllocError>
+    /// Reads the next row of the table that is read, or answers false if it breaks the rule or is none.
+    pub fn read(&mut self, alloc: Global, cells: &[Cell]) -> Result<bool, AllocError>
         ensures { IfOk result (ReadsRow self.old self.new cells.now) }
     {
         match self {
@@ -91,6 +91,18 @@ impl Stage {
             Stage::Stopped(fault, at) => Ok(Stage::Stopped(fault, next(at))),
         }
     }
+
+    /// Ends the rows of the tables before this one, so that this one is read.
+    pub fn reach(self, alloc: Global, table: Table) -> Result<Stage, AllocError>
+        requires { table_no (stage_table self) ≤ table_no table }
+        ensures { IfOk result (λ new. Reaches self new table) }
+    {
+        let mut stage = self;
+        for i in number(stage.at())..number(table) {
+            stage = stage.close(alloc)?;
+        }
+        Ok(stage)
+    }
 }
 
 // The table that is read after this one.
@@ -105,5 +117,21 @@ fn next(at: Table) -> Table
         Table::Link => Table::Hier,
         Table::Hier => Table::Posting,
         Table::Posting | Table::Move => Table::Move,
+    }
+}
+
+// The place of a table in the order in which they are read.
+fn number(table: Table) -> u32
+    ensures { result ≡ table_no table }
+{
+    match table {
+        Table::Meta => 0,
+        Table::Resource => 1,
+        Table::Outside => 2,
+        Table::Label => 3,
+        Table::Link => 4,
+        Table::Hier => 5,
+        Table::Posting => 6,
+        Table::Move => 7,
     }
 }

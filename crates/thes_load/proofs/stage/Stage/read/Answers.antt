@@ -2,12 +2,12 @@ use Rattle.std.proofs.Common.{◌≡◌, sym, subst, true, false}
 use Rattle.std.specs.Prelude.{Option, None, Some}
 use Rattle.std.proofs.lemmas.Result.{IfOk-weaker}
 use Rattle.thes_load.specs.declared.meta.MetaRow.{MetaRow}
-use Rattle.thes_load.specs.declared.loader.Stage.{Stage}
-use Rattle.thes_load.specs.declared.loader.Stage.TheVariants as stage
+use Rattle.thes_load.specs.declared.stage.Stage.{Stage}
+use Rattle.thes_load.specs.declared.stage.Stage.TheVariants as stage
 use Rattle.thes_load.specs.Version.{SpellsMeta}
 use Rattle.thes_load.specs.Progress.{ReadsRow}
 use Rattle.thes_load.proofs.RowSteps.{meta_second, meta_row, meta_unread, resource_row, outside_row, label_row, link_row, hier_row, posting_row, move_row, stopped_row}
-use Rattle.thes_load.proofs.loader.Stage.read.Goals as goal
+use Rattle.thes_load.proofs.stage.Stage.read.Goals as goal
 
 pub returns-in-Some-2 : goal.returns-in-Some-2
 returns-in-Some-2 c =
