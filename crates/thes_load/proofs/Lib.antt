@@ -11,3 +11,4 @@ pub mod ProgressLemmas
 pub mod RowSteps
 pub mod CloseSteps
 pub mod TableOrder
+pub mod EndSteps

@@ -7,3 +7,4 @@ pub mod Reading
 pub mod Naming
 pub mod Version
 pub mod Progress
+pub mod Ending

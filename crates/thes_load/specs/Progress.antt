@@ -1,5 +1,5 @@
 -- How far a loader has come with the rows of cells that were handed to it, table by table.
-use Rattle.std.specs.Prelude.{◌≡◌, ◌⊎◌, ℕ, List, [], ◌∷◌, ◌++◌, map, Bool, true, false, Option, None, Some, option_map, Result, Ok, Err}
+use Rattle.std.specs.Prelude.{◌≡◌, ◌⊎◌, ℕ, List, [], ◌∷◌, ◌++◌, map, Bool, true, false, Option, None, Some, option_map, Ok, Err}
 use Rattle.thes_base.specs.declared.fault.Fault.{Fault}
 use Rattle.thes_base.specs.declared.fault.Fault.TheVariants.{BadStore}
 use Rattle.thes_base.specs.declared.fault.Table.{Table}
@@ -190,7 +190,3 @@ no_rows =
 abbrev pub HasRow : Stage → Stage → Table → List Cell → Type 0
 HasRow old new table cells =
     (stage_table new ≡ table) × ((raw : Raw) → HasRead old raw → HasRead new (pushed table cells raw))
-
--- The rows load, and these are the vocabulary and the links that they tell.
-abbrev pub HasLoaded : Raw → Vocabulary → Net → Type 0
-HasLoaded raw vocab graph = (t : Tables) × Loads raw (Ok t) × HasNames vocab t × HasLinks t.resource graph t.link t.hier

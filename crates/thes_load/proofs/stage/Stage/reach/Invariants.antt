@@ -5,4 +5,4 @@ use Rattle.thes_load.proofs.stage.Stage.reach.Given as goal
 
 -- the table of this number is reached
 abbrev pub invariant-loop-i : goal.invariant-loop-i
-invariant-loop-i l = (table_no (stage_table l.stage) ≡ l.i) × ((raw : Raw) → HasRead l.self raw → HasRead l.stage raw)
+invariant-loop-i l = (table_no (stage_table l.stage) ≡ l.i) × ((raw : Raw) → HasRead l.fn.self raw → HasRead l.stage raw)
