@@ -28,13 +28,13 @@ use Rattle.thes_load.proofs.TableOrder.{same_extends}
 module _ (vocab : Vocabulary) (graph : Net) (ats : Vec ℕ Global) (load : MoveLoad) (good : Bool)
     (close : (rs : List Resource) (postings : List PostingRow) (rows : List MoveRow) → HasMoves rs postings load.taken load.places.items rows → ats.items ≡ map (λ (p : PostingRow). p.place) postings → IsTrue good ↔ MoveRule rs postings rows) (raw : Raw) where
   pub move_good : good ≡ true → HasRead (stage.Move vocab graph ats load) raw → Ends raw (Ok (record { vocab = vocab; graph = graph }))
-  move_good yes (t, passes, names, links, are, read, has) =
-      (t, (judged raw t).all (passes, (read, (close t.resource t.posting t.move has are).0 yes)), names, links)
+  move_good met (t, passes, names, links, are, read, has) =
+      (t, (judged raw t).all (passes, (read, (close t.resource t.posting t.move has are).0 met)), names, links)
 
   pub move_bad : good ≡ false → HasRead (stage.Move vocab graph ats load) raw → Ends raw (Err (BadStore table.Move))
-  move_bad no (t, passes, names, links, are, read, has) =
+  move_bad unmet (t, passes, names, links, are, read, has) =
       (judged raw t).move passes (λ rows (is, rule).
-      true≢false (sym ((close t.resource t.posting t.move has are).1 (subst (MoveRule t.resource t.posting) (map_one move_cells move_one rows t.move (same_Some _ _ (sym is ∙ read))) rule)) ∙ no))
+      true≢false (sym ((close t.resource t.posting t.move has are).1 (subst (MoveRule t.resource t.posting) (map_one move_cells move_one rows t.move (same_Some _ _ (sym is ∙ read))) rule)) ∙ unmet))
 
 pub stopped_end : (fault : Fault) (at : Table) (raw : Raw) → HasRead (stage.Stopped fault at) raw → Ends raw (Err fault)
 stopped_end fault at raw stays = stays raw (same_extends at raw)

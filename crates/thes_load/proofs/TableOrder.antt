@@ -1,5 +1,5 @@
 -- The order of tables, and rows that go on from themselves.
-use Rattle.std.proofs.Common.{◌≡◌, ◌<◌, ◌≤◌, ◌+◌, ℕ, suc, refl, sym, ap, ◌∙◌, arith}
+use Rattle.std.proofs.Common.{◌≡◌, ◌<◌, ◌≤◌, ◌+◌, ℕ, zero, suc, refl, sym, ap, ◌∙◌, arith}
 use Rattle.thes_base.specs.declared.fault.Table.{Table}
 use Rattle.thes_base.specs.declared.fault.Table.TheVariants as table
 use Rattle.thes_rows.specs.Cells.{Raw}
@@ -7,14 +7,14 @@ use Rattle.thes_load.specs.Progress.{table_no, next_table, Extends}
 use Rattle.thes_load.proofs.CloseSteps.{same_grows}
 
 table_at : ℕ → Table
-table_at 0 = table.Meta
-table_at 1 = table.Resource
-table_at 2 = table.Outside
-table_at 3 = table.Label
-table_at 4 = table.Link
-table_at 5 = table.Hier
-table_at 6 = table.Posting
-table_at _ = table.Move
+table_at zero = table.Meta
+table_at (suc zero) = table.Resource
+table_at (suc (suc zero)) = table.Outside
+table_at (suc (suc (suc zero))) = table.Label
+table_at (suc (suc (suc (suc zero)))) = table.Link
+table_at (suc (suc (suc (suc (suc zero))))) = table.Hier
+table_at (suc (suc (suc (suc (suc (suc zero)))))) = table.Posting
+table_at (suc (suc (suc (suc (suc (suc (suc n))))))) = table.Move
 
 table_back : (t : Table) → table_at (table_no t) ≡ t
 table_back table.Meta = refl
