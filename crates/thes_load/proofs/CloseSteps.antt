@@ -1,6 +1,6 @@
 -- The end of each table: what is known after it, or the fault that its end is.
-use Rattle.std.proofs.Common.{◌≡◌, ◌≢◌, ◌⊎◌, ℕ, List, [], ◌∷◌, ◌++◌, map, refl, sym, ap, ◌∙◌, subst, inl, inr, Vec, Global}
-use Rattle.std.specs.Prelude.{None, Some, Err}
+use Rattle.std.proofs.Common.{◌≡◌, ℕ, List, [], ◌∷◌, map, refl, sym, ap, ◌∙◌, subst, inr, Vec, Global}
+use Rattle.std.specs.Prelude.{None, Some}
 use Rattle.std.proofs.lemmas.List.{append-nil}
 use Rattle.std.proofs.lemmas.Option.{same_Some}
 use Rattle.thes_base.specs.declared.data.Resource.{Resource}
@@ -12,14 +12,13 @@ use Rattle.thes_base.specs.Labels.{EachHasPreferred}
 use Rattle.thes_rows.specs.declared.cells.Cell.{Cell}
 use Rattle.thes_rows.specs.declared.rows.PostingRow.{PostingRow}
 use Rattle.thes_rows.specs.Tables.{Tables}
-use Rattle.thes_rows.specs.Cells.{Raw, RawTable, resource_rows, outside_cells, label_cells, hier_cells}
+use Rattle.thes_rows.specs.Cells.{Raw, RawTable, outside_cells, label_cells, hier_cells}
 use Rattle.thes_rows.proofs.Listing.{map_one, resources_one, outside_one, label_one, hier_one}
 use Rattle.thes_vocab.specs.Vocabulary.{Vocabulary}
 use Rattle.thes_vocab.specs.Loading.{AreLabelsSoFar, HaveIris}
 use Rattle.thes_graph.specs.Net.{Net}
-use Rattle.thes_tables.specs.Rules.{ResourceRule, OutsideRule, LabelRule, HierRule, labels_of}
-use Rattle.thes_tables.specs.Loads.{Loads, IsNewer, IsOlder}
-use Rattle.thes_tables.specs.Laws.{MetaPasses, ResourcePasses, OutsidePasses, LinkPasses}
+use Rattle.thes_tables.specs.Rules.{ResourceRule, OutsideRule, LabelRule, HierRule}
+use Rattle.thes_tables.specs.Loads.{IsNewer, IsOlder}
 use Rattle.thes_tables.proofs.Judging.{judged}
 use Rattle.thes_load.specs.declared.stage.Stage.TheVariants as stage
 use Rattle.thes_load.specs.declared.meta.MetaRow.TheVariants.{Newer, Older, Base}
@@ -31,8 +30,7 @@ use Rattle.thes_load.specs.declared.moves.MoveLoad.{MoveLoad}
 use Rattle.thes_load.specs.Naming.{HasOutside, vocabulary_of}
 use Rattle.thes_load.specs.Linking.{HasLinks}
 use Rattle.thes_load.specs.Taken.{HasPostings, HasMoves}
-use Rattle.thes_load.specs.Version.{version_cells}
-use Rattle.thes_load.specs.Progress.{Grows, Extends, HasRead, Closes, next_table}
+use Rattle.thes_load.specs.Progress.{Grows, Extends, Closes, next_table}
 use Rattle.thes_load.proofs.ProgressLemmas.{meta_stays, resource_stays, outside_stays, link_stays}
 use Rattle.thes_load.proofs.RowSteps.{blank, meta_fault}
 

@@ -1,6 +1,6 @@
 -- The answer at the end.
-use Rattle.std.proofs.Common.{◌≡◌, ◌↔◌, ℕ, List, map, refl, sym, ap, ◌∙◌, subst, Bool, true, false, true≢false, Vec, Global}
-use Rattle.std.specs.Prelude.{Some, Ok, Err, IsTrue}
+use Rattle.std.proofs.Common.{◌≡◌, ◌↔◌, ℕ, List, map, sym, ◌∙◌, subst, Bool, true, false, true≢false, Vec, Global}
+use Rattle.std.specs.Prelude.{Ok, Err, IsTrue}
 use Rattle.std.proofs.lemmas.Option.{same_Some}
 use Rattle.thes_base.specs.declared.data.Resource.{Resource}
 use Rattle.thes_base.specs.declared.fault.Fault.{Fault}
@@ -14,12 +14,9 @@ use Rattle.thes_rows.proofs.Listing.{map_one, move_one}
 use Rattle.thes_vocab.specs.Vocabulary.{Vocabulary}
 use Rattle.thes_graph.specs.Net.{Net}
 use Rattle.thes_tables.specs.Rules.{MoveRule}
-use Rattle.thes_tables.specs.Loads.{Loads}
 use Rattle.thes_tables.proofs.Judging.{judged}
-use Rattle.thes_load.specs.declared.stage.Stage.{Stage}
 use Rattle.thes_load.specs.declared.stage.Stage.TheVariants as stage
 use Rattle.thes_load.specs.declared.moves.MoveLoad.{MoveLoad}
-use Rattle.thes_load.specs.declared.loader.LoadedParts.{LoadedParts}
 use Rattle.thes_load.specs.Taken.{HasMoves}
 use Rattle.thes_load.specs.Progress.{HasRead}
 use Rattle.thes_load.specs.Ending.{Ends}

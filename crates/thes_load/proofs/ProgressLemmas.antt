@@ -1,8 +1,7 @@
 -- One more row of cells, and a fault that stays.
-use Rattle.std.proofs.Common.{◌≡◌, ◌⊎◌, ℕ, List, [], ◌∷◌, ◌++◌, map, refl, sym, ap, ◌∙◌, subst, inl, inr, true, false}
-use Rattle.std.specs.Prelude.{None, Some, Err, option_map}
+use Rattle.std.proofs.Common.{◌≡◌, List, [], ◌∷◌, ◌++◌, map, sym, ap, ◌∙◌, subst, inl, inr, true}
+use Rattle.std.specs.Prelude.{Some, option_map}
 use Rattle.std.proofs.lemmas.Option.{same_Some}
-use Rattle.thes_base.specs.declared.data.Resource.{Resource}
 use Rattle.thes_base.specs.declared.fault.Fault.TheVariants.{BadStore}
 use Rattle.thes_base.specs.declared.fault.Table.TheVariants as table
 use Rattle.thes_rows.specs.declared.cells.Cell.{Cell}
@@ -11,12 +10,12 @@ use Rattle.thes_rows.specs.Cells.{Raw, RawTable, resource_rows, outside_cells, l
 use Rattle.thes_vocab.specs.Vocabulary.{Vocabulary}
 use Rattle.thes_graph.specs.Net.{Net}
 use Rattle.thes_tables.specs.Rules.{ResourceRule, OutsideRule, LabelRule, LinkRule, HierRule, PostingRule, MoveRule}
-use Rattle.thes_tables.specs.Loads.{Loads, IsTable, IsMeta}
+use Rattle.thes_tables.specs.Loads.{IsTable, IsMeta}
 use Rattle.thes_tables.specs.Laws.{HasNone, MetaPasses, ResourcePasses, OutsidePasses, LabelPasses, LinkPasses, HierPasses, PostingPasses}
 use Rattle.thes_tables.proofs.Judging.{judged}
 use Rattle.thes_load.specs.declared.stage.Stage.TheVariants as stage
 use Rattle.thes_load.specs.Reading.{IsFaulty, Reads}
-use Rattle.thes_load.specs.Progress.{Grows, Extends, pushed, HasRead, HasNames, NoneAfterOutside, NoneAfterLabel, NoneAfterLink, NoneAfterHier, NoneAfterPosting}
+use Rattle.thes_load.specs.Progress.{Grows, pushed, HasRead, HasNames, NoneAfterOutside, NoneAfterLabel, NoneAfterLink, NoneAfterHier, NoneAfterPosting}
 use Rattle.thes_load.specs.declared.names.OutsideLoad.{OutsideLoad}
 use Rattle.thes_load.specs.declared.links.LinkLoad.{LinkLoad}
 use Rattle.thes_load.specs.declared.postings.PostingLoad.{PostingLoad}

@@ -1,6 +1,6 @@
 -- A row at each stage: taken, or the fault.
 use Rattle.std.proofs.Common.{◌≡◌, ◌≢◌, ◌⊎◌, ◌<◌, ◌^◌, ℕ, length, List, [], ◌∷◌, ◌++◌, map, refl, sym, ap, ◌∙◌, subst, inl, inr, Bool, true, false, Vec, Global, append_assoc}
-use Rattle.std.specs.Prelude.{Option, None, Some, Err, option_map}
+use Rattle.std.specs.Prelude.{None, Some, Err, option_map}
 use Rattle.std.proofs.lemmas.Option.{same_Some}
 use Rattle.thes_base.specs.declared.data.Resource.{Resource}
 use Rattle.thes_base.specs.declared.data.Link.{Link}
@@ -23,7 +23,6 @@ use Rattle.thes_tables.specs.Rules.{ResourceRule, OutsideRule, LabelRule, LinkRu
 use Rattle.thes_tables.specs.Loads.{Loads}
 use Rattle.thes_tables.proofs.Judging.{judged}
 use Rattle.thes_load.specs.declared.meta.MetaRow.{MetaRow}
-use Rattle.thes_load.specs.declared.stage.Stage.{Stage}
 use Rattle.thes_load.specs.declared.stage.Stage.TheVariants as stage
 use Rattle.thes_load.specs.declared.resources.ResourceLoad.{ResourceLoad}
 use Rattle.thes_load.specs.declared.names.OutsideLoad.{OutsideLoad}
@@ -35,7 +34,7 @@ use Rattle.thes_load.specs.Version.{SpellsMeta, version_cells}
 use Rattle.thes_load.specs.Naming.{HasOutside, HasLabels}
 use Rattle.thes_load.specs.Linking.{HasLinks}
 use Rattle.thes_load.specs.Taken.{HasPostings, HasMoves}
-use Rattle.thes_load.specs.Progress.{Grows, Extends, pushed, HasRead, HasNames, ReadsRow}
+use Rattle.thes_load.specs.Progress.{Grows, Extends, pushed, HasNames, ReadsRow}
 use Rattle.thes_load.proofs.ProgressLemmas.{resource_fault, outside_fault, label_fault, link_fault, hier_fault, posting_fault, move_fault, outside_taken, label_taken, link_taken, hier_taken, posting_taken}
 
 -- Meta.

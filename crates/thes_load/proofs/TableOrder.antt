@@ -6,7 +6,7 @@ use Rattle.thes_rows.specs.Cells.{Raw}
 use Rattle.thes_load.specs.Progress.{table_no, next_table, Extends}
 use Rattle.thes_load.proofs.CloseSteps.{same_grows}
 
-table_at : ℕ → Table
+abbrev table_at : ℕ → Table
 table_at zero = table.Meta
 table_at (suc zero) = table.Resource
 table_at (suc (suc zero)) = table.Outside

@@ -1,6 +1,5 @@
 -- How far a loader has come with the rows of cells that were handed to it, table by table.
-use Rattle.std.specs.Prelude.{◌≡◌, ◌⊎◌, ℕ, List, [], ◌∷◌, ◌++◌, map, Bool, true, false, Option, None, Some, option_map, Ok, Err}
-use Rattle.thes_base.specs.declared.fault.Fault.{Fault}
+use Rattle.std.specs.Prelude.{◌≡◌, ◌⊎◌, ℕ, List, [], ◌∷◌, ◌++◌, map, Bool, true, false, Option, None, Some, option_map, Err}
 use Rattle.thes_base.specs.declared.fault.Fault.TheVariants.{BadStore}
 use Rattle.thes_base.specs.declared.fault.Table.{Table}
 use Rattle.thes_base.specs.declared.fault.Table.TheVariants as table
@@ -9,8 +8,6 @@ use Rattle.thes_rows.specs.declared.rows.PostingRow.{PostingRow}
 use Rattle.thes_rows.specs.Tables.{Tables}
 use Rattle.thes_rows.specs.Cells.{Raw, RawTable, resource_rows, outside_cells, label_cells, link_cells, hier_cells, posting_cells, move_cells}
 use Rattle.thes_vocab.specs.Vocabulary.{Vocabulary}
-use Rattle.thes_graph.specs.Net.{Net}
-use Rattle.thes_tables.specs.Rules.{links_of}
 use Rattle.thes_tables.specs.Loads.{Loads}
 use Rattle.thes_tables.specs.Laws.{MetaPasses, ResourcePasses, OutsidePasses, LabelPasses, LinkPasses, HierPasses, PostingPasses}
 use Rattle.thes_load.specs.declared.meta.MetaRow.{MetaRow}

@@ -1,4 +1,4 @@
-use Rattle.std.proofs.Common.{◌≡◌, ◌∙◌, List, [], sym, subst, true≢false}
+use Rattle.std.proofs.Common.{◌∙◌, List, [], sym, subst, true≢false}
 use Rattle.thes_base.specs.declared.data.Resource.{Resource}
 use Rattle.thes_load.specs.Linking.{HasLinks}
 use Rattle.thes_load.proofs.CloseSteps.{label_bad, label_good, label_without}

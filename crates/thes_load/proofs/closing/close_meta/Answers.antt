@@ -1,9 +1,9 @@
-use Rattle.std.proofs.Common.{◌≡◌, ℕ, List, Option, Some, sym, subst, rules}
+use Rattle.std.proofs.Common.{◌≡◌, Option, Some, sym, subst, rules}
 use Rattle.thes_load.specs.declared.meta.MetaRow.{MetaRow}
 use Rattle.thes_load.specs.declared.meta.MetaRow.TheVariants.{Base}
 use Rattle.thes_load.specs.declared.stage.Stage.TheVariants as stage
 use Rattle.thes_load.specs.Progress.{Closes}
-use Rattle.thes_load.proofs.CloseSteps.{meta_newer, meta_older, meta_none, meta_base}
+use Rattle.thes_load.proofs.CloseSteps.{meta_base}
 use Rattle.thes_load.proofs.closing.close_meta.Goals as goal
 
 pub returns-in-Some-Base : goal.returns-in-Some-Base

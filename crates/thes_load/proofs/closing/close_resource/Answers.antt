@@ -1,4 +1,4 @@
-use Rattle.std.proofs.Common.{◌≡◌, ◌∙◌, sym, true≢false}
+use Rattle.std.proofs.Common.{◌∙◌, sym, true≢false}
 use Rattle.thes_load.proofs.CloseSteps.{resource_bad, resource_good}
 use Rattle.thes_load.proofs.closing.close_resource.Goals as goal
 

@@ -1,4 +1,4 @@
-use Rattle.std.proofs.Common.{◌≡◌, sym, subst}
+use Rattle.std.proofs.Common.{sym, subst}
 use Rattle.thes_base.specs.declared.fault.Table.{Table}
 use Rattle.thes_load.specs.declared.stage.Stage.{Stage}
 use Rattle.thes_load.specs.declared.stage.Stage.TheVariants as stage

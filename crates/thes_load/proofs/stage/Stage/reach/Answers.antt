@@ -1,4 +1,4 @@
-use Rattle.std.proofs.Common.{◌≡◌, ◌<◌, ◌≤◌, ◌+◌, ◌∙◌, sym, ap, arith}
+use Rattle.std.proofs.Common.{◌+◌, ◌∙◌, sym, ap, arith}
 use Rattle.thes_load.specs.Progress.{stage_table, table_no}
 use Rattle.thes_load.proofs.TableOrder.{table_same, next_no, last_no}
 use Rattle.thes_load.proofs.stage.Stage.reach.Goals as goal

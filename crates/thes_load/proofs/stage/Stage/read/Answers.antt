@@ -6,7 +6,7 @@ use Rattle.thes_load.specs.declared.stage.Stage.{Stage}
 use Rattle.thes_load.specs.declared.stage.Stage.TheVariants as stage
 use Rattle.thes_load.specs.Version.{SpellsMeta}
 use Rattle.thes_load.specs.Progress.{ReadsRow}
-use Rattle.thes_load.proofs.RowSteps.{meta_second, meta_row, meta_unread, resource_row, outside_row, label_row, link_row, hier_row, posting_row, move_row, stopped_row}
+use Rattle.thes_load.proofs.RowSteps.{meta_row, meta_unread, resource_row, outside_row, label_row, link_row, hier_row, posting_row, move_row, stopped_row}
 use Rattle.thes_load.proofs.stage.Stage.read.Goals as goal
 
 pub returns-in-Some-2 : goal.returns-in-Some-2
