@@ -40,106 +40,164 @@ one_row : (queried raw : RawTable) (one cells : List Cell) → queried ≡ raw �
 one_row queried raw one cells same is e = same_Some _ _ (sym is ∙ sym same ∙ e)
 
 pub meta_newer : Closes (stage.Meta (Some Newer)) (stage.Stopped NewerStore table.Resource)
-meta_newer = (refl, λ raw ((cells, is, (version, base, above, spelled)), after) more (same, grows).
-  let newer : IsNewer more.meta = (version, base, above, same ∙ is ∙ ap (λ (c : List Cell). Some (c ∷ [])) spelled) in
-  (judged more (blank [])).newer newer)
+meta_newer = (
+  refl,
+  λ raw ((cells, is, (version, base, above, spelled)), after) more (same, grows).
+      let newer : IsNewer more.meta = (version, base, above, same ∙ is ∙ ap (λ (c : List Cell). Some (c ∷ [])) spelled) in
+      (judged more (blank [])).newer newer,
+)
 
 pub meta_older : Closes (stage.Meta (Some Older)) (stage.Stopped OlderStore table.Resource)
-meta_older = (refl, λ raw ((cells, is, (base, spelled)), after) more (same, grows).
-  let older : IsOlder more.meta = (1, base, refl, same ∙ is ∙ ap (λ (c : List Cell). Some (c ∷ [])) spelled) in
-  (judged more (blank [])).older older)
+meta_older = (
+  refl,
+  λ raw ((cells, is, (base, spelled)), after) more (same, grows).
+      let older : IsOlder more.meta = (1, base, refl, same ∙ is ∙ ap (λ (c : List Cell). Some (c ∷ [])) spelled) in
+      (judged more (blank [])).older older,
+)
 
 pub meta_none : Closes (stage.Meta None) (stage.Stopped (BadStore table.Meta) table.Resource)
-meta_none = (refl, λ raw (none, after) more (same, grows).
-  meta_fault more
-  (λ version base which e. let f = same_Some _ _ (sym (same ∙ none) ∙ e) in absurd (cc))
-  (λ base form e. let f = same_Some _ _ (sym (same ∙ none) ∙ e) in absurd (cc)))
+meta_none = (
+  refl,
+  λ raw (none, after) more (same, grows).
+      meta_fault more
+      (λ version base which e. let f = same_Some _ _ (sym (same ∙ none) ∙ e) in absurd (cc))
+      (λ base form e. let f = same_Some _ _ (sym (same ∙ none) ∙ e) in absurd (cc)),
+)
 
 pub meta_base : (base : List ℕ) (load : ResourceLoad) → load.resources.items ≡ [] → Closes (stage.Meta (Some (Base base))) (stage.Resource base load)
-meta_base base load none = (refl, λ raw ((cells, is, (form, spelled)), after).
-  (blank base, (is ∙ ap (λ (c : List Cell). Some (c ∷ [])) spelled, form), refl, after.0, sym none, after.1))
+meta_base base load none = (
+  refl,
+  λ raw ((cells, is, (form, spelled)), after).
+      (blank base, (is ∙ ap (λ (c : List Cell). Some (c ∷ [])) spelled, form), refl, after.0, sym none, after.1),
+)
 
 -- Resource.
 
 pub resource_bad : (base : List ℕ) (load : ResourceLoad) → (ResourceRule load.resources.items → ⊥) → Closes (stage.Resource base load) (stage.Stopped (BadStore table.Resource) table.Outside)
-resource_bad base load broken = (refl, λ raw (t, passes, same, read, are, after) more (e0, e1, grows).
-  (judged more t).resource (meta_stays raw more t e0 passes)
-  (λ rows (is, rule). broken (subst ResourceRule (resources_one 1 1 rows t.resource (same_Some _ _ (sym is ∙ e1 ∙ read)) ∙ are) rule)))
+resource_bad base load broken = (
+  refl,
+  λ raw (t, passes, same, read, are, after) more (e0, e1, grows).
+      (judged more t).resource (meta_stays raw more t e0 passes)
+      (λ rows (is, rule). broken (subst ResourceRule (resources_one 1 1 rows t.resource (same_Some _ _ (sym is ∙ e1 ∙ read)) ∙ are) rule)),
+)
 
 pub resource_good : (base : List ℕ) (load : ResourceLoad) (new : OutsideLoad) → ResourceRule load.resources.items → HasOutside base load.resources.items new.vocab new.last [] → Closes (stage.Resource base load) (stage.Outside new)
-resource_good base load new rule has = (refl, λ raw (t, passes, same, read, are, after).
-  (record t { outside = [] }, (passes, (read, subst ResourceRule (sym are) rule)), after.0,
-    subst (λ (b : List ℕ). HasOutside b t.resource new.vocab new.last []) same (subst (λ (rs : List Resource). HasOutside base rs new.vocab new.last []) (sym are) has), after.1))
+resource_good base load new rule has = (
+  refl,
+  λ raw (t, passes, same, read, are, after). (
+    record t { outside = [] },
+    (passes, (read, subst ResourceRule (sym are) rule)),
+    after.0,
+    subst (λ (b : List ℕ). HasOutside b t.resource new.vocab new.last []) same (subst (λ (rs : List Resource). HasOutside base rs new.vocab new.last []) (sym are) has),
+    after.1,
+  ),
+)
 
 -- Outside.
 
 pub outside_bad : (load : OutsideLoad) → ((base : List ℕ) (rs : List Resource) (rows : List (ℕ × List ℕ)) → HasOutside base rs load.vocab load.last rows → OutsideRule base rs rows → ⊥) → Closes (stage.Outside load) (stage.Stopped (BadStore table.Outside) table.Label)
-outside_bad load broken = (refl, λ raw (t, passes, read, has, after) more (e0, e1, e2, grows).
-  (judged more t).outside (resource_stays raw more t e0 e1 passes)
-  (λ rows (is, rule). broken t.base t.resource t.outside has (subst (OutsideRule t.base t.resource) (map_one outside_cells outside_one rows t.outside (same_Some _ _ (sym is ∙ e2 ∙ read))) rule)))
+outside_bad load broken = (
+  refl,
+  λ raw (t, passes, read, has, after) more (e0, e1, e2, grows).
+      (judged more t).outside (resource_stays raw more t e0 e1 passes)
+      (λ rows (is, rule). broken t.base t.resource t.outside has (subst (OutsideRule t.base t.resource) (map_one outside_cells outside_one rows t.outside (same_Some _ _ (sym is ∙ e2 ∙ read))) rule)),
+)
 
 pub outside_good : (load : OutsideLoad) → ((base : List ℕ) (rs : List Resource) (rows : List (ℕ × List ℕ)) → HasOutside base rs load.vocab load.last rows → OutsideRule base rs rows) → Closes (stage.Outside load) (stage.Label load.vocab)
-outside_good load rule = (refl, λ raw (t, passes, read, has, after).
-  (record t { label = [] }, (passes, (read, rule t.base t.resource t.outside has)), after.0,
-    record { once = tt; forms = λ l h. absurd h; are = has.are }, after.1))
+outside_good load rule = (
+  refl,
+  λ raw (t, passes, read, has, after). (
+    record t { label = [] },
+    (passes, (read, rule t.base t.resource t.outside has)),
+    after.0,
+    record { once = tt; forms = λ l h. absurd h; are = has.are },
+    after.1,
+  ),
+)
 
 -- Label.
 
 pub label_bad : (vocab : Vocabulary) → (EachHasPreferred vocab.resources vocab.labels → ⊥) → Closes (stage.Label vocab) (stage.Stopped (BadStore table.Label) table.Link)
-label_bad vocab broken = (refl, λ raw (t, passes, read, has, after) more (e0, e1, e2, e3, grows).
-  (judged more t).label (outside_stays raw more t e0 e1 e2 passes)
-  (λ rows (is, rule).
+label_bad vocab broken = (
+  refl,
+  λ raw (t, passes, read, has, after) more (e0, e1, e2, e3, grows).
+      (judged more t).label (outside_stays raw more t e0 e1 e2 passes)
+      (λ rows (is, rule).
       let same = map_one label_cells label_one rows t.label (same_Some _ _ (sym is ∙ e3 ∙ read)) in
-      broken (subst (λ (v : Vocabulary). EachHasPreferred v.resources v.labels) (sym has.are) (subst (LabelRule t.resource) same rule).legal.named)))
+      broken (subst (λ (v : Vocabulary). EachHasPreferred v.resources v.labels) (sym has.are) (subst (LabelRule t.resource) same rule).legal.named)),
+)
 
 -- the end of outside has seen to it that each outside concept has an IRI
 pub label_without : (vocab : Vocabulary) → (HaveIris vocab → ⊥) → Closes (stage.Label vocab) (stage.Stopped (BadStore table.Label) table.Link)
-label_without vocab broken = (refl, λ raw (t, passes, read, has, after) more extends.
-  absurd (broken (subst HaveIris (sym has.are) passes.1.1.legal.each)))
+label_without vocab broken = (
+  refl,
+  λ raw (t, passes, read, has, after) more extends.
+      absurd (broken (subst HaveIris (sym has.are) passes.1.1.legal.each)),
+)
 
 pub label_good : (old new : Vocabulary) (load : LinkLoad) → AreLabelsSoFar old.resources old.labels → EachHasPreferred old.resources old.labels → new ≡ old → HasLinks new.resources load.graph [] [] → Closes (stage.Label old) (stage.Link new load)
-label_good old new load so_far named same links = (refl, λ raw (t, passes, read, has, after).
-  let so = subst (λ (v : Vocabulary). AreLabelsSoFar v.resources v.labels) has.are so_far in
-  let rule : LabelRule t.resource t.label = record {
-    once = has.once;
-    forms = has.forms;
-    legal = record {
-      owners = so.owners;
-      disjoint = so.disjoint;
-      one_preferred = so.one_preferred;
-      unique = so.unique;
-      named = subst (λ (v : Vocabulary). EachHasPreferred v.resources v.labels) has.are named;
-    };
-  } in
-  let names : new ≡ vocabulary_of t.base t.resource t.outside t.label = same ∙ has.are in
-  (record t { link = [] }, (passes, (read, rule)), names, after.0,
-    subst (λ (rs : List Resource). HasLinks rs load.graph [] []) (ap (λ (v : Vocabulary). v.resources) names) links, after.1))
+label_good old new load so_far named same links = (
+  refl,
+  λ raw (t, passes, read, has, after).
+      let so = subst (λ (v : Vocabulary). AreLabelsSoFar v.resources v.labels) has.are so_far in
+      let rule : LabelRule t.resource t.label = record {
+        once = has.once;
+        forms = has.forms;
+        legal = record {
+          owners = so.owners;
+          disjoint = so.disjoint;
+          one_preferred = so.one_preferred;
+          unique = so.unique;
+          named = subst (λ (v : Vocabulary). EachHasPreferred v.resources v.labels) has.are named;
+        };
+      } in
+      let names : new ≡ vocabulary_of t.base t.resource t.outside t.label = same ∙ has.are in (
+        record t { link = [] },
+        (passes, (read, rule)),
+        names,
+        after.0,
+        subst (λ (rs : List Resource). HasLinks rs load.graph [] []) (ap (λ (v : Vocabulary). v.resources) names) links,
+        after.1,
+      ),
+)
 
 -- Link and hier.
 
 pub link_good : (vocab : Vocabulary) (load : LinkLoad) → Closes (stage.Link vocab load) (stage.Hier vocab load)
-link_good vocab load = (refl, λ raw (t, passes, names, read, has, after).
-  (record t { hier = [] }, (passes, (read, has.rule)), names, after.0, has, after.1))
+link_good vocab load = (
+  refl,
+  λ raw (t, passes, names, read, has, after).
+      (record t { hier = [] }, (passes, (read, has.rule)), names, after.0, has, after.1),
+)
 
 pub hier_bad : (vocab : Vocabulary) (load : LinkLoad) → ((t : Tables) → HasLinks t.resource load.graph t.link t.hier → HierRule t.resource t.link t.hier → ⊥) → Closes (stage.Hier vocab load) (stage.Stopped (BadStore table.Hier) table.Posting)
-hier_bad vocab load broken = (refl, λ raw (t, passes, names, read, has, after) more (e0, e1, e2, e3, e4, e5, grows).
-  (judged more t).hier (link_stays raw more t e0 e1 e2 e3 e4 passes)
-  (λ rows (is, rule). broken t has (subst (HierRule t.resource t.link) (map_one hier_cells hier_one rows t.hier (same_Some _ _ (sym is ∙ e5 ∙ read))) rule)))
+hier_bad vocab load broken = (
+  refl,
+  λ raw (t, passes, names, read, has, after) more (e0, e1, e2, e3, e4, e5, grows).
+      (judged more t).hier (link_stays raw more t e0 e1 e2 e3 e4 passes)
+      (λ rows (is, rule). broken t has (subst (HierRule t.resource t.link) (map_one hier_cells hier_one rows t.hier (same_Some _ _ (sym is ∙ e5 ∙ read))) rule)),
+)
 
 pub hier_good : (vocab : Vocabulary) (load : LinkLoad) (new : PostingLoad) → ((t : Tables) → HasLinks t.resource load.graph t.link t.hier → HierRule t.resource t.link t.hier)
     → ((rs : List Resource) → HasPostings rs new.keys.keys new.firsts.items new.ats.items []) → Closes (stage.Hier vocab load) (stage.Posting vocab load.graph new)
-hier_good vocab load new rule none = (refl, λ raw (t, passes, names, read, has, after).
-  (record t { posting = [] }, (passes, (read, rule t has)), names, has, after.0, none t.resource, after.1))
+hier_good vocab load new rule none = (
+  refl,
+  λ raw (t, passes, names, read, has, after).
+      (record t { posting = [] }, (passes, (read, rule t has)), names, has, after.0, none t.resource, after.1),
+)
 
 -- Posting.
 
 pub posting_good : (vocab : Vocabulary) (graph : Net) (load : PostingLoad) (moves : MoveLoad) (ats : Vec ℕ Global)
     → ((rs : List Resource) (rows : List PostingRow) → HasPostings rs load.keys.keys load.firsts.items load.ats.items rows
-      → HasMoves rs rows moves.taken moves.places.items [] × (ats.items ≡ map (λ (row : PostingRow). row.place) rows))
+    → HasMoves rs rows moves.taken moves.places.items [] × (ats.items ≡ map (λ (row : PostingRow). row.place) rows))
     → Closes (stage.Posting vocab graph load) (stage.Move vocab graph ats moves)
-posting_good vocab graph load moves ats close = (refl, λ raw (t, passes, names, links, read, has, after).
-  let (start, are) = close t.resource t.posting has in
-  (record t { move = [] }, (passes, (read, has.rule)), names, links, are, after, start))
+posting_good vocab graph load moves ats close = (
+  refl,
+  λ raw (t, passes, names, links, read, has, after).
+      let (start, are) = close t.resource t.posting has in
+      (record t { move = [] }, (passes, (read, has.rule)), names, links, are, after, start),
+)
 
 -- Stopped.
 

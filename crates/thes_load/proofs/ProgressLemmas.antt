@@ -112,4 +112,3 @@ hier_taken raw t cells vocab new passes names read (x, e, has) after = (record t
 -- Posting: a row that is taken.
 pub posting_taken : (raw : Raw) (t : Tables) (cells : List Cell) (vocab : Vocabulary) (graph : Net) (new : PostingLoad) → HierPasses raw t → HasNames vocab t → HasLinks t.resource graph t.link t.hier → raw.posting ≡ Some (map posting_cells t.posting) → Reads (map posting_cells) (HasPostings t.resource new.keys.keys new.firsts.items new.ats.items) (PostingRule t.resource) t.posting cells true → NoneAfterPosting raw → HasRead (stage.Posting vocab graph new) (pushed table.Posting cells raw)
 posting_taken raw t cells vocab graph new passes names links read (x, e, has) after = (record t { posting = t.posting ++ x ∷ [] }, passes, names, links, (ap (option_map (λ (rows : List (List Cell)). rows ++ cells ∷ [])) read ∙ ap (λ (rows : List (List Cell)). Some rows) (sym e)), has, after)
-

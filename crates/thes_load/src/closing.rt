@@ -4,11 +4,11 @@ ghost use Rattle.thes_load.specs.declared.stage.Stage.TheVariants as stage;
 ghost use Rattle.thes_load.specs.Progress.{Closes};
 
 use crate::links::LinkLoad;
-use crate::stage::Stage;
 use crate::meta::MetaRow;
 use crate::names::OutsideLoad;
 use crate::postings::PostingLoad;
 use crate::resources::ResourceLoad;
+use crate::stage::Stage;
 use std::alloc::{AllocError, Global};
 use thes_base::fault::{Fault, Table};
 use thes_base::text::Base;

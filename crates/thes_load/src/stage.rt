@@ -2,7 +2,9 @@
 ghost use Rattle.std.specs.Prelude.{◌≡◌, ◌≤◌, IfOk};
 ghost use Rattle.thes_load.specs.Progress.{stage_table, next_table, table_no, ReadsRow, Closes, Reaches};
 
-use crate::closing::{close_hier, close_label, close_meta, close_outside, close_posting, close_resource};
+use crate::closing::{
+    close_hier, close_label, close_meta, close_outside, close_posting, close_resource,
+};
 use crate::links::LinkLoad;
 use crate::meta::{MetaRow, meta_in};
 use crate::moves::MoveLoad;
