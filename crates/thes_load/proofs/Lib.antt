@@ -7,3 +7,8 @@ pub mod Linking
 pub mod ReadingLemmas
 pub mod RowForms
 pub mod Naming
+pub mod ProgressLemmas
+pub mod RowSteps
+pub mod CloseSteps
+pub mod TableOrder
+pub mod EndSteps

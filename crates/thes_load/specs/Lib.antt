@@ -6,3 +6,5 @@ pub mod Linking
 pub mod Reading
 pub mod Naming
 pub mod Version
+pub mod Progress
+pub mod Ending

@@ -2,11 +2,14 @@
 #![tactic(auto)]
 
 pub mod cells;
+pub mod closing;
 pub mod ends;
 pub mod links;
+pub mod loader;
 pub mod meta;
 pub mod moves;
 pub mod names;
 pub mod postings;
 pub mod resources;
 pub mod rows;
+pub mod stage;

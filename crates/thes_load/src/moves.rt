@@ -22,6 +22,7 @@ use thes_rows::rows::MoveRow;
 pub struct MoveLoad {
     pub places: Vec<ResNo>,
     pub taken: u64,
+    ghost few: { taken < 2 ^ 32 },
 }
 
 fn place_at(places: &[ResNo], number: PostNo) -> Option<ResNo>
@@ -45,7 +46,8 @@ fn is_next(places: &[ResNo], resources: &[Resource], taken: u64, step: &MoveRow)
 fn follow(places: &mut [ResNo], resources: &[Resource], taken: u64, step: &MoveRow) -> bool
     requires room { taken < u64.MAX }
     requires form { HasMoveForm step.now }
-    ensures { (postings : List PostingRow) (rows : List MoveRow) → HasMoves resources.now postings taken places.old rows → Takes (HasMoves resources.now postings (taken + 1) places.new) (MoveRule resources.now postings) rows step.now result }
+    ensures number { IsTrue result → step.now.number ≡ taken + 1 }
+    ensures takes { (postings : List PostingRow) (rows : List MoveRow) → HasMoves resources.now postings taken places.old rows → Takes (HasMoves resources.now postings (taken + 1) places.new) (MoveRule resources.now postings) rows step.now result }
 {
     if is_next(places, resources, taken, step) {
         places[step.posting.get() as usize - 1] = step.target;
@@ -59,7 +61,8 @@ fn follow(places: &mut [ResNo], resources: &[Resource], taken: u64, step: &MoveR
 fn follow_in(places: &mut Vec<ResNo>, resources: &[Resource], taken: u64, step: &MoveRow) -> bool
     requires room { taken < u64.MAX }
     requires form { HasMoveForm step.now }
-    ensures { (postings : List PostingRow) (rows : List MoveRow) → HasMoves resources.now postings taken places.old.items rows → Takes (HasMoves resources.now postings (taken + 1) places.new.items) (MoveRule resources.now postings) rows step.now result }
+    ensures number { IsTrue result → step.now.number ≡ taken + 1 }
+    ensures takes { (postings : List PostingRow) (rows : List MoveRow) → HasMoves resources.now postings taken places.old.items rows → Takes (HasMoves resources.now postings (taken + 1) places.new.items) (MoveRule resources.now postings) rows step.now result }
 {
     follow(places.as_mut_slice(), resources, taken, step)
 }
@@ -67,8 +70,7 @@ fn follow_in(places: &mut Vec<ResNo>, resources: &[Resource], taken: u64, step: 
 impl MoveLoad {
     /// Takes the next row, or answers false if it breaks the rule.
     pub fn take(&mut self, resources: &[Resource], step: &MoveRow) -> bool
-        requires room { self.old.taken < u64.MAX }
-        requires form { HasMoveForm step.now }
+        requires { HasMoveForm step.now }
         ensures { (postings : List PostingRow) (rows : List MoveRow) → HasMoves resources.now postings self.old.taken self.old.places.items rows → Takes (HasMoves resources.now postings self.new.taken self.new.places.items) (MoveRule resources.now postings) rows step.now result }
     {
         if follow_in(&mut self.places, resources, self.taken, step) {
@@ -81,8 +83,7 @@ impl MoveLoad {
 
     /// Reads the next row, or answers false if it breaks the rule or is none.
     pub fn read(&mut self, resources: &[Resource], cells: &[Cell]) -> bool
-        requires few { length resources.now < 2 ^ 32 }
-        requires room { self.old.taken < u64.MAX }
+        requires { length resources.now < 2 ^ 32 }
         ensures { (postings : List PostingRow) (rows : List MoveRow) → PostingRule resources.now postings
             → HasMoves resources.now postings self.old.taken self.old.places.items rows
             → Reads (map move_cells) (HasMoves resources.now postings self.new.taken self.new.places.items)
@@ -96,7 +97,6 @@ impl MoveLoad {
 
     /// Checks whether each posting stands at the end where its row has it.
     pub fn close(&self, ats: &[ResNo]) -> bool
-        requires { length self.now.places.items ≡ length ats.now }
         ensures { (resources : List Resource) (postings : List PostingRow) (rows : List MoveRow) → HasMoves resources postings self.now.taken self.now.places.items rows → ats.now ≡ map (λ (p : PostingRow). p.place) postings → IsTrue result ↔ MoveRule resources postings rows }
     {
         are_at(self.places.as_slice(), ats)
@@ -105,11 +105,10 @@ impl MoveLoad {
 
 // Whether the places are these.
 fn are_at(places: &[ResNo], ats: &[ResNo]) -> bool
-    requires { length places.now ≡ length ats.now }
     ensures { IsTrue result ↔ AreAt places.now ats.now }
 {
     for i in 0..ats.len() {
-        if places[i] != ats[i] {
+        if places.get(i).copied() != Some(ats[i]) {
             return false;
         }
     }

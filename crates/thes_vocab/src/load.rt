@@ -1,5 +1,5 @@
 //! A vocabulary that is taken from rows, one by one.
-ghost use Rattle.std.specs.Prelude.{◌≡◌, ◌↔◌, ℕ, List, [], IsTrue, IfOk, OnOk, true, MatchOption, length};
+ghost use Rattle.std.specs.Prelude.{◌≡◌, ◌<◌, ◌^◌, ◌↔◌, ℕ, List, [], IsTrue, IfOk, OnOk, true, MatchOption, length};
 ghost use Rattle.std.specs.Ordering.{nat_cmp};
 ghost use Rattle.thes_base.specs.declared.data.LabelKind.TheVariants.{Pref};
 ghost use Rattle.thes_base.specs.Resources.{CanOwn, IsOutside};
@@ -72,7 +72,8 @@ impl VocabLoad {
 
     /// Returns the resources.
     pub fn resources(&self) -> &[Resource]
-        ensures { result.now ≡ self.now.resources }
+        ensures value { result.now ≡ self.now.resources }
+        ensures few { length result.now < 2 ^ 32 }
     {
         self.resources.as_slice()
     }
@@ -150,7 +151,8 @@ impl VocabLoad {
 impl Vocab {
     /// Returns the resources.
     pub fn resources(&self) -> &[Resource]
-        ensures { result.now ≡ self.now.resources }
+        ensures value { result.now ≡ self.now.resources }
+        ensures few { length result.now < 2 ^ 32 }
     {
         self.resources.as_slice()
     }

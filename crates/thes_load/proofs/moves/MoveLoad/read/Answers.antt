@@ -15,4 +15,4 @@ returns-in-Some c = λ ps rows posting has.
 
 pub returns-in-None : goal.returns-in-None
 returns-in-None c = λ ps rows posting has.
-    reads_none move_cells move_one (HasMoves c.args.resources.now ps c.args.self.now.taken c.args.self.now.places.items) (MoveRule c.args.resources.now ps) rows c.args.cells.now HasMoveForm c.in-None.ensures (λ y rest all. move_form c.args.resources.now c.requires.few ps (rows ++ y ∷ rest) y posting all (in_next rows y rest))
+    reads_none move_cells move_one (HasMoves c.args.resources.now ps c.args.self.now.taken c.args.self.now.places.items) (MoveRule c.args.resources.now ps) rows c.args.cells.now HasMoveForm c.in-None.ensures (λ y rest all. move_form c.args.resources.now c.requires ps (rows ++ y ∷ rest) y posting all (in_next rows y rest))

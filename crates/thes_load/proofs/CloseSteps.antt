@@ -1,0 +1,219 @@
+-- The end of each table: what is known after it, or the fault that its end is.
+use Rattle.std.proofs.Common.{◌≡◌, ℕ, List, [], ◌∷◌, map, refl, sym, ap, ◌∙◌, subst, inr, Vec, Global}
+use Rattle.std.specs.Prelude.{None, Some}
+use Rattle.std.proofs.lemmas.List.{append-nil}
+use Rattle.std.proofs.lemmas.Option.{same_Some}
+use Rattle.thes_base.specs.declared.data.Resource.{Resource}
+use Rattle.thes_base.specs.declared.fault.Fault.{Fault}
+use Rattle.thes_base.specs.declared.fault.Fault.TheVariants.{BadStore, NewerStore, OlderStore}
+use Rattle.thes_base.specs.declared.fault.Table.{Table}
+use Rattle.thes_base.specs.declared.fault.Table.TheVariants as table
+use Rattle.thes_base.specs.Labels.{EachHasPreferred}
+use Rattle.thes_rows.specs.declared.cells.Cell.{Cell}
+use Rattle.thes_rows.specs.declared.rows.PostingRow.{PostingRow}
+use Rattle.thes_rows.specs.Tables.{Tables}
+use Rattle.thes_rows.specs.Cells.{Raw, RawTable, outside_cells, label_cells, hier_cells}
+use Rattle.thes_rows.proofs.Listing.{map_one, resources_one, outside_one, label_one, hier_one}
+use Rattle.thes_vocab.specs.Vocabulary.{Vocabulary}
+use Rattle.thes_vocab.specs.Loading.{AreLabelsSoFar, HaveIris}
+use Rattle.thes_graph.specs.Net.{Net}
+use Rattle.thes_tables.specs.Rules.{ResourceRule, OutsideRule, LabelRule, HierRule}
+use Rattle.thes_tables.specs.Loads.{IsNewer, IsOlder}
+use Rattle.thes_tables.proofs.Judging.{judged}
+use Rattle.thes_load.specs.declared.stage.Stage.TheVariants as stage
+use Rattle.thes_load.specs.declared.meta.MetaRow.TheVariants.{Newer, Older, Base}
+use Rattle.thes_load.specs.declared.resources.ResourceLoad.{ResourceLoad}
+use Rattle.thes_load.specs.declared.names.OutsideLoad.{OutsideLoad}
+use Rattle.thes_load.specs.declared.links.LinkLoad.{LinkLoad}
+use Rattle.thes_load.specs.declared.postings.PostingLoad.{PostingLoad}
+use Rattle.thes_load.specs.declared.moves.MoveLoad.{MoveLoad}
+use Rattle.thes_load.specs.Naming.{HasOutside, vocabulary_of}
+use Rattle.thes_load.specs.Linking.{HasLinks}
+use Rattle.thes_load.specs.Taken.{HasPostings, HasMoves}
+use Rattle.thes_load.specs.Progress.{Grows, Extends, Closes, next_table}
+use Rattle.thes_load.proofs.ProgressLemmas.{meta_stays, resource_stays, outside_stays, link_stays}
+use Rattle.thes_load.proofs.RowSteps.{blank, meta_fault}
+
+-- Meta.
+
+one_row : (queried raw : RawTable) (one cells : List Cell) → queried ≡ raw → raw ≡ Some (one ∷ []) → queried ≡ Some (cells ∷ []) → ◌≡◌ {A = List (List Cell)} (one ∷ []) (cells ∷ [])
+one_row queried raw one cells same is e = same_Some _ _ (sym is ∙ sym same ∙ e)
+
+pub meta_newer : Closes (stage.Meta (Some Newer)) (stage.Stopped NewerStore table.Resource)
+meta_newer = (
+  refl,
+  λ raw ((cells, is, (version, base, above, spelled)), after) more (same, grows).
+      let newer : IsNewer more.meta = (version, base, above, same ∙ is ∙ ap (λ (c : List Cell). Some (c ∷ [])) spelled) in
+      (judged more (blank [])).newer newer,
+)
+
+pub meta_older : Closes (stage.Meta (Some Older)) (stage.Stopped OlderStore table.Resource)
+meta_older = (
+  refl,
+  λ raw ((cells, is, (base, spelled)), after) more (same, grows).
+      let older : IsOlder more.meta = (1, base, refl, same ∙ is ∙ ap (λ (c : List Cell). Some (c ∷ [])) spelled) in
+      (judged more (blank [])).older older,
+)
+
+pub meta_none : Closes (stage.Meta None) (stage.Stopped (BadStore table.Meta) table.Resource)
+meta_none = (
+  refl,
+  λ raw (none, after) more (same, grows).
+      meta_fault more
+      (λ version base which e. let f = same_Some _ _ (sym (same ∙ none) ∙ e) in absurd (cc))
+      (λ base form e. let f = same_Some _ _ (sym (same ∙ none) ∙ e) in absurd (cc)),
+)
+
+pub meta_base : (base : List ℕ) (load : ResourceLoad) → load.resources.items ≡ [] → Closes (stage.Meta (Some (Base base))) (stage.Resource base load)
+meta_base base load none = (
+  refl,
+  λ raw ((cells, is, (form, spelled)), after).
+      (blank base, (is ∙ ap (λ (c : List Cell). Some (c ∷ [])) spelled, form), refl, after.0, sym none, after.1),
+)
+
+-- Resource.
+
+pub resource_bad : (base : List ℕ) (load : ResourceLoad) → (ResourceRule load.resources.items → ⊥) → Closes (stage.Resource base load) (stage.Stopped (BadStore table.Resource) table.Outside)
+resource_bad base load broken = (
+  refl,
+  λ raw (t, passes, same, read, are, after) more (e0, e1, grows).
+      (judged more t).resource (meta_stays raw more t e0 passes)
+      (λ rows (is, rule). broken (subst ResourceRule (resources_one 1 1 rows t.resource (same_Some _ _ (sym is ∙ e1 ∙ read)) ∙ are) rule)),
+)
+
+pub resource_good : (base : List ℕ) (load : ResourceLoad) (new : OutsideLoad) → ResourceRule load.resources.items → HasOutside base load.resources.items new.vocab new.last [] → Closes (stage.Resource base load) (stage.Outside new)
+resource_good base load new rule has = (
+  refl,
+  λ raw (t, passes, same, read, are, after). (
+    record t { outside = [] },
+    (passes, (read, subst ResourceRule (sym are) rule)),
+    after.0,
+    subst (λ (b : List ℕ). HasOutside b t.resource new.vocab new.last []) same (subst (λ (rs : List Resource). HasOutside base rs new.vocab new.last []) (sym are) has),
+    after.1,
+  ),
+)
+
+-- Outside.
+
+pub outside_bad : (load : OutsideLoad) → ((base : List ℕ) (rs : List Resource) (rows : List (ℕ × List ℕ)) → HasOutside base rs load.vocab load.last rows → OutsideRule base rs rows → ⊥) → Closes (stage.Outside load) (stage.Stopped (BadStore table.Outside) table.Label)
+outside_bad load broken = (
+  refl,
+  λ raw (t, passes, read, has, after) more (e0, e1, e2, grows).
+      (judged more t).outside (resource_stays raw more t e0 e1 passes)
+      (λ rows (is, rule). broken t.base t.resource t.outside has (subst (OutsideRule t.base t.resource) (map_one outside_cells outside_one rows t.outside (same_Some _ _ (sym is ∙ e2 ∙ read))) rule)),
+)
+
+pub outside_good : (load : OutsideLoad) → ((base : List ℕ) (rs : List Resource) (rows : List (ℕ × List ℕ)) → HasOutside base rs load.vocab load.last rows → OutsideRule base rs rows) → Closes (stage.Outside load) (stage.Label load.vocab)
+outside_good load rule = (
+  refl,
+  λ raw (t, passes, read, has, after). (
+    record t { label = [] },
+    (passes, (read, rule t.base t.resource t.outside has)),
+    after.0,
+    record { once = tt; forms = λ l h. absurd h; are = has.are },
+    after.1,
+  ),
+)
+
+-- Label.
+
+pub label_bad : (vocab : Vocabulary) → (EachHasPreferred vocab.resources vocab.labels → ⊥) → Closes (stage.Label vocab) (stage.Stopped (BadStore table.Label) table.Link)
+label_bad vocab broken = (
+  refl,
+  λ raw (t, passes, read, has, after) more (e0, e1, e2, e3, grows).
+      (judged more t).label (outside_stays raw more t e0 e1 e2 passes)
+      (λ rows (is, rule).
+      let same = map_one label_cells label_one rows t.label (same_Some _ _ (sym is ∙ e3 ∙ read)) in
+      broken (subst (λ (v : Vocabulary). EachHasPreferred v.resources v.labels) (sym has.are) (subst (LabelRule t.resource) same rule).legal.named)),
+)
+
+-- the end of outside has seen to it that each outside concept has an IRI
+pub label_without : (vocab : Vocabulary) → (HaveIris vocab → ⊥) → Closes (stage.Label vocab) (stage.Stopped (BadStore table.Label) table.Link)
+label_without vocab broken = (
+  refl,
+  λ raw (t, passes, read, has, after) more extends.
+      absurd (broken (subst HaveIris (sym has.are) passes.1.1.legal.each)),
+)
+
+pub label_good : (old new : Vocabulary) (load : LinkLoad) → AreLabelsSoFar old.resources old.labels → EachHasPreferred old.resources old.labels → new ≡ old → HasLinks new.resources load.graph [] [] → Closes (stage.Label old) (stage.Link new load)
+label_good old new load so_far named same links = (
+  refl,
+  λ raw (t, passes, read, has, after).
+      let so = subst (λ (v : Vocabulary). AreLabelsSoFar v.resources v.labels) has.are so_far in
+      let rule : LabelRule t.resource t.label = record {
+        once = has.once;
+        forms = has.forms;
+        legal = record {
+          owners = so.owners;
+          disjoint = so.disjoint;
+          one_preferred = so.one_preferred;
+          unique = so.unique;
+          named = subst (λ (v : Vocabulary). EachHasPreferred v.resources v.labels) has.are named;
+        };
+      } in
+      let names : new ≡ vocabulary_of t.base t.resource t.outside t.label = same ∙ has.are in (
+        record t { link = [] },
+        (passes, (read, rule)),
+        names,
+        after.0,
+        subst (λ (rs : List Resource). HasLinks rs load.graph [] []) (ap (λ (v : Vocabulary). v.resources) names) links,
+        after.1,
+      ),
+)
+
+-- Link and hier.
+
+pub link_good : (vocab : Vocabulary) (load : LinkLoad) → Closes (stage.Link vocab load) (stage.Hier vocab load)
+link_good vocab load = (
+  refl,
+  λ raw (t, passes, names, read, has, after).
+      (record t { hier = [] }, (passes, (read, has.rule)), names, after.0, has, after.1),
+)
+
+pub hier_bad : (vocab : Vocabulary) (load : LinkLoad) → ((t : Tables) → HasLinks t.resource load.graph t.link t.hier → HierRule t.resource t.link t.hier → ⊥) → Closes (stage.Hier vocab load) (stage.Stopped (BadStore table.Hier) table.Posting)
+hier_bad vocab load broken = (
+  refl,
+  λ raw (t, passes, names, read, has, after) more (e0, e1, e2, e3, e4, e5, grows).
+      (judged more t).hier (link_stays raw more t e0 e1 e2 e3 e4 passes)
+      (λ rows (is, rule). broken t has (subst (HierRule t.resource t.link) (map_one hier_cells hier_one rows t.hier (same_Some _ _ (sym is ∙ e5 ∙ read))) rule)),
+)
+
+pub hier_good : (vocab : Vocabulary) (load : LinkLoad) (new : PostingLoad) → ((t : Tables) → HasLinks t.resource load.graph t.link t.hier → HierRule t.resource t.link t.hier)
+    → ((rs : List Resource) → HasPostings rs new.keys.keys new.firsts.items new.ats.items []) → Closes (stage.Hier vocab load) (stage.Posting vocab load.graph new)
+hier_good vocab load new rule none = (
+  refl,
+  λ raw (t, passes, names, read, has, after).
+      (record t { posting = [] }, (passes, (read, rule t has)), names, has, after.0, none t.resource, after.1),
+)
+
+-- Posting.
+
+pub posting_good : (vocab : Vocabulary) (graph : Net) (load : PostingLoad) (moves : MoveLoad) (ats : Vec ℕ Global)
+    → ((rs : List Resource) (rows : List PostingRow) → HasPostings rs load.keys.keys load.firsts.items load.ats.items rows
+    → HasMoves rs rows moves.taken moves.places.items [] × (ats.items ≡ map (λ (row : PostingRow). row.place) rows))
+    → Closes (stage.Posting vocab graph load) (stage.Move vocab graph ats moves)
+posting_good vocab graph load moves ats close = (
+  refl,
+  λ raw (t, passes, names, links, read, has, after).
+      let (start, are) = close t.resource t.posting has in
+      (record t { move = [] }, (passes, (read, has.rule)), names, links, are, after, start),
+)
+
+-- Stopped.
+
+pub same_grows : (raw queried : RawTable) → queried ≡ raw → Grows raw queried
+same_grows None queried e = e
+same_grows (Some rows) queried e = inr ([], e ∙ ap (λ (l : List (List Cell)). Some l) (sym (append-nil rows)))
+
+earlier : (at : Table) (raw more : Raw) → Extends (next_table at) raw more → Extends at raw more
+earlier table.Meta raw more (e0, grows) = same_grows raw.meta more.meta e0
+earlier table.Resource raw more (e0, e1, grows) = (e0, same_grows raw.resource more.resource e1)
+earlier table.Outside raw more (e0, e1, e2, grows) = (e0, e1, same_grows raw.outside more.outside e2)
+earlier table.Label raw more (e0, e1, e2, e3, grows) = (e0, e1, e2, same_grows raw.label more.label e3)
+earlier table.Link raw more (e0, e1, e2, e3, e4, grows) = (e0, e1, e2, e3, same_grows raw.link more.link e4)
+earlier table.Hier raw more (e0, e1, e2, e3, e4, e5, grows) = (e0, e1, e2, e3, e4, same_grows raw.hier more.hier e5)
+earlier table.Posting raw more (e0, e1, e2, e3, e4, e5, e6, grows) = (e0, e1, e2, e3, e4, e5, same_grows raw.posting more.posting e6)
+earlier table.Move raw more extends = extends
+
+pub stopped_on : (fault : Fault) (at : Table) → Closes (stage.Stopped fault at) (stage.Stopped fault (next_table at))
+stopped_on fault at = (refl, λ raw stays more extends. stays more (earlier at raw more extends))
