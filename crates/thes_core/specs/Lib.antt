@@ -1,3 +1,5 @@
+pub mod Named
+pub mod Facts
 pub mod Room
 pub mod Kept
 pub mod Decides

@@ -1,6 +1,7 @@
 -- What the parts of a thesaurus say of a request, and what it makes of them.
-use Rattle.std.specs.Prelude.{◌≡◌, ℕ, Bool, true, false}
+use Rattle.std.specs.Prelude.{◌≡◌, ℕ, Bool, true, false, List}
 use Rattle.std.specs.FinSet as set
+use Rattle.thes_base.specs.declared.data.History.{History}
 use Rattle.thes_base.specs.declared.data.Link.{Link}
 use Rattle.thes_base.specs.declared.data.NewResource.{NewResource}
 use Rattle.thes_base.specs.declared.data.NewResource.TheVariants.{Scheme, Concept, Collection, Outside}
@@ -12,13 +13,15 @@ use Rattle.thes_base.specs.Rows.{Row, refused_if, accepted}
 use Rattle.thes_base.specs.Links.{Links, HeldIn, norm, unless_consistent}
 use Rattle.thes_base.specs.State.{State}
 use Rattle.thes_base.specs.Machine.{next_state, answer_of, row_of}
+use Rattle.thes_post.specs.Sums.{AreSums}
 use Rattle.thes_core.specs.declared.thesaurus.Thesaurus.{Thesaurus}
 use Rattle.thes_core.specs.Decides.{Accepts}
 use Rattle.thes_core.specs.View.{state_of, setting_of, IsKept, KnowsOutside}
 
 -- what refuses the request in the state that the parts stand for
-abbrev pub Judges : Thesaurus → Command → Row
-Judges t command = row_of (setting_of t) (state_of t) (next_state command (state_of t)) command
+abbrev pub Judges : Thesaurus → List History → Command → Row
+Judges t histories command =
+    let s = state_of t histories in row_of (setting_of t) s (next_state command s) command
 
 -- what the links held say against one more, in the order of its ends in which it is kept
 abbrev pub unless_linkable : (ℕ → Bool) → Links → Link → Row
@@ -27,20 +30,21 @@ unless_linkable outside links l =
     refused_if (HeldIn links kept) LinkThere (unless_consistent (HeldIn (set.insert links kept)) accepted)
 
 -- the parts are what they keep, and nothing refuses the request
-pub record Allows (t : Thesaurus) (command : Command) : Type 0 where
-  pub kept : IsKept t
-  pub accepts : Accepts (setting_of t) (state_of t) command
+pub record Allows (t : Thesaurus) (histories : List History) (command : Command) : Type 0 where
+  pub kept : IsKept t histories
+  pub accepts : Accepts (setting_of t) (state_of t histories) command
 
--- The parts stand for this state, and are set as before.
+-- The parts stand for this state, with its histories, and are set as before.
 pub record Becomes (old : Thesaurus) (s : State) (new : Thesaurus) : Type 0 where
-  pub state : state_of new ≡ s
+  pub state : state_of new s.histories ≡ s
+  pub sums : AreSums s.histories new.book
   pub setting : setting_of new ≡ setting_of old
   pub outside : KnowsOutside new
 
 -- The parts stand for the next state of the machine, and the answer is the machine's.
-pub record ChangesBy (command : Command) (old new : Thesaurus) (answer : Answer) : Type 0 where
-  pub answer_is : answer ≡ answer_of command (state_of old)
-  pub becomes : Becomes old (next_state command (state_of old)) new
+pub record ChangesBy (command : Command) (histories : List History) (old new : Thesaurus) (answer : Answer) : Type 0 where
+  pub answer_is : answer ≡ answer_of command (state_of old histories)
+  pub becomes : Becomes old (next_state command (state_of old histories)) new
 
 -- the request that makes the resource
 abbrev pub command_of : NewResource → Command

@@ -1,14 +1,17 @@
 //! What an accepted request makes of the parts. After running out of memory they may be at odds.
-ghost use Rattle.std.specs.Prelude.{◌≡◌, IfOk};
+ghost use Rattle.std.specs.Prelude.{◌≡◌, ℕ, IfOk, List, [], ◌∷◌};
+ghost use Rattle.thes_base.specs.declared.data.History.{History};
 ghost use Rattle.thes_base.specs.declared.request.Command.TheVariants as request;
+ghost use Rattle.thes_core.specs.Facts.{AreFacts, row_at};
 ghost use Rattle.thes_core.specs.Requests.{Allows, ChangesBy, command_of, is_foreign};
 
+use crate::facts::Facts;
 use crate::thesaurus::Thesaurus;
 use std::alloc::AllocError;
 use thes_base::data::{Label, Link, LinkKind, NewResource};
 use thes_base::number::{PostNo, ResNo};
 use thes_base::request::{Answer, Command};
-use thes_base::text::{Key, RecordName, Tag, Text};
+use thes_base::text::{Tag, Text};
 
 // Whether the new resource is an outside concept.
 fn is_outside(new: &NewResource) -> bool
@@ -19,9 +22,15 @@ fn is_outside(new: &NewResource) -> bool
 
 impl Thesaurus {
     // Makes what an accepted request asks for, and answers it.
-    pub(crate) fn change(&mut self, command: &Command) -> Result<Answer, AllocError>
-        requires { Allows self.old command.now }
-        ensures { IfOk result (ChangesBy command.now self.old self.new) }
+    pub(crate) fn change(
+        &mut self,
+        command: &Command,
+        facts: &Facts,
+    ) -> Result<Answer, AllocError>
+        ghost histories: { List History }
+        requires allows { Allows self.old histories command.now }
+        requires facts { AreFacts command.now histories facts.now }
+        ensures { IfOk result (ChangesBy command.now histories self.old self.new) }
     {
         let alloc = self.alloc;
         match command {
@@ -50,15 +59,16 @@ impl Thesaurus {
             Command::Split(source, tag, text, postings) => {
                 self.split(*source, tag, text, postings.as_slice())
             }
-            Command::Post(key, rec, concept) => self.post(key, rec, *concept),
-            Command::Withdraw(posting) => Ok(self.withdraw(*posting)),
+            Command::Post(_, _, concept) => self.post(*concept),
+            Command::Withdraw(posting) => Ok(self.withdraw(*posting, facts)),
         }
     }
 
     // Makes a resource.
     fn make(&mut self, new: NewResource) -> Result<Answer, AllocError>
-        requires { Allows self.old (command_of new) }
-        ensures { IfOk result (ChangesBy (command_of new) self.old self.new) }
+        ghost histories: { List History }
+        requires { Allows self.old histories (command_of new) }
+        ensures { IfOk result (ChangesBy (command_of new) histories self.old self.new) }
     {
         let is_outside = is_outside(&new);
         let number = self.vocab.add_resource(new)?;
@@ -70,8 +80,9 @@ impl Thesaurus {
 
     // Adds a label.
     fn add_label(&mut self, owner: ResNo, label: &Label) -> Result<Answer, AllocError>
-        requires { Allows self.old (request.AddLabel owner label.now) }
-        ensures { IfOk result (ChangesBy (request.AddLabel owner label.now) self.old self.new) }
+        ghost histories: { List History }
+        requires { Allows self.old histories (request.AddLabel owner label.now) }
+        ensures { IfOk result (ChangesBy (request.AddLabel owner label.now) histories self.old self.new) }
     {
         self.vocab.add_label(owner, label)?;
         Ok(Answer::Done)
@@ -79,8 +90,9 @@ impl Thesaurus {
 
     // Removes a label.
     fn drop_label(&mut self, owner: ResNo, label: &Label) -> Answer
-        requires { Allows self.old (request.DropLabel owner label.now) }
-        ensures { ChangesBy (request.DropLabel owner label.now) self.old self.new result }
+        ghost histories: { List History }
+        requires { Allows self.old histories (request.DropLabel owner label.now) }
+        ensures { ChangesBy (request.DropLabel owner label.now) histories self.old self.new result }
     {
         self.vocab.drop_label(owner, label);
         Answer::Done
@@ -94,9 +106,10 @@ impl Thesaurus {
         text: &Text,
         keep: bool,
     ) -> Result<Answer, AllocError>
-        requires { Allows self.old (request.Relabel owner tag.now text.now keep) }
+        ghost histories: { List History }
+        requires { Allows self.old histories (request.Relabel owner tag.now text.now keep) }
         ensures { let command = request.Relabel owner tag.now text.now keep in
-            IfOk result (ChangesBy command self.old self.new) }
+            IfOk result (ChangesBy command histories self.old self.new) }
     {
         self.vocab.relabel(owner, tag, text, keep)?;
         Ok(Answer::Done)
@@ -104,8 +117,9 @@ impl Thesaurus {
 
     // Adds a link.
     fn link(&mut self, kind: LinkKind, a: ResNo, b: ResNo) -> Result<Answer, AllocError>
-        requires { Allows self.old (request.Link kind a b) }
-        ensures { IfOk result (ChangesBy (request.Link kind a b) self.old self.new) }
+        ghost histories: { List History }
+        requires { Allows self.old histories (request.Link kind a b) }
+        ensures { IfOk result (ChangesBy (request.Link kind a b) histories self.old self.new) }
     {
         self.graph.add(&Link { kind, a, b })?;
         Ok(Answer::Done)
@@ -113,8 +127,9 @@ impl Thesaurus {
 
     // Removes a link.
     fn unlink(&mut self, kind: LinkKind, a: ResNo, b: ResNo) -> Answer
-        requires { Allows self.old (request.Unlink kind a b) }
-        ensures { ChangesBy (request.Unlink kind a b) self.old self.new result }
+        ghost histories: { List History }
+        requires { Allows self.old histories (request.Unlink kind a b) }
+        ensures { ChangesBy (request.Unlink kind a b) histories self.old self.new result }
     {
         self.graph.remove(&Link { kind, a, b });
         Answer::Done
@@ -122,8 +137,9 @@ impl Thesaurus {
 
     // Marks a concept as dead.
     fn deprecate(&mut self, concept: ResNo) -> Answer
-        requires { Allows self.old (request.Deprecate concept) }
-        ensures { ChangesBy (request.Deprecate concept) self.old self.new result }
+        ghost histories: { List History }
+        requires { Allows self.old histories (request.Deprecate concept) }
+        ensures { ChangesBy (request.Deprecate concept) histories self.old self.new result }
     {
         self.vocab.mark_dead(concept, None);
         self.graph.drop_all(concept);
@@ -132,8 +148,9 @@ impl Thesaurus {
 
     // Joins two concepts. Answers how many postings moved.
     fn merge(&mut self, source: ResNo, target: ResNo) -> Result<Answer, AllocError>
-        requires { Allows self.old (request.Merge source target) }
-        ensures { IfOk result (ChangesBy (request.Merge source target) self.old self.new) }
+        ghost histories: { List History }
+        requires { Allows self.old histories (request.Merge source target) }
+        ensures { IfOk result (ChangesBy (request.Merge source target) histories self.old self.new) }
     {
         self.vocab.take_labels(source, target)?;
         self.graph.contract(source, target)?;
@@ -150,9 +167,10 @@ impl Thesaurus {
         text: &Text,
         postings: &[PostNo],
     ) -> Result<Answer, AllocError>
-        requires { Allows self.old (request.Split source tag.now text.now postings.now) }
+        ghost histories: { List History }
+        requires { Allows self.old histories (request.Split source tag.now text.now postings.now) }
         ensures { let command = request.Split source tag.now text.now postings.now in
-            IfOk result (ChangesBy command self.old self.new) }
+            IfOk result (ChangesBy command histories self.old self.new) }
     {
         let scheme = self.scheme(source);
         let new = NewResource::Concept(
@@ -161,26 +179,32 @@ impl Thesaurus {
             text.try_clone(self.alloc)?,
         );
         let concept = self.vocab.add_resource(new)?;
-        let moved = self.book.move_listed(source, concept, postings)?;
-        Ok(Answer::Parted(concept.get(), moved))
+        let count = postings.len() as u32;
+        self.book.move_listed(source, concept, count)?;
+        Ok(Answer::Parted(concept.get(), count))
     }
 
     // Accepts a posting of a new key, and forwards it along the replacements of its concept.
-    fn post(&mut self, key: &Key, rec: &RecordName, concept: ResNo) -> Result<Answer, AllocError>
-        requires { Allows self.old (request.Post key.now rec.now concept) }
-        ensures { IfOk result (ChangesBy (request.Post key.now rec.now concept) self.old self.new) }
+    fn post(&mut self, concept: ResNo) -> Result<Answer, AllocError>
+        ghost histories: { List History }
+        requires { (key : List ℕ) × (rec : List ℕ) × Allows self.old histories (request.Post key rec concept) }
+        ensures { IfOk result (λ answer. (key rec : List ℕ)
+            → ChangesBy (request.Post key rec concept) histories self.old self.new answer) }
     {
-        let way = self.vocab.replacements(self.alloc, concept)?;
-        let number = self.book.post(key, rec, concept, way.as_slice())?;
+        let way = self.vocab.forwarding(concept);
+        let number = self.book.post(way.place, way.steps)?;
         Ok(Answer::Number(number.get()))
     }
 
     // Withdraws a posting.
-    fn withdraw(&mut self, posting: PostNo) -> Answer
-        requires { Allows self.old (request.Withdraw posting) }
-        ensures { ChangesBy (request.Withdraw posting) self.old self.new result }
+    fn withdraw(&mut self, posting: PostNo, facts: &Facts) -> Answer
+        ghost histories: { List History }
+        requires allows { Allows self.old histories (request.Withdraw posting) }
+        requires named { facts.now.named.items ≡ row_at histories posting ∷ [] }
+        ensures { ChangesBy (request.Withdraw posting) histories self.old self.new result }
     {
-        self.book.withdraw(posting);
+        let place = facts.first().unwrap().place;
+        self.book.withdraw(place);
         Answer::Done
     }
 }

@@ -3,14 +3,17 @@
 
 mod arguments;
 mod changing;
+pub mod facts;
 mod judging;
 pub mod machine;
+mod named;
 pub mod reading;
 mod room;
 pub mod shown;
 mod thesaurus;
 pub mod verdict;
 
+pub use facts::Facts;
 pub use machine::Core;
 pub use thes_base::request::{Answer, Command};
 pub use verdict::Verdict;

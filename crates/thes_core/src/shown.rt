@@ -28,22 +28,6 @@ fn of_kind<'a>(
     Ok(found)
 }
 
-// The histories of the postings that stand at a concept.
-fn standing_in<'a>(
-    alloc: Global,
-    book: &'a Book,
-    concept: ResNo,
-) -> Result<Vec<&'a History>, AllocError>
-    requires { (n : ℕ) (h : History) → numbered book.now n ≡ Some h → h.number ≡ n }
-    ensures { IfOk result (λ found. map (λ h. h.now) found.items ≡ standing_histories concept book.now) }
-{
-    let mut found = Vec::new(alloc);
-    for posting in book.standing_at(concept) {
-        found.push(book.history(*posting).unwrap())?;
-    }
-    Ok(found)
-}
-
 impl Core {
     /// The labels of one kind of an owner, by language and text.
     pub fn labels_of_kind(
@@ -53,18 +37,9 @@ impl Core {
         kind: LabelKind,
     ) -> Result<Vec<&Label>, AllocError>
         requires { self.now.spent ≡ false }
-        ensures { let are_labels = AreLabels self.now.state owner kind in
+        ensures { let are_labels = AreLabelsIn self.now.labels owner kind in
             IfOk result (λ found. are_labels (map (λ l. tagged l.now) found.items)) }
     {
         of_kind(alloc, self.labels_of(owner), kind)
-    }
-
-    /// The histories of the postings that stand at a concept, by their numbers.
-    pub fn histories_at(&self, alloc: Global, concept: ResNo) -> Result<Vec<&History>, AllocError>
-        requires { self.now.spent ≡ false }
-        ensures { let standing = standing_histories concept self.now.state.histories in
-            IfOk result (λ found. map (λ h. h.now) found.items ≡ standing) }
-    {
-        standing_in(alloc, &self.thesaurus.book, concept)
     }
 }

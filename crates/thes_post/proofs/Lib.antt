@@ -1,7 +1,2 @@
-pub mod HistoryLemmas
-pub mod IndexLemmas
-pub mod JudgeLemmas
-pub mod KeyLemmas
 pub mod OnceLemmas
-pub mod RisingLemmas
-pub mod StandingLemmas
+pub mod SumLemmas

@@ -1,5 +1,6 @@
 //! What refuses links, deprecations and merges.
-ghost use Rattle.std.specs.Prelude.{◌≢◌, IfOk};
+ghost use Rattle.std.specs.Prelude.{◌≢◌, IfOk, List};
+ghost use Rattle.thes_base.specs.declared.data.History.{History};
 ghost use Rattle.thes_base.specs.declared.request.Command.TheVariants as request;
 ghost use Rattle.thes_base.specs.Links.{HeldIn, contracted, unless_consistent};
 ghost use Rattle.thes_base.specs.Resources.{is_outside};
@@ -24,8 +25,9 @@ impl Thesaurus {
         a: ResNo,
         b: ResNo,
     ) -> Result<Option<Refusal>, AllocError>
-        requires { IsKept self.now }
-        ensures { IfOk result (Judges self.now (request.Link kind a b)) }
+        ghost histories: { List History }
+        requires { IsKept self.now histories }
+        ensures { IfOk result (Judges self.now histories (request.Link kind a b)) }
     {
         let link = Link { kind, a, b };
         if let Some(refusal) = judge_ends(&self.vocab, &link) {
@@ -42,7 +44,8 @@ impl Thesaurus {
 
     // What the links held say against one more link.
     fn judge_held(&self, link: &Link) -> Result<Option<Refusal>, AllocError>
-        requires kept { IsKept self.now }
+        ghost histories: { List History }
+        requires kept { IsKept self.now histories }
         requires ends { link.now.a ≢ link.now.b }
         ensures { let outside = is_outside self.now.vocab.resources in
             IfOk result (unless_linkable outside self.now.graph.links link.now) }
@@ -54,8 +57,9 @@ impl Thesaurus {
 
     // What refuses that a link is taken away.
     pub(super) fn judge_unlink(&self, kind: LinkKind, a: ResNo, b: ResNo) -> Option<Refusal>
-        requires { IsKept self.now }
-        ensures { Judges self.now (request.Unlink kind a b) result }
+        ghost histories: { List History }
+        requires { IsKept self.now histories }
+        ensures { Judges self.now histories (request.Unlink kind a b) result }
     {
         let link = Link { kind, a, b };
         if let Some(refusal) = judge_ends(&self.vocab, &link) {
@@ -69,8 +73,9 @@ impl Thesaurus {
 
     // What refuses that a concept is deprecated.
     pub(super) fn judge_deprecate(&self, concept: ResNo) -> Option<Refusal>
-        requires { IsKept self.now }
-        ensures { Judges self.now (request.Deprecate concept) result }
+        ghost histories: { List History }
+        requires { IsKept self.now histories }
+        ensures { Judges self.now histories (request.Deprecate concept) result }
     {
         if let Some(refusal) = judge_live_concept(&self.vocab, concept) {
             return Some(refusal);
@@ -87,8 +92,9 @@ impl Thesaurus {
         source: ResNo,
         target: ResNo,
     ) -> Result<Option<Refusal>, AllocError>
-        requires { IsKept self.now }
-        ensures { IfOk result (Judges self.now (request.Merge source target)) }
+        ghost histories: { List History }
+        requires { IsKept self.now histories }
+        ensures { IfOk result (Judges self.now histories (request.Merge source target)) }
     {
         if let Some(refusal) = judge_pair(&self.vocab, source, target) {
             return Ok(Some(refusal));
@@ -105,7 +111,8 @@ impl Thesaurus {
 
     // What the links held say against a merge.
     fn judge_joined(&self, source: ResNo, target: ResNo) -> Result<Option<Refusal>, AllocError>
-        requires kept { IsKept self.now }
+        ghost histories: { List History }
+        requires kept { IsKept self.now histories }
         requires ends { source ≢ target }
         ensures { let outside = is_outside self.now.vocab.resources in
             let after = contracted outside source target self.now.graph.links in

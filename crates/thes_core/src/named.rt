@@ -1,0 +1,75 @@
+//! What refuses postings that a request names, by what is told of them.
+ghost use Rattle.std.specs.Prelude.{◌≡◌, IfOk, List, [], ◌∷◌, map};
+ghost use Rattle.thes_base.specs.declared.data.History.{History};
+ghost use Rattle.thes_base.specs.Rows.{accepted};
+ghost use Rattle.thes_base.specs.Refusals.{EachOnce, unless_listed, unless_standing};
+ghost use Rattle.thes_core.specs.Facts.{row_at};
+
+use crate::facts::Facts;
+use std::alloc::{AllocError, Global};
+use thes_base::fault::Refusal;
+use thes_base::number::{PostNo, ResNo};
+use thes_post::rising::is_each_once;
+use thes_rows::rows::PostingRow;
+
+/// What refuses that the posting named is withdrawn.
+pub fn judge_withdraw(posting: PostNo, facts: &Facts) -> Option<Refusal>
+    ghost histories: { List History }
+    requires { facts.now.named.items ≡ row_at histories posting ∷ [] }
+    ensures { unless_standing histories posting accepted result }
+{
+    match facts.first() {
+        None => Some(Refusal::UnknownPosting),
+        Some(row) if row.withdrawn => Some(Refusal::Withdrawn),
+        Some(_) => None,
+    }
+}
+
+/// What refuses that the postings listed are moved from the source. Each sentence is asked of the whole list before the
+/// next.
+pub fn judge_listed(
+    alloc: Global,
+    source: ResNo,
+    postings: &[PostNo],
+    named: &[Option<PostingRow>],
+) -> Result<Option<Refusal>, AllocError>
+    ghost histories: { List History }
+    requires { named.now ≡ map (row_at histories) postings.now }
+    ensures { IfOk result (unless_listed histories source postings.now accepted) }
+{
+    if !is_each_once(alloc, postings)? {
+        return Ok(Some(Refusal::ListedTwice));
+    }
+    Ok(judge_named(source, postings, named))
+}
+
+// What refuses that the postings, each listed once, are moved from the source.
+fn judge_named(
+    source: ResNo,
+    postings: &[PostNo],
+    named: &[Option<PostingRow>],
+) -> Option<Refusal>
+    ghost histories: { List History }
+    requires once { EachOnce postings.now }
+    requires named { named.now ≡ map (row_at histories) postings.now }
+    ensures { unless_listed histories source postings.now accepted result }
+{
+    let mut withdrawn = false;
+    let mut elsewhere = false;
+    for row in named {
+        match row {
+            None => return Some(Refusal::UnknownPosting),
+            Some(row) => {
+                withdrawn |= row.withdrawn;
+                elsewhere |= row.place != source;
+            }
+        }
+    }
+    if withdrawn {
+        Some(Refusal::Withdrawn)
+    } else if elsewhere {
+        Some(Refusal::NotAtSource)
+    } else {
+        None
+    }
+}

@@ -1,0 +1,59 @@
+-- Rows of refusals: what a walk over the postings listed finds, and what an accepted row says.
+use Rattle.std.proofs.Common.{◌≡◌, ◌<◌, ℕ, ◌+◌, length, List, [], ◌∷◌, refl, sym, ap, ◌∙◌, subst, ⊎_elim, Bool, true, false, not, ◌&&◌, eqb, ◌||◌, get_or, take}
+use Rattle.std.specs.Prelude.{Some, None}
+use Rattle.thes_base.specs.declared.data.History.{History}
+use Rattle.thes_base.specs.Resources.{numbered}
+use Rattle.thes_base.specs.Postings.{place, stands_at}
+use Rattle.thes_base.specs.Rows.{accepted}
+use Rattle.thes_base.specs.Refusals.{EachOnce, EachListed, PostingPasses, unless_standing, unless_listed}
+use Rattle.thes_base.proofs.RowLemmas.{passed_unless}
+use Rattle.std.proofs.lemmas.Bool.{cases_Bool, not-true}
+use Rattle.std.proofs.lemmas.Option.{same_Some}
+use Rattle.thes_histories.proofs.RisingLemmas.{each_more, each_at}
+
+-- A mark that is set where one of a list fails a test.
+module _ (hs : List History) (test : History → Bool) (ns : List ℕ) (i item : ℕ) (h : History) (mark fails : Bool) (inside : i < length ns) (is : item ≡ get_or ns i item) (at : numbered hs item ≡ Some h) (told : test h ≡ not fails) where
+  pub passes_more : (mark ≡ false → EachListed (PostingPasses hs test) (take i ns)) → (mark || fails) ≡ false → EachListed (PostingPasses hs test) (take (i + 1) ns)
+  passes_more so_far unset = each_more (PostingPasses hs test) ns i item inside (so_far (first mark fails unset)) (subst (PostingPasses hs test) is (h, at, told ∙ ap not (second mark fails unset)))
+    where
+      first : (a b : Bool) → (a || b) ≡ false → a ≡ false
+      first true b e = e
+      first false b e = refl
+
+      second : (a b : Bool) → (a || b) ≡ false → b ≡ false
+      second true b e = absurd (cc)
+      second false b e = e
+
+  pub passes_never : (mark ≡ true → EachListed (PostingPasses hs test) ns → ⊥) → (mark || fails) ≡ true → EachListed (PostingPasses hs test) ns → ⊥
+  passes_never so_far set all = ⊎_elim (λ (before : mark ≡ true). so_far before all) (λ (here : mark ≡ false). fails_here (ap (λ b. b || fails) (sym here) ∙ set)) (cases_Bool mark)
+    where
+      fails_here : fails ≡ true → ⊥
+      fails_here now =
+          let p = subst (PostingPasses hs test) (sym is) (each_at (PostingPasses hs test) ns i item all inside) in
+          let same : p.0 ≡ h = (let e : Some p.0 ≡ Some h = sym p.1 ∙ at in cc) in
+          let t : true ≡ false = sym p.2 ∙ ap test same ∙ told ∙ ap not now in
+          absurd (cc)
+
+-- What an accepted row says of the postings that it names.
+
+pub passed_standing : (hs : List History) (n : ℕ) → unless_standing hs n accepted None → (h : History) × (numbered hs n ≡ Some h) × (h.withdrawn ≡ false)
+passed_standing hs n row =
+    let known = passed_unless row in
+    let passes = (passed_unless known.1).0 in
+    (passes.0, passes.1, not-true passes.0.withdrawn passes.2)
+
+stands_listed : (hs : List History) (source : ℕ) (ns : List ℕ) → EachListed (PostingPasses hs (λ h. not h.withdrawn)) ns → EachListed (PostingPasses hs (λ h. eqb (place h) source)) ns → EachListed (PostingPasses hs (stands_at source)) ns
+stands_listed hs source [] stays here = tt
+stands_listed hs source (n ∷ ns) stays here =
+    let same : here.0.0 ≡ stays.0.0 = same_Some here.0.0 stays.0.0 (sym here.0.1 ∙ stays.0.1) in (
+      (stays.0.0, stays.0.1, (λ i. stays.0.2 i && (ap (λ (x : History). eqb (place x) source) (sym same) ∙ here.0.2) i)),
+      stands_listed hs source ns stays.1 here.1,
+    )
+
+pub passed_listed : (hs : List History) (source : ℕ) (ns : List ℕ) → unless_listed hs source ns accepted None → EachOnce ns × EachListed (PostingPasses hs (stands_at source)) ns
+passed_listed hs source ns row =
+    let once = passed_unless row in
+    let known = passed_unless once.1 in
+    let stays = passed_unless known.1 in
+    let here = passed_unless stays.1 in
+    (once.0, stands_listed hs source ns stays.0 here.0)
