@@ -3,6 +3,7 @@ use Rattle.std.proofs.Common.{◌≡◌, ℕ, List, refl, sym, ◌∙◌, subst,
 use Rattle.std.specs.Prelude.{Option, None, Some}
 use Rattle.std.specs.FinSet as set
 use Rattle.std.proofs.lemmas.Option.{same_Some}
+use Rattle.thes_base.specs.declared.data.History.{History}
 use Rattle.thes_base.specs.declared.data.Link.{Link}
 use Rattle.thes_base.specs.declared.data.NewResource.TheVariants.{Concept}
 use Rattle.thes_base.specs.declared.fault.Refusal.{Refusal}
@@ -21,21 +22,24 @@ use Rattle.thes_core.specs.declared.room.Growth.{Growth}
 use Rattle.thes_core.specs.declared.thesaurus.Thesaurus.{Thesaurus}
 use Rattle.thes_core.specs.Requests.{unless_linkable}
 use Rattle.thes_core.specs.View.{state_of, setting_of, IsKept}
-use Rattle.thes_core.specs.Room.{HasRoom}
+use Rattle.thes_core.specs.Room.{HasRoom, Counts, counts_of, counts_in}
 use Rattle.thes_core.proofs.GrowthLemmas.{Grows, within_of_room, room_of_within}
 
 -- The limits bind a request exactly when they leave no room for what it adds.
-module _ (t : Thesaurus) {after : State} {growth : Growth} {answer : Option Refusal} (grows : Grows (state_of t) after growth) where
-  pub room_row : refused_unless (HasRoom t.limits (state_of t) growth) no.TooMany accepted answer → unless_within (setting_of t) (state_of t) after answer
-  room_row (inl (full, is)) = inl (λ within. full (room_of_within t.limits (state_of t) after growth grows within), is)
-  room_row (inr (room, is)) = inr (within_of_room t.limits (state_of t) after growth grows room, is)
+module _ (t : Thesaurus) (hs : List History) (kept : IsKept t hs) {after : State} {growth : Growth} {answer : Option Refusal} (grows : Grows (state_of t hs) after growth) where
+  pub room_row : refused_unless (HasRoom t.limits (counts_in t) growth) no.TooMany accepted answer → unless_within (setting_of t) (state_of t hs) after answer
+  room_row says = go (subst (λ (held : Counts). refused_unless (HasRoom t.limits held growth) no.TooMany accepted answer) (λ i. record (counts_in t) { postings = kept.sums.accepted i; moves = kept.sums.moves i }) says)
+    where
+      go : refused_unless (HasRoom t.limits (counts_of (state_of t hs)) growth) no.TooMany accepted answer → unless_within (setting_of t) (state_of t hs) after answer
+      go (inl (full, is)) = inl (λ within. full (room_of_within t.limits (state_of t hs) after growth grows within), is)
+      go (inr (room, is)) = inr (within_of_room t.limits (state_of t hs) after growth grows room, is)
 
 -- the first rule broken is what the row of the three rules says
 first_row : (Held : Link → Type 0) (first : Option Refusal) → IsFirstBroken Held first → unless_consistent Held accepted first
 first_row Held None broken = row_of_first Held accepted None None broken refl
 first_row Held (Some r) broken = row_of_first Held accepted (Some r) (Some r) broken refl
 
-module _ (t : Thesaurus) (kept : IsKept t) where
+module _ (t : Thesaurus) (hs : List History) (kept : IsKept t hs) where
   -- what the graph takes for an outside concept is one
   pub outside_same : set.contains t.graph.outside ≡ is_outside t.vocab.resources
   outside_same i n = kept.outside n i
@@ -64,7 +68,7 @@ module _ (t : Thesaurus) (kept : IsKept t) where
   -- A new concept in the scheme of another, as the vocabulary judges it.
   module _ (source scheme : ℕ) (tag text : List ℕ) (concept : IsConcept t.vocab.resources source) (is : scheme_of t.vocab.resources source ≡ Some scheme) where
     abbrev after_in : Option ℕ → State
-    after_in o = made (concept_resource o) tag text (state_of t)
+    after_in o = made (concept_resource o) tag text (state_of t hs)
 
     abbrev unique_in : Option ℕ → Row
     unique_in o = unless_unique (after_in o).resources (after_in o).labels accepted

@@ -1,3 +1,4 @@
+pub mod FactLemmas
 pub mod GrowthLemmas
 pub mod NextLemmas
 pub mod JudgeLemmas

@@ -1,15 +1,13 @@
 //! Lists shown from a core, which must not be spent.
-ghost use Rattle.std.specs.Prelude.{◌≡◌, ℕ, Some, false, filter, map, IfOk};
-ghost use Rattle.thes_base.specs.declared.data.History.{History};
-ghost use Rattle.thes_base.specs.Resources.{numbered};
-ghost use Rattle.thes_base.specs.Views.{AreLabels, standing_histories};
+ghost use Rattle.std.specs.Prelude.{◌≡◌, false, [], filter, map, IfOk};
+ghost use Rattle.thes_base.specs.Views.{AreLabels};
+ghost use Rattle.thes_core.specs.Kept.{with_histories};
 ghost use Rattle.thes_core.specs.Shown.{is_of_kind, tagged};
 
 use crate::machine::Core;
 use std::alloc::{AllocError, Global};
-use thes_base::data::{History, Label, LabelKind};
+use thes_base::data::{Label, LabelKind};
 use thes_base::number::ResNo;
-use thes_post::book::Book;
 
 // Those of the kind.
 fn of_kind<'a>(
@@ -37,7 +35,7 @@ impl Core {
         kind: LabelKind,
     ) -> Result<Vec<&Label>, AllocError>
         requires { self.now.spent ≡ false }
-        ensures { let are_labels = AreLabelsIn self.now.labels owner kind in
+        ensures { let are_labels = AreLabels (with_histories [] self.now) owner kind in
             IfOk result (λ found. are_labels (map (λ l. tagged l.now) found.items)) }
     {
         of_kind(alloc, self.labels_of(owner), kind)

@@ -17,7 +17,8 @@ use Rattle.thes_histories.specs.Indexed.{AreNumberedFrom}
 use Rattle.thes_histories.specs.Moved.{unmoved, unmoved_those}
 use Rattle.thes_post.specs.Rising.{RisesFrom}
 use Rattle.thes_post.proofs.OnceLemmas.{has}
-use Rattle.thes_histories.proofs.RisingLemmas.{RisesTo, rises_to, each_at}
+use Rattle.thes_post.proofs.EachLemmas.{each_at}
+use Rattle.thes_histories.proofs.RisingLemmas.{RisesTo, rises_to}
 
 -- what each history has
 abbrev pub EachHistory : (History → Type 0) → List History → Type 0

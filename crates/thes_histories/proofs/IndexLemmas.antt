@@ -34,9 +34,10 @@ use Rattle.thes_lists.proofs.MemberLemmas.{Has, Has-from, Contains-from, all_fro
 use Rattle.thes_lists.proofs.ListingLemmas.{listing_none, listing_as, listing_itself, listing_same}
 use Rattle.thes_histories.specs.Standing.{standing_numbers, StandsAt, ListsStanding}
 use Rattle.thes_histories.proofs.HistoryLemmas.{numbered_push, numbered_set, numbered_moved_those, moved_agree}
-use Rattle.thes_histories.proofs.JudgeLemmas.{passed_standing}
+use Rattle.thes_post.proofs.JudgeLemmas.{passed_standing}
 use Rattle.thes_post.proofs.OnceLemmas.{as_number, has}
-use Rattle.thes_histories.proofs.RisingLemmas.{each_of_has, has_of_each, in_has, has_in, rises_of_sorted, sorted_of_rises}
+use Rattle.thes_post.proofs.EachLemmas.{has_of_each}
+use Rattle.thes_histories.proofs.RisingLemmas.{each_of_has, in_has, has_in, rises_of_sorted, sorted_of_rises}
 use Rattle.thes_histories.proofs.StandingLemmas.{number_is, numbered_self, numbers_of, numbers_listing, standing_posted, standing_withdrawn, standing_moved}
 
 same_bytes : (xs ys : List ℕ) → (xs ≡ ys) ⊎ (xs ≡ ys → ⊥)

@@ -1,6 +1,5 @@
 pub mod HistoryLemmas
 pub mod IndexLemmas
-pub mod JudgeLemmas
 pub mod KeyLemmas
 pub mod RisingLemmas
 pub mod StandingLemmas

@@ -20,6 +20,7 @@ use Rattle.thes_lists.proofs.MemberLemmas.{Has, Has-from, Contains-from}
 use Rattle.thes_lists.proofs.OrderLemmas.{sorted_none, sorted_cons}
 use Rattle.thes_lists.proofs.ListingLemmas.{listing_as, listing_filter}
 use Rattle.thes_post.specs.Rising.{RisesFrom}
+use Rattle.thes_post.proofs.EachLemmas.{has_of_each}
 use Rattle.thes_post.proofs.OnceLemmas.{as_number, has, has_below}
 use Rattle.thes_histories.specs.Rising.{merged, merged_into, without}
 
@@ -41,12 +42,6 @@ has_in [] n in_ns = absurd in_ns
 has_in (m ∷ ns) n (inl same) = ap (λ b. b || has ns n) (eq-eqb m n same)
 has_in (m ∷ ns) n (inr later) = or_right (eqb m n) (has ns n) (has_in ns n later)
 
--- a number that is listed has what each number listed has
-pub has_of_each : (P : ℕ → Type 0) (ls : List ℕ) → EachListed P ls → (n : ℕ) → has ls n ≡ true → P n
-has_of_each P [] each n e = absurd (cc)
-has_of_each P (l ∷ ls) each n e = ⊎_elim (λ (same : eqb l n ≡ true). subst P (eqb-true l n same) each.0)
-    (λ (apart : eqb l n ≡ false). has_of_each P ls each.1 n (sym (ap (λ b. b || has ls n) apart) ∙ e)) (cases_Bool (eqb l n))
-
 -- and the other way
 pub each_of_has : (P : ℕ → Type 0) (ls : List ℕ) → ((n : ℕ) → has ls n ≡ true → P n) → EachListed P ls
 each_of_has P [] f = tt
@@ -63,23 +58,10 @@ abbrev pub RisesTo : ℕ → List ℕ → ℕ → Type 0
 RisesTo least [] n = least ≤ n
 RisesTo least (m ∷ ns) n = (least ≤ m) × RisesTo (m + 1) ns n
 
-pub each_at : (P : ℕ → Type 0) (ns : List ℕ) (i d : ℕ) → EachListed P ns → i < length ns → P (get_or ns i d)
-each_at P [] i d all l = absurd (omega arith)
-each_at P (n ∷ ns) zero d all l = all.0
-each_at P (n ∷ ns) (suc i) d all l = each_at P ns i d all.1 (omega arith)
-
 pub each_take : (P : ℕ → Type 0) (ns : List ℕ) (i : ℕ) → EachListed P ns → EachListed P (take i ns)
 each_take P ns zero all = tt
 each_take P [] (suc i) all = tt
 each_take P (n ∷ ns) (suc i) all = (all.0, each_take P ns i all.1)
-
-pub each_more : (P : ℕ → Type 0) (ns : List ℕ) (i d : ℕ) → i < length ns → EachListed P (take i ns) → P (get_or ns i d) → EachListed P (take (i + 1) ns)
-each_more P ns i d l all here = subst (λ k. EachListed P (take k ns)) (let z : suc i ≡ i + 1 = omega arith in z) (more ns i l all here)
-  where
-    more : (ms : List ℕ) (j : ℕ) → j < length ms → EachListed P (take j ms) → P (get_or ms j d) → EachListed P (take (suc j) ms)
-    more [] j l all here = tt
-    more (m ∷ ms) zero l all here = (here, tt)
-    more (m ∷ ms) (suc j) l all here = (all.0, more ms j (omega arith) all.1 here)
 
 -- what comes before a place rises to it
 pub rises_to : (least : ℕ) (ns : List ℕ) (i d : ℕ) → RisesFrom least ns → i < length ns → RisesTo least (take i ns) (get_or ns i d)

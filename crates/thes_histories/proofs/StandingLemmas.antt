@@ -28,7 +28,8 @@ use Rattle.thes_histories.specs.Rising.{merged, without}
 use Rattle.thes_histories.specs.Standing.{StandsAt}
 use Rattle.thes_histories.proofs.HistoryLemmas.{number_at}
 use Rattle.thes_post.proofs.OnceLemmas.{has}
-use Rattle.thes_histories.proofs.RisingLemmas.{in_has, has_in, sorted_of_rises, rises_weaker, has_of_each, listing_merged, listing_without}
+use Rattle.thes_post.proofs.EachLemmas.{has_of_each}
+use Rattle.thes_histories.proofs.RisingLemmas.{in_has, has_in, sorted_of_rises, rises_weaker, listing_merged, listing_without}
 
 -- a posting that stands at a concept isn't withdrawn, and has it as its place
 stands_parts : (c : ℕ) (h : History) → stands_at c h ≡ true → (not h.withdrawn ≡ true) × (place h ≡ c)

@@ -1,2 +1,4 @@
+pub mod EachLemmas
+pub mod JudgeLemmas
 pub mod OnceLemmas
 pub mod SumLemmas

@@ -3,8 +3,8 @@ use Rattle.std.specs.Prelude.{Some}
 use Rattle.thes_base.specs.Resources.{numbered}
 use Rattle.thes_base.specs.Postings.{place}
 use Rattle.thes_base.specs.Refusals.{IsKnownPosting}
-use Rattle.thes_histories.proofs.RisingLemmas.{each_more}
-use Rattle.thes_histories.proofs.JudgeLemmas.{passes_more, passes_never}
+use Rattle.thes_post.proofs.EachLemmas.{each_more}
+use Rattle.thes_post.proofs.JudgeLemmas.{passes_more, passes_never}
 use Rattle.thes_histories.proofs.list.judge_moving.Goals as goal
 
 pub loop-number-preserved : goal.loop-number-preserved

@@ -5,7 +5,7 @@ use Rattle.thes_core.proofs.OutsideLemmas.{outside_marked_dead}
 use Rattle.thes_core.proofs.thesaurus.Thesaurus.deprecate.Goals as goal
 
 pub returns : goal.returns
-returns c = record {
+returns g c = record {
   answer_is = refl;
-  becomes = becomes c.mark_dead.ensures c.drop_all.ensures refl refl refl refl (λ n. c.requires.kept.outside n ∙ sym (outside_marked_dead c.args.self.now.vocab.resources c.args.concept None n));
+  becomes = becomes c.mark_dead.ensures c.drop_all.ensures c.requires.kept.sums refl refl refl (λ n. c.requires.kept.outside n ∙ sym (outside_marked_dead c.args.self.now.vocab.resources c.args.concept None n));
 }

@@ -6,7 +6,7 @@ use Rattle.thes_core.proofs.JudgeLemmas.{room_row}
 use Rattle.thes_core.proofs.thesaurus.Thesaurus.judge_collection.Goals as goal
 
 pub returns : goal.returns
-returns c = λ tag text.
+returns g c = λ tag text.
     let t = c.args.self.now in
-    let room = room_row t (made_grows (state_of t) t.vocab.base c.requires.legal (collection_resource c.args.scheme) tag text) c.judge_room.ensures in
+    let room = room_row t g.histories c.requires (made_grows (state_of t g.histories) t.vocab.base c.requires.legal (collection_resource c.args.scheme) tag text) c.judge_room.ensures in
     search rules depth 12

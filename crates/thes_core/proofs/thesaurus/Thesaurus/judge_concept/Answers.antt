@@ -7,7 +7,7 @@ use Rattle.thes_core.proofs.JudgeLemmas.{room_row}
 use Rattle.thes_core.proofs.thesaurus.Thesaurus.judge_concept.Goals as goal
 
 pub returns : goal.returns
-returns c =
+returns g c =
     let t = c.args.self.now in
-    let room = room_row t (made_grows (state_of t) t.vocab.base c.requires.legal (concept_resource (Some c.args.scheme)) c.args.tag.now c.args.text.now) c.judge_room.ensures in
+    let room = room_row t g.histories c.requires (made_grows (state_of t g.histories) t.vocab.base c.requires.legal (concept_resource (Some c.args.scheme)) c.args.tag.now c.args.text.now) c.judge_room.ensures in
     search rules depth 12

@@ -6,5 +6,5 @@ use Rattle.thes_core.proofs.JudgeLemmas.{held_row}
 use Rattle.thes_core.proofs.thesaurus.Thesaurus.judge_held.Goals as goal
 
 pub returns : goal.returns
-returns c = held_row c.args.self.now c.requires.kept c.args.link.now c.in_ok-answer.answer
+returns g c = held_row c.args.self.now g.histories c.requires.0 c.args.link.now c.in_ok-answer.answer
     (subst (λ (w : Walked). row_of_add w.net.links (norm (is_marked w.net) c.args.link.now) c.in_ok-answer.answer) c.walk-walk.ensures c.in_ok-answer.ensures.answer)

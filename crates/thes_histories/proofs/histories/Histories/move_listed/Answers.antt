@@ -7,7 +7,7 @@ use Rattle.thes_histories.specs.Standing.{StandsAt}
 use Rattle.thes_histories.proofs.RisingLemmas.{each_permutation}
 use Rattle.thes_post.proofs.OnceLemmas.{rises_sorted}
 use Rattle.thes_histories.proofs.IndexLemmas.{split_sorted}
-use Rattle.thes_histories.proofs.JudgeLemmas.{passed_listed}
+use Rattle.thes_post.proofs.JudgeLemmas.{passed_listed}
 use Rattle.thes_histories.proofs.histories.Histories.move_listed.Goals as goal
 
 pub move_rising-requires-clause-rising : goal.move_rising-requires-clause-rising
