@@ -120,7 +120,7 @@ module _ (t : Thesaurus) (hs : List History) (source : ℕ) (tag text : List ℕ
   pub split_source : IsConcept t.vocab.resources source
   split_source = (passed_unless (passed_unless ok.accepts.row).1).0
 
-  listed_row : unless_listed hs source postings accepted None
+  pub listed_row : unless_listed hs source postings accepted None
   listed_row = let row = ok.accepts.row in search rules depth 16
 
   pub split_count : count_by (is_listed postings) hs ≡ length postings
@@ -136,7 +136,7 @@ module _ (t : Thesaurus) (hs : List History) (source : ℕ) (tag text : List ℕ
   pub split_apart : (n : ℕ) → n ≡ length t.vocab.resources + 1 → source ≢ n
   split_apart n e same = let b = numbered_bound t.vocab.resources source split_source.0 split_source.1 in omega (arith, b, e, same)
 
-  all_listed : (n : ℕ) (apart : source ≢ n) → AllStand (is_listed postings) source n apart hs
+  pub all_listed : (n : ℕ) (apart : source ≢ n) → AllStand (is_listed postings) source n apart hs
   all_listed n apart = listed_stand n apart hs postings (λ i h at. (ok.kept.legal.postings.sound (suc i) h at).number) listed_row
 
   pub split_standing : (n : ℕ) → n ≡ length t.vocab.resources + 1 → length postings ≤ standing_count source hs

@@ -22,11 +22,7 @@ fn is_outside(new: &NewResource) -> bool
 
 impl Thesaurus {
     // Makes what an accepted request asks for, and answers it.
-    pub(crate) fn change(
-        &mut self,
-        command: &Command,
-        facts: &Facts,
-    ) -> Result<Answer, AllocError>
+    pub(crate) fn change(&mut self, command: &Command, facts: &Facts) -> Result<Answer, AllocError>
         ghost histories: { List History }
         requires allows { Allows self.old histories command.now }
         requires facts { AreFacts command.now histories facts.now }

@@ -42,7 +42,6 @@ pub(crate) fn known(command: &Command, facts: &Facts) -> Option<Answer>
 }
 
 impl Thesaurus {
-
     // Which refusal a request meets, but for a key that is known.
     pub(crate) fn judge(
         &self,

@@ -44,11 +44,7 @@ pub fn judge_listed(
 }
 
 // What refuses that the postings, each listed once, are moved from the source.
-fn judge_named(
-    source: ResNo,
-    postings: &[PostNo],
-    named: &[Option<PostingRow>],
-) -> Option<Refusal>
+fn judge_named(source: ResNo, postings: &[PostNo], named: &[Option<PostingRow>]) -> Option<Refusal>
     ghost histories: { List History }
     requires once { EachOnce postings.now }
     requires named { named.now ≡ map (row_at histories) postings.now }

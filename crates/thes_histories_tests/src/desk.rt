@@ -69,7 +69,10 @@ impl Desk {
         if let Some(known) = self.histories.judge_post(&key, &rec, at) {
             return Ok(told(known));
         }
-        if self.histories.totals().accepted > 100 || self.histories.moves() > 100 || way.len() > 100 {
+        if self.histories.totals().accepted > 100
+            || self.histories.moves() > 100
+            || way.len() > 100
+        {
             return Ok(Answer::No(Refusal::TooMany));
         }
         let number = self.histories.post(&key, &rec, at, way)?;

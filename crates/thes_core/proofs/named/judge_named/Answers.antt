@@ -13,13 +13,16 @@ pub returns-in-None : goal.returns-in-None
 returns-in-None g c =
     let n = named_at g.histories c.args.postings.now c.args.named.now c.loop-row.row-index c.row-item.result c.requires.1 c.loop-row-test.true c.row-item.is in
     let missing = row_missing _ (n.3 ∙ c.in-None.is) in
-    inr (c.requires.0, inl (
-      λ all.
-          let known = subst (IsKnownPosting g.histories) (sym n.2) (each_at (IsKnownPosting g.histories) c.args.postings.now c.loop-row.row-index n.0 all n.1) in
-          let clash : Some known.0 ≡ None = sym known.1 ∙ missing in
-          absurd (cc),
-      refl,
-    ))
+    inr (
+      c.requires.0,
+      inl (
+        λ all.
+            let known = subst (IsKnownPosting g.histories) (sym n.2) (each_at (IsKnownPosting g.histories) c.args.postings.now c.loop-row.row-index n.0 all n.1) in
+            let clash : Some known.0 ≡ None = sym known.1 ∙ missing in
+            absurd (cc),
+        refl,
+      ),
+    )
 
 pub loop-row-preserved : goal.loop-row-preserved
 loop-row-preserved g c =
