@@ -5,3 +5,5 @@ pub mod JudgeLemmas
 pub mod OutsideLemmas
 pub mod ApplyLemmas
 pub mod ShownLemmas
+pub mod MovingLemmas
+pub mod DeltaLemmas

@@ -1,3 +1,4 @@
+pub mod Deltas
 pub mod Named
 pub mod Facts
 pub mod Room

@@ -2,6 +2,7 @@
 #![tactic(auto)]
 
 mod arguments;
+mod changes;
 mod changing;
 pub mod facts;
 mod judging;
