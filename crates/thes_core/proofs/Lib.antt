@@ -6,4 +6,5 @@ pub mod OutsideLemmas
 pub mod ApplyLemmas
 pub mod ShownLemmas
 pub mod MovingLemmas
+pub mod SeenLemmas
 pub mod DeltaLemmas

@@ -1,10 +1,12 @@
 //! The changes of rows that requests make which take links away or join concepts.
-ghost use Rattle.std.specs.Prelude.{◌≡◌, ◌++◌, IfOk, OnOk, List, map, Some};
+ghost use Rattle.std.specs.Prelude.{◌≡◌, ◌++◌, ◌⊎◌, ◌↔◌, IfOk, OnOk, List, map, Some, true};
+ghost use Rattle.std.specs.BTreeSet.{contains};
 ghost use Rattle.thes_base.specs.Data.{LabelData};
 ghost use Rattle.thes_base.specs.declared.data.Link.{Link};
 ghost use Rattle.thes_base.specs.declared.data.History.{History};
 ghost use Rattle.thes_base.specs.declared.request.Command.TheVariants as request;
 ghost use Rattle.thes_base.specs.Changes.{deprecated, merged};
+ghost use Rattle.thes_base.specs.Links.{link_cmp};
 ghost use Rattle.thes_core.specs.Deltas.{joined_link, taken_rows};
 ghost use Rattle.thes_core.specs.Facts.{AreFacts};
 ghost use Rattle.thes_core.specs.Requests.{Allows};
@@ -47,6 +49,23 @@ fn push_coming(delta: &mut Delta, links: &[Link]) -> Result<(), AllocError>
 {
     for link in links {
         delta.push(coming(link))?;
+    }
+    Ok(())
+}
+
+// One link more, unless it is among those seen.
+fn push_unseen(
+    seen: &mut BTreeSet<Link>,
+    links: &mut Vec<Link>,
+    new: &Link,
+) -> Result<(), AllocError>
+    requires { Lists (λ q. contains link_cmp seen.old q ≡ true) links.old.items }
+    ensures seen { OnOk result (Lists (λ q. contains link_cmp seen.new q ≡ true) links.new.items) }
+    ensures gains { OnOk result ((q : Link)
+        → IsIn q links.new.items ↔ (IsIn q links.old.items ⊎ (q ≡ new.now))) }
+{
+    if seen.insert(*new)? {
+        links.push(*new)?;
     }
     Ok(())
 }
@@ -126,9 +145,7 @@ impl Thesaurus {
         let mut joined = Vec::new(self.alloc);
         for link in links {
             if let Some(new) = self.joined(link, source, target) {
-                if seen.insert(new)? {
-                    joined.push(new)?;
-                }
+                push_unseen(&mut seen, &mut joined, &new)?;
             }
         }
         Ok(joined)
