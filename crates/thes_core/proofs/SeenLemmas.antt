@@ -1,17 +1,47 @@
 -- Links that are gathered, each once.
 use Rattle.std.proofs.Common.{◌≡◌, ◌⊎◌, ◌↔◌, ◌<◌, ◌≤◌, inl, inr, ℕ, zero, suc, ◌+◌, length, List, [], ◌∷◌, ◌++◌, refl, sym, ap, ◌∙◌, subst, arith, Bool, true, false, cond, get_or, take}
 use Rattle.std.specs.Prelude.{Some, None, Option}
-use Rattle.std.specs.Ordering.{is_eq}
+use Rattle.std.specs.declared.cmp.Ordering.{Ordering}
+use Rattle.std.specs.Ordering.{is_eq, nat_cmp, ordering_then}
 use Rattle.std.specs.Cmp.{tied_itself}
 use Rattle.std.specs.BTreeMap.{is_at}
 use Rattle.std.specs.BTreeSet.{BTreeSet, contains}
 use Rattle.std.proofs.lemmas.Bool.{cases_Bool}
 use Rattle.std.proofs.lemmas.Option.{same_Some}
 use Rattle.thes_base.specs.declared.data.Link.{Link}
-use Rattle.thes_base.specs.Links.{link_cmp}
+use Rattle.thes_base.specs.declared.data.LinkKind.{LinkKind}
+use Rattle.thes_base.specs.declared.data.LinkKind.TheVariants.{Broader}
+use Rattle.thes_base.specs.contracts.data.LinkOrd.TheImpl as link
+use Rattle.thes_base.specs.contracts.data.LinkKindOrd.TheImpl as kind
+use Rattle.thes_base.specs.Links.{link_cmp, link_kind_no}
 use Rattle.thes_base.proofs.LinkSets.{links_total, links_exact}
 use Rattle.thes_rows.specs.Tables.{IsIn, Lists}
 use Rattle.thes_rows.proofs.Sets.{clash, in_append, append_left, append_right, lists_push, tied}
+
+same_kinds : (j k : LinkKind) → kind.ghosts.cmp j k ≡ nat_cmp (link_kind_no j) (link_kind_no k)
+same_kinds Broader Broader = refl
+same_kinds Broader _ = refl
+same_kinds _ Broader = refl
+same_kinds _ _ = refl
+
+-- links are compared as their set has them
+abbrev computed : Link → Link → Ordering
+computed = link.ghosts.cmp
+
+computed_is : computed ≡ link_cmp
+computed_is = λ i x y. ordering_then (same_kinds x.kind y.kind i) (ordering_then (nat_cmp x.a y.a) (nat_cmp x.b y.b))
+
+pub was_new : (seen : BTreeSet Link) (new : Link) → contains computed seen new ≡ false → contains link_cmp seen new ≡ false
+was_new seen new e = let P : (Link → Link → Ordering) → Type 0 = λ cmp. contains cmp seen new ≡ false in subst P computed_is e
+
+pub was_there : (seen : BTreeSet Link) (new : Link) → contains computed seen new ≡ true → contains link_cmp seen new ≡ true
+was_there seen new e = let P : (Link → Link → Ordering) → Type 0 = λ cmp. contains cmp seen new ≡ true in subst P computed_is e
+
+abbrev Updated : (Link → Link → Ordering) → BTreeSet Link → BTreeSet Link → Link → Type 0
+Updated cmp seen now new = (q : Link) → contains cmp now q ≡ cond (is_at (cmp new) q) true (contains cmp seen q)
+
+pub was_updated : (seen now : BTreeSet Link) (new : Link) → Updated computed seen now new → Updated link_cmp seen now new
+was_updated seen now new e = let P : (Link → Link → Ordering) → Type 0 = λ cmp. Updated cmp seen now new in subst P computed_is e
 
 abbrev Has : BTreeSet Link → Link → Type 0
 Has seen q = contains link_cmp seen q ≡ true
