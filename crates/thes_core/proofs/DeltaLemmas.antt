@@ -90,11 +90,11 @@ take_none [] (suc i) e = refl
 take_none (y ∷ xs) zero e = absurd (cc)
 take_none {A} (y ∷ xs) (suc i) e = ap (λ (l : List A). y ∷ l) (take_none xs i e)
 
-once_apart : {A : Type 0} (xs : List A) → AllPairs (λ x y. x ≢ y) xs → Once xs
+pub once_apart : {A : Type 0} (xs : List A) → AllPairs (λ x y. x ≢ y) xs → Once xs
 once_apart [] apart = tt
 once_apart (x ∷ xs) apart = (λ h. (let c = in_contains xs x h in apart 0 (suc c.0) x (omega arith) (let l = c.1 in omega arith) (sym c.2)), once_apart xs (λ i j d l m. apart (suc i) (suc j) d (omega arith) (omega arith)))
 
-ends_or_not : (n : ℕ) (l : Link) → EndsAt n l ⊎ (EndsAt n l → ⊥)
+pub ends_or_not : (n : ℕ) (l : Link) → EndsAt n l ⊎ (EndsAt n l → ⊥)
 ends_or_not n l = elim (same_or_not l.a n) [
   | inl a ↦ inl (inl a)
   | inr a ↦ elim (same_or_not l.b n) [ inl b ↦ inl (inr b) | inr b ↦ inr (λ at. elim at [ inl e ↦ a e | inr e ↦ b e ]) ]

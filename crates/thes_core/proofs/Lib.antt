@@ -8,3 +8,6 @@ pub mod ShownLemmas
 pub mod MovingLemmas
 pub mod SeenLemmas
 pub mod DeltaLemmas
+pub mod MergedLinkLemmas
+pub mod TakenLemmas
+pub mod MergedLemmas

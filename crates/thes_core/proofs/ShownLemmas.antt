@@ -37,10 +37,10 @@ then_assoc Greater b c = refl
 as_owned : (x y : LabelData) → data_cmp x y ≡ ordering_then (nat_cmp (label_kind_no x.kind) (label_kind_no y.kind)) (tagged_cmp (tagged x) (tagged y))
 as_owned x y = then_assoc (nat_cmp (label_kind_no x.kind) (label_kind_no y.kind)) (slice_cmp nat_cmp x.tag y.tag) (slice_cmp nat_cmp x.text y.text)
 
-data_exact : (x y : LabelData) → data_cmp x y ≡ Equal → x ≡ y
+pub data_exact : (x y : LabelData) → data_cmp x y ≡ Equal → x ≡ y
 data_exact x y e = ap (λ (l : Label). record { kind = l.kind; tag = l.tag; text = l.text }) (labels_exact (owned 0 x) (owned 0 y) (sym (as_owned x y) ∙ e))
 
-data_itself : (x : LabelData) → eq_by_cmp data_cmp x x ≡ true
+pub data_itself : (x : LabelData) → eq_by_cmp data_cmp x x ≡ true
 data_itself x = (Equal-is (data_cmp x x)).1 (as_owned x x ∙ tied_itself labels_total (owned 0 x))
 
 kind_itself : (kind : LabelKind) → (label_kind_no kind == label_kind_no kind) ≡ true
