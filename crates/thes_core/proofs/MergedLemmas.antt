@@ -1,13 +1,15 @@
 -- The changes of a merge.
-use Rattle.std.proofs.Common.{◌≡◌, ◌≢◌, ℕ, ◌+◌, List, [], ◌∷◌, ◌++◌, refl, sym, ap, ◌∙◌, subst, Bool, true, map, append_assoc}
-use Rattle.std.specs.Prelude.{Some}
+use Rattle.std.proofs.Common.{◌≡◌, ◌≢◌, ℕ, ◌+◌, List, [], ◌∷◌, ◌++◌, refl, sym, ap, ◌∙◌, subst, Bool, true, map, append_assoc, length}
+use Rattle.std.specs.Prelude.{Some, filter}
+use Rattle.std.proofs.lemmas.List.{length-map}
+use Rattle.std.proofs.lemmas.List.Sums.{length-filter}
 use Rattle.std.specs.FinSet as set
 use Rattle.thes_base.specs.declared.data.History.{History}
 use Rattle.thes_base.specs.declared.data.Link.{Link}
 use Rattle.thes_base.specs.declared.request.Command.TheVariants as request
 use Rattle.thes_base.specs.Data.{LabelData}
 use Rattle.thes_base.specs.Links.{Links, HeldIn, norm, contracted}
-use Rattle.thes_base.specs.Postings.{stands_at, move_count}
+use Rattle.thes_base.specs.Postings.{stands_at, standing_count, move_count}
 use Rattle.thes_base.specs.Resources.{is_outside}
 use Rattle.thes_base.specs.Changes.{merged}
 use Rattle.thes_base.proofs.LinkSets.{links_total, links_exact}
@@ -37,7 +39,6 @@ regroup : {A : Type 0} (x y : A) (a b c d : List A) → ((((x ∷ a) ++ b) ++ c)
 regroup {A} x y a b c d =
     append_assoc (((x ∷ a) ++ b) ++ c) (y ∷ []) d
     ∙ ap (λ (l : List A). l ++ y ∷ d) (append_assoc (x ∷ a) b c)
-    ∙ append_assoc (x ∷ a) (b ++ c) (y ∷ d)
 
 module _ (t : Thesaurus) (hs : List History) (source target : ℕ) (ok : Allows t hs (request.Merge source target)) (gone : List Link) (row : IsRow t.graph.links source gone)
     (come : List Link) (joined : Lists (λ (q : Link). (l : Link) × IsIn l gone × (joined_link t.graph source target l ≡ Some q)) come)
@@ -87,3 +88,7 @@ module _ (t : Thesaurus) (hs : List History) (source target : ℕ) (ok : Allows 
       let grouped = regroup (change.Replace source target) (change.MoveAll source target) rows (map drop_link gone) (map add_link come) (map change.AddMove (moves_from first source target (standing_numbers source hs))) in
       let told = subst (λ ms. Merges (change.Replace source target ∷ rows ++ (map drop_link gone ++ map add_link come) ++ change.MoveAll source target ∷ map change.AddMove ms)) moved law in
       subst Merges (sym grouped) told
+
+-- as many moves as postings that stand at the source
+pub standing_length : (source : ℕ) (hs : List History) → length (standing_numbers source hs) ≡ standing_count source hs
+standing_length source hs = length-map (filter (stands_at source) hs) (λ (h : History). h.number) ∙ length-filter (stands_at source) hs
