@@ -1,12 +1,14 @@
 -- What is decided of a request, and what a core has done after it.
-use Rattle.std.specs.Prelude.{◌≡◌, ◌⊎◌, None, Result, Ok, Err, true, false}
+use Rattle.std.specs.Prelude.{◌≡◌, ◌⊎◌, List, Option, None, Some, Result, Ok, Err, true, false}
 use Rattle.thes_base.specs.declared.fault.Fault.{Fault}
 use Rattle.thes_base.specs.declared.fault.Fault.TheVariants.{OutOfMemory}
 use Rattle.thes_base.specs.declared.request.Command.{Command}
 use Rattle.thes_base.specs.declared.request.Answer.{Answer}
 use Rattle.thes_base.specs.State.{State}
 use Rattle.thes_base.specs.Refusals.{Setting}
-use Rattle.thes_base.specs.Machine.{HasNewKey, Step, next_state, row_of}
+use Rattle.thes_base.specs.Machine.{HasNewKey, Step, next_state, answer_of, row_of}
+use Rattle.thes_rows.specs.declared.change.Change.{Change}
+use Rattle.thes_rows.specs.Leads.{Leads}
 use Rattle.thes_core.specs.declared.verdict.Verdict.{Verdict}
 use Rattle.thes_core.specs.declared.verdict.Verdict.TheVariants.{Settled, Accepted}
 use Rattle.thes_core.specs.Kept.{Kept, Holds}
@@ -17,9 +19,20 @@ pub record Accepts (setting : Setting) (s : State) (command : Command) : Type 0 
   pub row : row_of setting s (next_state command s) command None
 
 -- The machine's step, where it leaves the state as it is, or the leave to make its next state.
+abbrev pub Settles : Setting → State → Command → Option Answer → Type 0
+Settles setting s command (Some answer) = Step setting s command answer s
+Settles setting s command None = Accepts setting s command
+
+-- Nothing refuses the request: this is the machine's answer, and these are changes of rows that lead to its next state.
+pub record Grants (setting : Setting) (s : State) (command : Command) (answer : Answer) (changes : List Change) : Type 0 where
+  pub accepts : Accepts setting s command
+  pub answer_is : answer ≡ answer_of command s
+  pub leads : Leads setting.base changes s (next_state command s)
+
+-- The machine's step, where it leaves the state as it is; or its answer, and the changes that make its next state.
 abbrev pub Decides : Setting → State → Command → Verdict → Type 0
 Decides setting s command (Settled answer) = Step setting s command answer s
-Decides setting s command Accepted = Accepts setting s command
+Decides setting s command (Accepted answer changes) = Grants setting s command answer changes
 
 -- The core holds this state and gives this answer. Running out of memory leaves it spent.
 abbrev pub Makes : Kept → State → Answer → Result Answer Fault → Kept → Type 0

@@ -14,6 +14,7 @@ ghost use Rattle.thes_rows.specs.Changes.{add_link, drop_link, changes_made, cha
 ghost use Rattle.thes_rows.specs.Leads.{Leads};
 ghost use Rattle.thes_rows.specs.Tables.{hier_type};
 
+mod answers;
 mod links;
 mod moves;
 
@@ -131,7 +132,7 @@ fn going(link: &Link) -> Change
 
 impl Thesaurus {
     // The changes of rows that an accepted request makes.
-    pub(crate) fn changes(&self, command: &Command, facts: &Facts) -> Result<Delta, AllocError>
+    fn changes(&self, command: &Command, facts: &Facts) -> Result<Delta, AllocError>
         ghost histories: { List History }
         requires allows { Allows self.now histories command.now }
         requires facts { AreFacts command.now histories facts.now }

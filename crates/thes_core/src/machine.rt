@@ -5,7 +5,7 @@ ghost use Rattle.thes_base.specs.Headline.{IsInOrder};
 ghost use Rattle.thes_base.specs.Machine.{next_state, answer_of};
 ghost use Rattle.thes_core.specs.Facts.{AreFacts};
 ghost use Rattle.thes_core.specs.Kept.{Holds};
-ghost use Rattle.thes_core.specs.Decides.{Accepts, Decides, Makes, Performs};
+ghost use Rattle.thes_core.specs.Decides.{Accepts, Decides, Makes, Performs, Settles};
 
 use crate::facts::Facts;
 use crate::judging::known;
@@ -68,8 +68,26 @@ impl Core {
         }
     }
 
-    /// Decides what a request is answered with, or that it may be applied. The caller names the state that the core holds,
-    /// and tells what the request concerns of its postings.
+    // The answer to a request that leaves the state as it is, or none where nothing refuses it.
+    fn settled(&self, command: &Command, facts: &Facts) -> Result<Option<Answer>, Fault>
+        ghost state: { State }
+        requires unspent { self.now.spent ≡ false }
+        requires holds { Holds self.now state }
+        requires facts { AreFacts command.now state.histories facts.now }
+        ensures ok { IfOk result (Settles self.now.setting state command.now) }
+        ensures err { IfErr result (λ fault. fault ≡ Fault.OutOfMemory) }
+    {
+        if let Some(answer) = known(command, facts) {
+            return Ok(Some(answer));
+        }
+        match self.thesaurus.judge(command, facts)? {
+            Some(refusal) => Ok(Some(Answer::No(refusal))),
+            None => Ok(None),
+        }
+    }
+
+    /// Decides what a request is answered with, and the changes of rows that it makes where it is accepted; another answer
+    /// changes nothing. The caller names the state that the core holds, and tells what the request concerns of its postings.
     pub fn decide(&self, command: &Command, facts: &Facts) -> Result<Verdict, Fault>
         ghost state: { State }
         requires unspent { self.now.spent ≡ false }
@@ -79,12 +97,9 @@ impl Core {
         ensures err { IfErr result (λ fault. fault ≡ Fault.OutOfMemory) }
         ensures in_order { IsInOrder self.now.setting.base state }
     {
-        if let Some(answer) = known(command, facts) {
-            return Ok(Verdict::Settled(answer));
-        }
-        match self.thesaurus.judge(command, facts)? {
-            Some(refusal) => Ok(Verdict::Settled(Answer::No(refusal))),
-            None => Ok(Verdict::Accepted),
+        match self.settled(command, facts)? {
+            Some(answer) => Ok(Verdict::Settled(answer)),
+            None => Ok(self.thesaurus.accepted(command, facts)?),
         }
     }
 
@@ -120,9 +135,9 @@ impl Core {
         ensures performs { Performs self.old state command.now result self.new }
         ensures in_order { OnOk result ((s : State) → Holds self.new s → IsInOrder self.new.setting.base s) }
     {
-        match self.decide(command, facts)? {
-            Verdict::Settled(answer) => Ok(answer),
-            Verdict::Accepted => self.apply(command, facts),
+        match self.settled(command, facts)? {
+            Some(answer) => Ok(answer),
+            None => self.apply(command, facts),
         }
     }
 }

@@ -1,7 +1,7 @@
 use Rattle.thes_core.proofs.machine.Core.decide.Given as goal
 
-abbrev pub ghost-known : goal.ghost-known
-ghost-known g a = g.state
+abbrev pub ghost-settled : goal.ghost-settled
+ghost-settled g a = g.state
 
-abbrev pub ghost-judge : goal.ghost-judge
-ghost-judge g a = g.state.histories
+abbrev pub ghost-accepted : goal.ghost-accepted
+ghost-accepted g a = g.state.histories
