@@ -1,5 +1,5 @@
 -- The changes that are listed are those of the request.
-use Rattle.std.proofs.Common.{◌≡◌, ◌≢◌, ◌⊎◌, ◌<◌, ◌^◌, ℕ, zero, suc, ◌+◌, length, List, [], ◌∷◌, ◌++◌, refl, sym, ap, ◌∙◌, subst, arith, map, take, false, inl, inr, Contains}
+use Rattle.std.proofs.Common.{◌≡◌, ◌≢◌, ◌⊎◌, ◌<◌, ℕ, zero, suc, ◌+◌, length, List, [], ◌∷◌, ◌++◌, refl, sym, ap, ◌∙◌, subst, arith, map, take, false, inl, inr, Contains}
 use Rattle.std.specs.Prelude.{Some, None, Result, IfOk, AllPairs, slice_get}
 use Rattle.std.specs.List.Sorted.{IsPermutation, IsNonDecreasing}
 use Rattle.std.proofs.lemmas.List.{append-nil}
@@ -9,9 +9,9 @@ use Rattle.thes_base.specs.declared.data.Link.{Link}
 use Rattle.thes_base.specs.declared.request.Command.{Command}
 use Rattle.thes_base.specs.declared.request.Command.TheVariants as request
 use Rattle.thes_base.specs.Resources.{scheme_of, replacements}
-use Rattle.thes_base.specs.Postings.{place, move_count, end_of, moves_along}
-use Rattle.thes_base.specs.Changes.{concept_resource, next_number, is_listed, new_history, deprecated}
-use Rattle.thes_base.specs.Links.{Links, HeldIn, without_node}
+use Rattle.thes_base.specs.Postings.{move_count, end_of, moves_along}
+use Rattle.thes_base.specs.Changes.{concept_resource, next_number, is_listed, deprecated}
+use Rattle.thes_base.specs.Links.{HeldIn, without_node}
 use Rattle.thes_base.specs.Machine.{next_state}
 use Rattle.thes_base.proofs.Forwarding.{along_led}
 use Rattle.thes_base.proofs.LinkSets.{links_total, links_exact, without_node_from, without_node_to}
@@ -23,7 +23,7 @@ use Rattle.thes_rows.specs.declared.change.Change.{Change}
 use Rattle.thes_rows.specs.declared.change.Change.TheVariants as change
 use Rattle.thes_rows.specs.Changes.{changes_of, changes_made, move_row, drop_link, new_moves}
 use Rattle.thes_rows.specs.Leads.{Leads}
-use Rattle.thes_rows.specs.Tables.{posting_row, IsIn, Once, Lists}
+use Rattle.thes_rows.specs.Tables.{IsIn, Once, Lists}
 use Rattle.thes_rows.proofs.Leading.{leads, leads_deprecated}
 use Rattle.thes_rows.proofs.Sets.{absent_by, turned_by}
 use Rattle.thes_core.specs.declared.thesaurus.Thesaurus.{Thesaurus}
@@ -31,7 +31,7 @@ use Rattle.thes_core.specs.Deltas.{moves_from, placed_at}
 use Rattle.thes_core.specs.Requests.{Allows}
 use Rattle.thes_core.specs.View.{state_of, setting_of}
 use Rattle.thes_core.proofs.ApplyLemmas.{all_listed, listed_row, split_apart}
-use Rattle.thes_core.proofs.MovingLemmas.{moves_passing, listed_sorted, places_of_moves, passing}
+use Rattle.thes_core.proofs.MovingLemmas.{moves_passing, listed_sorted, places_of_moves}
 
 -- what the law says of the changes of a request
 pub by_law : {E : Type 0} (t : Thesaurus) (hs : List History) (command : Command) (r : Result (List Change) E) → Allows t hs command → IfOk r (λ delta. delta ≡ changes_of command (state_of t hs)) → IfOk r (λ delta. Leads t.vocab.base delta (state_of t hs) (next_state command (state_of t hs)))

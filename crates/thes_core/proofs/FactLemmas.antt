@@ -1,5 +1,5 @@
 -- What is told of postings, and what it says of their histories.
-use Rattle.std.proofs.Common.{◌≡◌, ◌≢◌, ◌<◌, ℕ, zero, suc, ◌+◌, length, List, [], ◌∷◌, refl, sym, ap, ◌∙◌, subst, arith, true, not, ◌&&◌, eqb, get_or, map}
+use Rattle.std.proofs.Common.{◌≡◌, ◌≢◌, ◌<◌, ℕ, zero, suc, length, List, [], ◌∷◌, refl, sym, ap, ◌∙◌, subst, arith, true, not, ◌&&◌, eqb, get_or, map}
 use Rattle.std.specs.Prelude.{Some, None, Option, slice_get, option_map}
 use Rattle.std.proofs.lemmas.Option.{same_Some}
 use Rattle.thes_base.specs.declared.data.History.{History}

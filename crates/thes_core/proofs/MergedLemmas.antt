@@ -1,5 +1,5 @@
 -- The changes of a merge.
-use Rattle.std.proofs.Common.{◌≡◌, ◌≢◌, ℕ, ◌+◌, List, [], ◌∷◌, ◌++◌, refl, sym, ap, ◌∙◌, subst, Bool, true, map, append_assoc, length}
+use Rattle.std.proofs.Common.{◌≡◌, ◌≢◌, ℕ, ◌+◌, List, [], ◌∷◌, ◌++◌, sym, ap, ◌∙◌, subst, Bool, map, append_assoc, length}
 use Rattle.std.specs.Prelude.{Some, filter}
 use Rattle.std.proofs.lemmas.List.{length-map}
 use Rattle.std.proofs.lemmas.List.Sums.{length-filter}
@@ -80,11 +80,11 @@ module _ (t : Thesaurus) (hs : List History) (source target : ℕ) (ok : Allows 
   pub merged_leads : Leads t.vocab.base (((((change.Replace source target ∷ rows) ++ map drop_link gone) ++ map add_link come) ++ change.MoveAll source target ∷ []) ++ map change.AddMove (moves_from first source target (standing_numbers source hs))) (state_of t hs) (merged source target (state_of t hs))
   merged_leads =
       let law = leads_merged t.vocab.base (state_of t hs) ok.kept.legal source target (taken_rows t.vocab.labels target own)
-          (taken_absent t.vocab.labels source target ok.kept.legal.labels.disjoint own are)
-          (taken_same t.vocab.labels source target ok.kept.legal.labels.disjoint own are)
-          gone come
-          (absent_by links_total links_exact t.graph.links (after (is_outside t.vocab.resources)) gone come comes)
-          (turned_by links_total links_exact t.graph.links (after (is_outside t.vocab.resources)) gone come goes comes) in
+      (taken_absent t.vocab.labels source target ok.kept.legal.labels.disjoint own are)
+      (taken_same t.vocab.labels source target ok.kept.legal.labels.disjoint own are)
+      gone come
+      (absent_by links_total links_exact t.graph.links (after (is_outside t.vocab.resources)) gone come comes)
+      (turned_by links_total links_exact t.graph.links (after (is_outside t.vocab.resources)) gone come goes comes) in
       let grouped = regroup (change.Replace source target) (change.MoveAll source target) rows (map drop_link gone) (map add_link come) (map change.AddMove (moves_from first source target (standing_numbers source hs))) in
       let told = subst (λ ms. Merges (change.Replace source target ∷ rows ++ (map drop_link gone ++ map add_link come) ++ change.MoveAll source target ∷ map change.AddMove ms)) moved law in
       subst Merges (sym grouped) told

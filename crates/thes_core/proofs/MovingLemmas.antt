@@ -1,5 +1,5 @@
 -- The rows of the moves that a request makes.
-use Rattle.std.proofs.Common.{◌≡◌, ◌≢◌, ◌⊎◌, ◌<◌, ◌≤◌, inl, inr, ℕ, zero, suc, ◌+◌, length, List, [], ◌∷◌, ◌++◌, refl, sym, ap, ◌∙◌, subst, arith, Bool, true, false, cond, ◌||◌, eqb, eqb-true, ne_eqb, map}
+use Rattle.std.proofs.Common.{◌≡◌, ◌≢◌, ◌<◌, ◌≤◌, inl, inr, ℕ, zero, suc, ◌+◌, List, [], ◌∷◌, refl, sym, ap, ◌∙◌, subst, arith, Bool, true, false, cond, ◌||◌, eqb, eqb-true, ne_eqb, map}
 use borrow.Author.Tests.{eq-eqb}
 use Rattle.std.specs.Prelude.{Some, None, filter, slice_get}
 use Rattle.std.specs.List.Sorted.{IsPermutation, IsNonDecreasing}
@@ -7,13 +7,11 @@ use Rattle.std.specs.Cmp.{both_ways}
 use Rattle.std.proofs.lemmas.Bool.{cases_Bool, or_cases}
 use Rattle.std.proofs.lemmas.List.Sorted.{list_any-IsPermutation}
 use Rattle.thes_base.specs.declared.data.History.{History}
-use Rattle.thes_base.specs.declared.request.Command.TheVariants as request
-use Rattle.thes_base.specs.Resources.{numbered, scheme_of}
+use Rattle.thes_base.specs.Resources.{numbered}
 use Rattle.thes_base.specs.Rows.{accepted}
 use Rattle.thes_base.specs.Refusals.{EachOnce, IsKnownPosting, EachListed, unless_listed}
-use Rattle.thes_base.specs.Postings.{place, stands_at, move_count}
+use Rattle.thes_base.specs.Postings.{place}
 use Rattle.thes_base.specs.Changes.{is_listed}
-use Rattle.thes_base.proofs.NumberedLemmas.{numbered_bound}
 use Rattle.thes_base.proofs.RowLemmas.{passed_unless}
 use Rattle.thes_post.specs.Rising.{RisesFrom}
 use Rattle.thes_post.proofs.EachLemmas.{has_of_each}

@@ -1,5 +1,5 @@
 -- Lists that are shown: the labels of one kind.
-use Rattle.std.proofs.Common.{◌≡◌, ◌<◌, ◌∙◌, refl, sym, ap, subst, ℕ, zero, suc, List, [], ◌∷◌, ◌++◌, length, map, filter, take, get_or, Option, Some, slice_get, Bool, true, false, cond, ◌==◌, ◌⊎◌, inl, inr, ⊎_elim, eqb-true, true≢false, add-one, ◌+◌, Bor, None, arith, rules}
+use Rattle.std.proofs.Common.{◌≡◌, ◌∙◌, refl, sym, ap, subst, ℕ, suc, List, [], ◌∷◌, map, filter, true, false, cond, ◌==◌, ◌⊎◌, inl, inr, ⊎_elim, eqb-true, true≢false, arith}
 use Rattle.std.specs.declared.cmp.Ordering.{Ordering}
 use Rattle.std.specs.declared.cmp.Ordering.TheVariants.{Less, Equal, Greater}
 use Rattle.std.specs.Ordering.{nat_cmp, ordering_then, eq_by_cmp}
@@ -10,16 +10,12 @@ use Rattle.std.specs.List.Sorted.{IsStrictlySortedBy}
 use Rattle.std.proofs.lemmas.List.Elements.{All-from_recursion, All-contains}
 use Rattle.std.proofs.lemmas.Bool.{or_cases, or_left, or_right}
 use Rattle.std.proofs.lemmas.Simd.{map-map}
-use Rattle.std.proofs.lemmas.List.{map-append}
-use Rattle.std.specs.Option.{option_copied, IsSome}
-use Rattle.thes_base.specs.declared.data.History.{History}
 use Rattle.thes_base.specs.declared.data.LabelKind.{LabelKind}
 use Rattle.thes_base.specs.declared.data.LabelKind.TheVariants.{Pref, Alt, Hidden, Scope}
 use Rattle.thes_base.specs.Data.{LabelData}
 use Rattle.thes_base.specs.Labels.{Label, Labels, HasLabel, label_kind_no}
 use Rattle.thes_base.specs.Listing.{IsListing}
 use Rattle.thes_base.specs.Machine.{owned}
-use Rattle.thes_base.specs.Resources.{numbered}
 use Rattle.thes_base.specs.Views.{Tagged, tagged_cmp}
 use Rattle.thes_base.proofs.LabelSets.{labels_total, labels_exact, same_kind}
 use Rattle.thes_vocab.specs.LabelData.{AreLabelsOf, data_cmp, has_own, own_label}

@@ -1,5 +1,5 @@
 -- The labels that the target of a merge takes.
-use Rattle.std.proofs.Common.{◌≡◌, ◌≢◌, ◌⊎◌, inl, inr, ℕ, List, [], ◌∷◌, refl, sym, ap, ◌∙◌, subst, Bool, true, false, not, ◌&&◌, ◌||◌, cond, map}
+use Rattle.std.proofs.Common.{◌≡◌, inl, inr, ℕ, List, [], ◌∷◌, refl, sym, ap, ◌∙◌, subst, Bool, true, false, not, cond, map}
 use Rattle.std.specs.Prelude.{filter}
 use Rattle.std.specs.declared.cmp.Ordering.TheVariants.{Less, Equal}
 use Rattle.std.specs.FinSet as set
@@ -89,8 +89,7 @@ module _ (labels : Labels) (source target : ℕ) (disjoint : S13 labels) (own : 
       let m = in_map given q passing h in
       let l = m.0 in
       let p = passed l m.1 in
-      let is = m.2 in
-      (
+      let is = m.2 in (
         subst (IsGiven source target labels) (sym is) (l.kind, p.1, held_own l p.0, λ has. clash (has_name labels target l.tag l.text) (name_of labels target has.0 l.tag l.text has.1 has.2) p.2, refl),
         λ old. clash (has_name labels target l.tag l.text) (name_of labels target (taken_kind l.kind) l.tag l.text (name_taken l.kind p.1) (ap (set.contains labels) (sym is) ∙ old)) p.2,
       )

@@ -26,12 +26,12 @@ use crate::thesaurus::Thesaurus;
 use std::alloc::{AllocError, Global};
 use std::collections::BTreeSet;
 use thes_base::data::{Label, LabelValue, Link};
-use thes_graph::judge::in_order;
-use thes_rows::rows::LabelRow;
 use thes_base::number::ResNo;
+use thes_graph::judge::in_order;
 use thes_graph::links::Links;
 use thes_rows::change::Change;
 use thes_rows::delta::Delta;
+use thes_rows::rows::LabelRow;
 
 // These links leave the tables.
 fn push_going(delta: &mut Delta, links: &[Link]) -> Result<(), AllocError>

@@ -1,6 +1,5 @@
 use Rattle.std.proofs.Common.{◌≡◌, refl, Bool, true, false, not, eqb, sym, ap, subst, ◌∙◌, inl, inr}
 use Rattle.std.specs.Prelude.{Some, None}
-use Rattle.thes_base.specs.declared.data.History.{History}
 use Rattle.thes_base.specs.Postings.{place}
 use Rattle.thes_base.specs.Refusals.{IsKnownPosting}
 use Rattle.thes_post.proofs.EachLemmas.{each_at, each_more}

@@ -1,9 +1,5 @@
-use Rattle.std.proofs.Common.{sym, ◌∙◌, subst, List, ◌≡◌, ◌⊎◌, ◌↔◌}
+use Rattle.std.proofs.Common.{sym, ◌∙◌}
 use Rattle.std.proofs.lemmas.Bool.{not-true, not-false}
-use Rattle.std.specs.BTreeSet.{contains}
-use Rattle.thes_base.specs.declared.data.Link.{Link}
-use Rattle.thes_base.specs.Links.{link_cmp}
-use Rattle.thes_rows.specs.Tables.{IsIn, Lists}
 use Rattle.thes_core.proofs.SeenLemmas.{was_new, was_there, was_updated, seen_push, gains_push, gains_there}
 use Rattle.thes_core.proofs.changes.links.push_unseen.Goals as goal
 

@@ -1,4 +1,4 @@
-use Rattle.std.proofs.Common.{◌≡◌, subst, ap, ◌∙◌, refl, sym, inl, inr, false}
+use Rattle.std.proofs.Common.{subst, ap, ◌∙◌, refl, sym, inl, inr}
 use Rattle.thes_base.specs.declared.request.Answer.TheVariants as reply
 use Rattle.thes_base.specs.State.{State}
 use Rattle.thes_base.specs.Refusals.{Setting}

@@ -1,9 +1,8 @@
-use Rattle.std.proofs.Common.{◌≡◌, ◌+◌, sym, ◌∙◌, ap, subst, List, length, take, ℕ, arith}
-use Rattle.std.specs.Prelude.{Some, None, Option, ◌↔◌}
+use Rattle.std.proofs.Common.{sym, ◌∙◌, take, arith}
+use Rattle.std.specs.Prelude.{Option}
 use Rattle.thes_base.specs.declared.data.Link.{Link}
-use Rattle.thes_rows.specs.Tables.{IsIn, Lists}
 use Rattle.thes_core.specs.Deltas.{joined_link}
-use Rattle.thes_core.proofs.SeenLemmas.{Made, made_none, made_some, take_one, take_past, listed_made}
+use Rattle.thes_core.proofs.SeenLemmas.{made_none, made_some, take_one, take_past, listed_made}
 use Rattle.thes_core.proofs.thesaurus.Thesaurus.all_joined.Goals as goal
 use Rattle.thes_core.proofs.thesaurus.Thesaurus.all_joined.Goals.{in-Some+in_ok-push_unseen, in_default}
 

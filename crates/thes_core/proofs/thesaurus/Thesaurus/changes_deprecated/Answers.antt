@@ -1,4 +1,4 @@
-use Rattle.std.proofs.Common.{◌++◌, ap, sym, ◌∙◌, subst, map}
+use Rattle.std.proofs.Common.{◌++◌, sym, ◌∙◌, subst, map}
 use Rattle.thes_base.specs.Changes.{deprecated}
 use Rattle.thes_rows.specs.Changes.{drop_link}
 use Rattle.thes_rows.specs.Leads.{Leads}

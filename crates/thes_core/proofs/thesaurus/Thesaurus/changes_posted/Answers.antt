@@ -1,4 +1,4 @@
-use Rattle.std.proofs.Common.{◌≡◌, ◌+◌, ◌++◌, ◌∷◌, [], ap, sym, ◌∙◌, arith, length, List, map, ℕ, false}
+use Rattle.std.proofs.Common.{◌+◌, ◌++◌, ◌∷◌, [], ap, ◌∙◌, arith, length, List, map, ℕ, false}
 use Rattle.thes_base.specs.Postings.{moves_along}
 use Rattle.thes_rows.specs.Changes.{move_row}
 use Rattle.thes_rows.specs.declared.change.Change.{Change}

@@ -1,9 +1,7 @@
-use Rattle.std.proofs.Common.{◌≡◌, ◌+◌, ◌++◌, ap, sym, ◌∙◌, arith, length, List, ℕ, map}
-use Rattle.std.specs.Prelude.{Some, Option}
+use Rattle.std.proofs.Common.{◌+◌, ◌++◌, ap, sym, ◌∙◌, arith, length, ℕ, map}
 use Rattle.std.proofs.lemmas.List.Sorted.{length_permutation}
 use Rattle.thes_base.specs.Changes.{concept_resource, next_number}
 use Rattle.thes_rows.specs.Changes.{changes_made}
-use Rattle.thes_rows.specs.declared.change.Change.{Change}
 use Rattle.thes_rows.specs.declared.change.Change.TheVariants as change
 use Rattle.thes_core.specs.Deltas.{moves_from, placed_at}
 use Rattle.thes_core.specs.View.{state_of}

@@ -1,9 +1,9 @@
-use Rattle.std.proofs.Common.{ap, subst, sym, ◌∙◌, ◌+◌, refl, arith, length, ℕ, List}
+use Rattle.std.proofs.Common.{ap, subst, sym, ◌∙◌, ◌+◌, refl, arith, ℕ}
 use Rattle.std.proofs.lemmas.List.Sums.{count_by-le-length}
 use Rattle.thes_base.specs.declared.request.Answer.TheVariants as reply
 use Rattle.thes_base.specs.Resources.{replacements}
-use Rattle.thes_base.specs.Postings.{end_of, stands_at}
-use Rattle.thes_post.specs.Sums.{count_of, OneMore}
+use Rattle.thes_base.specs.Postings.{stands_at}
+use Rattle.thes_post.specs.Sums.{OneMore}
 use Rattle.thes_post.proofs.SumLemmas.{sums_posted}
 use Rattle.thes_core.proofs.ApplyLemmas.{becomes, post_fits, post_more, post_answer}
 use Rattle.thes_core.proofs.thesaurus.Thesaurus.post.Goals as goal

@@ -1,9 +1,9 @@
-use Rattle.std.proofs.Common.{◌≡◌, ◌<◌, refl, sym, ap, ◌∙◌, subst, arith, ℕ, false}
+use Rattle.std.proofs.Common.{◌≡◌, refl, sym, ap, ◌∙◌, subst, arith, ℕ, false}
 use Rattle.std.specs.Option.{option_copied}
 use Rattle.std.proofs.lemmas.Option.{same_Some}
 use Rattle.thes_base.specs.declared.data.History.{History}
 use Rattle.thes_base.specs.Postings.{place, standing_count}
-use Rattle.thes_post.specs.Sums.{count_of, OneLess}
+use Rattle.thes_post.specs.Sums.{OneLess}
 use Rattle.thes_post.proofs.JudgeLemmas.{passed_standing}
 use Rattle.thes_post.proofs.SumLemmas.{one_stands, one_stays, sums_withdrawn}
 use Rattle.thes_rows.specs.declared.rows.PostingRow.{PostingRow}
