@@ -1,5 +1,5 @@
 -- Links that are gathered, each once.
-use Rattle.std.proofs.Common.{◌≡◌, ◌⊎◌, ◌↔◌, ◌<◌, ◌≤◌, inl, inr, ℕ, zero, suc, ◌+◌, length, List, [], ◌∷◌, ◌++◌, refl, sym, ap, ◌∙◌, subst, arith, Bool, true, false, cond, get_or, take}
+use Rattle.std.proofs.Common.{◌≡◌, ◌⊎◌, ◌↔◌, ◌≤◌, inl, inr, ℕ, zero, suc, length, List, [], ◌∷◌, ◌++◌, refl, sym, ap, ◌∙◌, subst, arith, Bool, true, false, cond, take}
 use Rattle.std.specs.Prelude.{Some, Option}
 use Rattle.std.specs.declared.cmp.Ordering.{Ordering}
 use Rattle.std.specs.Ordering.{is_eq, nat_cmp, ordering_then}
@@ -75,12 +75,7 @@ gains_push links new q = (
 pub gains_there : (links : List Link) (new q : Link) → IsIn new links → IsIn q links ↔ (IsIn q links ⊎ (q ≡ new))
 gains_there links new q there = (inl, λ h. elim h [ inl old ↦ old | inr e ↦ (let Q : Link → Type 0 = λ x. IsIn x links in subst Q (sym e) there) ])
 
--- one more of a list
-pub take_one : {A : Type 0} (xs : List A) (i : ℕ) (x : A) → i < length xs → x ≡ get_or xs i x → take (i + 1) xs ≡ take i xs ++ x ∷ []
-take_one [] i x l e = absurd (omega arith)
-take_one {A} (y ∷ xs) zero x l e = let same : y ≡ x = sym e in ap (λ z. z ∷ []) same
-take_one {A} (y ∷ xs) (suc i) x l e = ap (λ (k : ℕ). take k (y ∷ xs)) (let q : suc i + 1 ≡ suc (i + 1) = omega arith in q) ∙ ap (λ (l : List A). y ∷ l) (take_one xs i x (omega arith) e)
-
+-- all of a list
 pub take_past : {A : Type 0} (xs : List A) (i : ℕ) → length xs ≤ i → take i xs ≡ xs
 take_past [] zero l = refl
 take_past [] (suc i) l = refl

@@ -1,5 +1,5 @@
 -- The labels that the target of a merge takes.
-use Rattle.std.proofs.Common.{◌≡◌, inl, inr, ℕ, List, [], ◌∷◌, refl, sym, ap, ◌∙◌, subst, Bool, true, false, not, cond, map}
+use Rattle.std.proofs.Common.{◌≡◌, inl, inr, ℕ, List, [], ◌∷◌, refl, sym, ap, ◌∙◌, subst, true, false, not, map}
 use Rattle.std.specs.Prelude.{filter}
 use Rattle.std.specs.declared.cmp.Ordering.TheVariants.{Less, Equal}
 use Rattle.std.specs.FinSet as set
@@ -8,6 +8,7 @@ use Rattle.std.specs.List.{AllByRecursion}
 use Rattle.std.specs.List.Sorted.{IsStrictlySortedBy}
 use Rattle.std.proofs.lemmas.Bool.{cases_Bool, or_cases, and_parts, and_from, not-true, not_from_false}
 use Rattle.std.proofs.lemmas.Cmp.{then_total, on_total, nat_list_cmp_total}
+use Rattle.std.proofs.lemmas.List.Kept.{IsStrictlySortedBy-filter}
 use Rattle.thes_base.specs.declared.data.LabelKind.{LabelKind}
 use Rattle.thes_base.specs.declared.data.LabelKind.TheVariants.{Pref, Alt, Hidden, Scope}
 use Rattle.thes_base.specs.Data.{LabelData}
@@ -47,13 +48,6 @@ once_map {A} f (x ∷ xs) apart once = (
   λ h. (let m = in_map f (f x) xs h in let same = apart x m.0 (inl refl) (inr m.1) m.2 in let Q : A → Type 0 = λ y. IsIn y xs in once.0 (subst Q (sym same) m.1)),
   once_map f xs (λ y z a b e. apart y z (inr a) (inr b) e) once.1,
 )
-
-once_kept : {A : Type 0} (test : A → Bool) (xs : List A) → Once xs → Once (filter test xs)
-once_kept test [] once = tt
-once_kept {A} test (x ∷ xs) once = elim (test x) as (λ b. Once (cond b (x ∷ filter test xs) (filter test xs))) [
-  | true ↦ (λ h. once.0 (in_filter test x xs h).0, once_kept test xs once.1)
-  | false ↦ once_kept test xs once.1
-]
 
 name_taken : (k : LabelKind) → is_name k ≡ true → is_name (taken_kind k) ≡ true
 name_taken Pref n = refl
@@ -124,7 +118,7 @@ module _ (labels : Labels) (source target : ℕ) (disjoint : S13 labels) (own : 
   comes = record {
     sound = λ q h. let g = given_new q h in ((takes_labels source target labels q).1 (inr g.0), g.1);
     complete = λ q h. elim ((takes_labels source target labels q).0 h.0) [ inl old ↦ absurd (h.1 old) | inr new ↦ given_listed q new ];
-    once = once_map given passing one_given (once_kept (takes labels target) own (once_ordered own are.ordered));
+    once = once_map given passing one_given (once_ordered passing (IsStrictlySortedBy-filter data_cmp (takes labels target) own are.ordered));
   }
 
   goes : Lists (λ q. (set.contains labels q ≡ true) × (set.contains after q ≡ true → ⊥)) []

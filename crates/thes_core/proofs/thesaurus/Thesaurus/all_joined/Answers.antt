@@ -1,8 +1,9 @@
-use Rattle.std.proofs.Common.{sym, ◌∙◌, take, arith}
+use Rattle.std.proofs.Common.{sym, ◌∙◌, take, arith, ap, ◌++◌, ◌∷◌, []}
 use Rattle.std.specs.Prelude.{Option}
+use Rattle.std.proofs.lemmas.List.{take_more}
 use Rattle.thes_base.specs.declared.data.Link.{Link}
 use Rattle.thes_core.specs.Deltas.{joined_link}
-use Rattle.thes_core.proofs.SeenLemmas.{made_none, made_some, take_one, take_past, listed_made}
+use Rattle.thes_core.proofs.SeenLemmas.{made_none, made_some, take_past, listed_made}
 use Rattle.thes_core.proofs.thesaurus.Thesaurus.all_joined.Goals as goal
 use Rattle.thes_core.proofs.thesaurus.Thesaurus.all_joined.Goals.{in-Some+in_ok-push_unseen, in_default}
 
@@ -10,8 +11,8 @@ pub loop-link-preserved : goal.loop-link-preserved
 loop-link-preserved c =
     let make : Link → Option Link = joined_link c.args.self.now.graph c.args.source c.args.target in
     let i = c.loop-link.invariant in
-    let longer = take_one c.args.links.now c.loop-link.link-index c.link-item.result c.loop-link-test.true c.link-item.is in
     let before = take c.loop-link.link-index c.args.links.now in
+    let longer = take_more c.args.links.now c.loop-link.link-index c.link-item.result c.loop-link-test.true ∙ ap (λ (l : Link). before ++ l ∷ []) (sym c.link-item.is) in
     elim c.match-joined.branch [
       | in-Some+in_ok-push_unseen w ↦ rw (w.seen-is, w.joined-is, longer) (record {
         seen = w.in_ok-push_unseen.ensures.seen;
