@@ -1,5 +1,5 @@
 -- What each number of a list has.
-use Rattle.std.proofs.Common.{◌≡◌, ◌<◌, ℕ, zero, suc, ◌+◌, length, List, [], ◌∷◌, sym, ap, ◌∙◌, subst, arith, ⊎_elim, Bool, true, false, ◌||◌, eqb, eqb-true, get_or, take}
+use Rattle.std.proofs.Common.{◌≡◌, ◌<◌, ℕ, zero, suc, ◌+◌, length, List, [], ◌∷◌, sym, ap, ◌∙◌, subst, arith, ⊎_elim, true, false, ◌||◌, eqb, eqb-true, get_or, take}
 use Rattle.std.proofs.lemmas.Bool.{cases_Bool}
 use Rattle.thes_base.specs.Refusals.{EachListed}
 use Rattle.thes_post.proofs.OnceLemmas.{has}

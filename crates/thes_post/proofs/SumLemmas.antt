@@ -1,9 +1,9 @@
 -- The sums follow the histories.
-use Rattle.std.proofs.Common.{◌≡◌, ◌≢◌, ◌<◌, ◌≤◌, ◌^◌, ℕ, zero, suc, ◌+◌, ◌-◌, length, List, [], ◌∷◌, ◌++◌, refl, sym, ap, ◌∙◌, subst, arith, inl, inr, Bool, true, false, cond, not, ◌&&◌, eqb, eqb-true, ne_eqb, length-append}
+use Rattle.std.proofs.Common.{◌≡◌, ◌≢◌, ◌<◌, ◌≤◌, ℕ, zero, suc, ◌+◌, ◌-◌, length, List, [], ◌∷◌, refl, sym, ap, ◌∙◌, subst, arith, inl, inr, Bool, true, false, cond, not, ◌&&◌, eqb, eqb-true, ne_eqb, length-append}
 use borrow.Author.Tests.{eq-eqb}
 use Rattle.std.specs.Prelude.{Some, None, Option, count_by, slice_get, slice_set}
 use Rattle.std.specs.Option.{option_map_or}
-use Rattle.std.proofs.lemmas.Bool.{cases_Bool, and_parts}
+use Rattle.std.proofs.lemmas.Bool.{cases_Bool, and_parts, not-true}
 use Rattle.std.proofs.lemmas.List.Sums.{sum_by-cons, sum_by_push, count_by-le-length}
 use Rattle.thes_base.specs.declared.data.History.{History}
 use Rattle.thes_base.specs.Resources.{numbered, set_numbered}
@@ -28,11 +28,7 @@ stands_not c h apart = elim (cases_Bool (not h.withdrawn)) [
 
 -- one that stands at a concept isn't withdrawn, and has it as its place
 pub stands_parts : (c : ℕ) (h : History) → stands_at c h ≡ true → (h.withdrawn ≡ false) × (place h ≡ c)
-stands_parts c h s = let parts = and_parts (not h.withdrawn) (eqb (place h) c) s in (stays h.withdrawn parts.0, eqb-true (place h) c parts.1)
-  where
-    stays : (b : Bool) → not b ≡ true → b ≡ false
-    stays true e = absurd (cc)
-    stays false e = refl
+stands_parts c h s = let parts = and_parts (not h.withdrawn) (eqb (place h) c) s in (not-true h.withdrawn parts.0, eqb-true (place h) c parts.1)
 
 -- One history in place of another.
 
