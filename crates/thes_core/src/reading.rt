@@ -9,7 +9,7 @@ ghost use Rattle.thes_base.specs.Headline.{IsInOrder};
 ghost use Rattle.thes_base.specs.Labels.{IsTaken, preferred_in};
 ghost use Rattle.thes_base.specs.Links.{HeldIn, norm};
 ghost use Rattle.thes_base.specs.Listing.{IsListing};
-ghost use Rattle.thes_base.specs.Resources.{is_outside, numbered, IsLive};
+ghost use Rattle.thes_base.specs.Resources.{is_outside, numbered, replacements, IsLive};
 ghost use Rattle.thes_base.specs.State.{State};
 ghost use Rattle.thes_base.specs.Views.{HasLink, HasBroader, IsMapping, IsTyped, mapping_cmp, typed_cmp};
 ghost use Rattle.thes_core.specs.Kept.{Holds};
@@ -90,6 +90,14 @@ impl Core {
         ensures { option_copied result ≡ numbered self.now.resources n }
     {
         self.thesaurus.vocab.resource(n)
+    }
+
+    /// Lists the replacements of a concept: its replacement, the replacement of that, and so on.
+    pub fn replacements(&self, alloc: Global, concept: ResNo) -> Result<Vec<ResNo>, AllocError>
+        requires { self.now.spent ≡ false }
+        ensures { IfOk result (λ way. way.items ≡ replacements self.now.resources concept) }
+    {
+        self.thesaurus.vocab.replacements(alloc, concept)
     }
 
     /// Whether the number is a live resource's.

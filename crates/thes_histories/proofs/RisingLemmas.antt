@@ -1,5 +1,5 @@
 -- Rising lists of numbers.
-use Rattle.std.proofs.Common.{◌≡◌, ◌≢◌, ◌⊎◌, ◌<◌, ◌≤◌, ℕ, zero, suc, ◌+◌, ◌-◌, length, List, [], ◌∷◌, ◌++◌, refl, sym, ap, ◌∙◌, subst, arith, inl, inr, ⊎_elim, Bool, true, false, cond, not, ◌||◌, eqb, eqb-true, ne_eqb, ltb, get_or, take, drop, append_assoc, Less}
+use Rattle.std.proofs.Common.{◌≡◌, ◌≢◌, ◌⊎◌, ◌<◌, ◌≤◌, ℕ, zero, suc, ◌+◌, ◌-◌, length, List, [], ◌∷◌, ◌++◌, refl, sym, ap, ◌∙◌, subst, arith, inl, inr, Bool, true, false, cond, not, ◌||◌, eqb, eqb-true, ne_eqb, ltb, get_or, take, drop, append_assoc, Less}
 use Rattle.std.proofs.lemmas.List.{append-nil, length-drop}
 use Rattle.std.proofs.lemmas.List.Elements.{filter_more, All-from_get_or}
 use Rattle.std.proofs.lemmas.List.Folds.{list_any_at, list_any_none}
@@ -10,7 +10,6 @@ use Rattle.std.specs.Prelude.{Result, Ok, Err, MatchResult}
 use Rattle.std.specs.Result.{is_err}
 use Rattle.std.specs.Ordering.{nat_cmp}
 use Rattle.std.specs.Cmp.{nat_cmp_is}
-use Rattle.std.specs.List.{list_any}
 use Rattle.std.specs.List.Sorted.{IsPermutation, IsNonDecreasing, IsStrictlySortedBy, IsBinarySearchResult}
 use Rattle.std.proofs.lemmas.List.Sorted.{list_any-IsPermutation, searched}
 use Rattle.std.proofs.lemmas.Map.Keys.{sorted_tail, below_from_sorted}
@@ -21,7 +20,7 @@ use Rattle.thes_lists.proofs.OrderLemmas.{sorted_none, sorted_cons}
 use Rattle.thes_lists.proofs.ListingLemmas.{listing_as, listing_filter}
 use Rattle.thes_post.specs.Rising.{RisesFrom}
 use Rattle.thes_post.proofs.EachLemmas.{has_of_each}
-use Rattle.thes_post.proofs.OnceLemmas.{as_number, has, has_below}
+use Rattle.thes_post.proofs.OnceLemmas.{has}
 use Rattle.thes_histories.specs.Rising.{merged, merged_into, without}
 
 pub rises_weaker : (low high : ℕ) (ns : List ℕ) → low ≤ high → RisesFrom high ns → RisesFrom low ns

@@ -1,5 +1,5 @@
 //! Postings in memory: what became of each.
-ghost use Rattle.std.specs.Prelude.{◌≡◌, ◌≢◌, ◌<◌, ◌+◌, ◌-◌, ◌^◌, ℕ, List, [], length, map, filter, None, option_map, IfOk, OnOk, OnErr};
+ghost use Rattle.std.specs.Prelude.{◌≡◌, ◌≢◌, ◌<◌, ◌+◌, ◌-◌, ◌^◌, ℕ, List, [], length, map, filter, None, option_map, IfOk, MatchOption, OnOk, OnErr};
 ghost use Rattle.std.specs.Option.{option_copied};
 ghost use Rattle.thes_base.specs.declared.data.History.{History};
 ghost use Rattle.thes_base.specs.Resources.{numbered};
@@ -62,6 +62,15 @@ impl Histories {
             withdrawn: 0,
             moves: 0,
         }
+    }
+
+    /// Finds the number of the posting that has this key.
+    pub fn find(&self, key: &Key) -> Option<PostNo>
+        ensures { let has_key = λ (h : History). IsOfKey key.now self.now h in
+            MatchOption result ((h : History) → ¬ has_key h) (λ n. (h : History) × has_key h × (h.number ≡ n)) }
+    {
+        let number = *self.numbers.get(key)?;
+        Some(self.history(number)?.number)
     }
 
     /// Whether a posting of this key was accepted, and as what.

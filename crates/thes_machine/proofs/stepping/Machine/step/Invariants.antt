@@ -1,0 +1,4 @@
+use Rattle.thes_machine.proofs.stepping.Machine.step.Given as goal
+
+abbrev pub ghost-decide : goal.ghost-decide
+ghost-decide a = a.self.now.state
