@@ -29,13 +29,14 @@ module _ (held : core.Kept) (hs : List History) (spent : Bool) (k : Kept) (is : 
   pub in_order_at : IsInOrder k.setting.base k.state
   in_order_at = subst (λ (x : Kept). IsInOrder x.setting.base x.state) is (legal_is_in_order held.setting.base (with_histories hs held) kept_at.holds.legal)
 
--- a core that holds a state holds it with the state's histories
+-- the state that a core holds, with its histories
+pub state_with : (held : core.Kept) (hs : List History) (s : State) → Holds held s → hs ≡ s.histories → with_histories hs held ≡ s
+state_with held hs s holds same = ap (λ (gs : List History). with_histories gs held) same ∙ holds.state
+
+-- so the core holds what the two are together
 pub kept_with : (held : core.Kept) (hs : List History) (s : State) → held.spent ≡ false → IsSetting held.setting → Holds held s → hs ≡ s.histories → IsKept held hs
 kept_with held hs s unspent fit holds same = record {
   unspent = unspent;
   fit = fit;
   holds = subst (Holds held) (sym (state_with held hs s holds same)) holds;
 }
-
-pub state_with : (held : core.Kept) (hs : List History) (s : State) → Holds held s → hs ≡ s.histories → with_histories hs held ≡ s
-state_with held hs s holds same = ap (λ (gs : List History). with_histories gs held) same ∙ holds.state

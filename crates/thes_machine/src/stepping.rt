@@ -1,9 +1,9 @@
 //! The machine: its state in memory, and one request after another.
-ghost use Rattle.std.specs.Prelude.{◌≡◌, false, OnOk};
+ghost use Rattle.std.specs.Prelude.{◌≡◌, false, IfOk, IfErr, OnOk};
 ghost use Rattle.thes_base.specs.Headline.{IsInOrder};
 ghost use Rattle.thes_base.specs.Machine.{next_state, answer_of};
-ghost use Rattle.thes_base.specs.State.{empty_state};
-ghost use Rattle.thes_core.specs.Decides.{Accepts};
+ghost use Rattle.thes_base.specs.State.{State, empty_state};
+ghost use Rattle.thes_core.specs.Decides.{Accepts, Decides};
 ghost use Rattle.thes_core.specs.Facts.{AreFacts};
 ghost use Rattle.thes_machine.specs.Performs.{Makes, Performs, Runs};
 
@@ -72,19 +72,34 @@ impl Machine {
         ensures in_order { OnOk result (IsInOrder self.new.setting.base self.new.state) }
     {
         let facts = facts_of(self.alloc, &self.histories, command)?;
-        match self.core.decide(command, &facts)? {
+        match self.decide(command, &facts)? {
             Verdict::Settled(answer) => Ok(answer),
             Verdict::Accepted => self.apply(command, &facts),
         }
     }
 
+    // Decides what a request is answered with, or that it may be applied.
+    fn decide(&self, command: &Command, facts: &Facts) -> Result<Verdict, Fault>
+        ghost state: { State }
+        requires unspent { self.now.spent ≡ false }
+        requires state { self.now.state ≡ state }
+        requires facts { AreFacts command.now state.histories facts.now }
+        ensures ok { IfOk result (Decides self.now.setting state command.now) }
+        ensures err { IfErr result (λ fault. fault ≡ Fault.OutOfMemory) }
+        ensures in_order { IsInOrder self.now.setting.base self.now.state }
+    {
+        self.core.decide(command, facts)
+    }
+
     // Makes what an accepted request asks for, and answers it. Running out of memory leaves the machine spent.
     fn apply(&mut self, command: &Command, facts: &Facts) -> Result<Answer, Fault>
+        ghost state: { State }
         requires unspent { self.old.spent ≡ false }
-        requires facts { AreFacts command.now self.old.state.histories facts.now }
-        requires accepted { Accepts self.old.setting self.old.state command.now }
-        ensures { let s = self.old.state in
-            Makes self.old (next_state command.now s) (answer_of command.now s) result self.new }
+        requires state { self.old.state ≡ state }
+        requires facts { AreFacts command.now state.histories facts.now }
+        requires accepted { Accepts self.old.setting state command.now }
+        ensures made { Makes self.old (next_state command.now state) (answer_of command.now state) result self.new }
+        ensures in_order { OnOk result (IsInOrder self.new.setting.base self.new.state) }
     {
         self.spent = true;
         keep(self.alloc, &mut self.histories, &self.core, command)?;

@@ -1,4 +1,4 @@
 use Rattle.thes_machine.proofs.stepping.Machine.apply.Given as goal
 
 abbrev pub ghost-apply : goal.ghost-apply
-ghost-apply a = a.self.now.state
+ghost-apply g a = g.state

@@ -2,3 +2,6 @@ use Rattle.thes_machine.proofs.stepping.Machine.step.Given as goal
 
 abbrev pub ghost-decide : goal.ghost-decide
 ghost-decide a = a.self.now.state
+
+abbrev pub ghost-apply : goal.ghost-apply
+ghost-apply a = a.self.now.state
