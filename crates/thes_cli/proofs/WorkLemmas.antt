@@ -5,7 +5,7 @@ use Rattle.thes_base.specs.Headline.{IsInOrder}
 use Rattle.thes_base.specs.Pipe.{KeepsToLimit}
 use Rattle.thes_base.specs.declared.fault.PipeFault.{PipeFault}
 use Rattle.thes_base.specs.declared.pipe.Pipe.{Pipe}
-use Rattle.thes_core.specs.Kept.{Kept}
+use Rattle.thes_machine.specs.Kept.{Kept}
 use Rattle.thes_exchange.specs.CoreDesk.{CoreServes, is_unspent, IsLed}
 use Rattle.thes_exchange.specs.Script.{scene, Completes, Stops}
 use Rattle.thes_exchange.specs.declared.script.Ended.{Ended}

@@ -8,7 +8,7 @@ use Rattle.thes_base.specs.declared.fault.Fault.TheVariants.{OutOfMemory}
 use Rattle.thes_base.specs.declared.fault.PipeFault.{PipeFault}
 use Rattle.thes_base.specs.declared.fault.PipeFault.TheVariants.{Fault}
 use Rattle.thes_base.specs.declared.pipe.Pipe.{Pipe}
-use Rattle.thes_core.specs.Kept.{Kept}
+use Rattle.thes_machine.specs.Kept.{Kept}
 use Rattle.thes_exchange.specs.CoreDesk.{CoreServes, is_unspent, IsLed}
 use Rattle.thes_exchange.specs.Script.{scene, Completes, Stops}
 use Rattle.thes_exchange.specs.declared.script.Ended.{Ended}

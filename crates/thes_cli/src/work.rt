@@ -14,9 +14,9 @@ use thes_base::data::Limits;
 use thes_base::fault::{Fault, PipeFault};
 use thes_base::pipe::Pipe;
 use thes_base::text::Base;
-use thes_core::Core;
 use thes_exchange::core_desk::core_script;
 use thes_exchange::script::Ended;
+use thes_machine::Machine;
 
 // The base of a store that is given none.
 const BASE: &str = "https://thesaurus.example/id/";
@@ -24,12 +24,12 @@ const BASE: &str = "https://thesaurus.example/id/";
 const NOT_TEXT: &str = "thesaurus: a word of the command line is not UTF-8\n";
 
 // An empty store.
-fn new_store(alloc: Global) -> Result<Core, AllocError>
+fn new_store(alloc: Global) -> Result<Machine, AllocError>
     ensures { IfOk result IsNewStore }
 {
     // It has the form of a base, so the only cause of an error is memory.
     let base = Base::read(alloc, BASE).map_err(|_| AllocError)?;
-    Ok(Core::new(alloc, base, Limits::default()))
+    Ok(Machine::new(alloc, base, Limits::default()))
 }
 
 // Answers a script over a new store.
@@ -43,8 +43,8 @@ fn answer_script<R: Read, W: Write>(
     ensures { AnswersScript R.remaining W.contents input.old input.new output.old output.new result
         ⊎ HasNoStore R.remaining W.contents input.old input.new output.old output.new result }
 {
-    let mut core = new_store(alloc)?;
-    core_script(alloc, input, output, &mut core)
+    let mut machine = new_store(alloc)?;
+    core_script(alloc, input, output, &mut machine)
 }
 
 // Prints why nothing is done, and returns the status for it.

@@ -1,12 +1,12 @@
-//! The core as a library: requests in a list. Each is decided by `Core::decide`, and an accepted one applied by
-//! `Core::apply`, in a step of `Core::step`.
+//! The machine as a library: requests in a list. Each is decided by `Core::decide`, and an accepted one applied by
+//! `Core::apply`, in a step of `Machine::step`.
 use crate::run::{Store, push_command};
 use Answer::{Again, Done, No, Number};
 use std::alloc::Global;
 use std::process::Abort;
 use std::test::Fail;
 use thes_base::fault::Refusal;
-use thes_core::{Answer, Command};
+use thes_machine::{Answer, Command};
 
 // A scheme 1, its concepts 2 to 4 and its collection 5, and an outside concept 6, with links and postings; and what each
 // request is answered.

@@ -1,4 +1,4 @@
-//! What can be looked up in a core by calls that no request makes. (Those that a view makes are tried by the stored
+//! What can be looked up in a machine by calls that no request makes. (Those that a view makes are tried by the stored
 //! scripts of thes_scripts.)
 ghost use Rattle.std.specs.Prelude.{◌≡◌, false, IfSome};
 
@@ -7,18 +7,18 @@ use std::test::Fail;
 use thes_base::data::{Label, LabelKind, Link, LinkKind};
 use thes_base::number::{PostNo, ResNo};
 use thes_base::text::{Iri, Tag, Text};
-use thes_core::Core;
 use thes_core::reading::Sizes;
+use thes_machine::Machine;
 
-// A store that running out of memory has closed has no core to look into.
+// A store that running out of memory has closed has no machine to look into.
 impl Store {
-    fn open(&self) -> Option<&Core>
-        ensures { IfSome result (λ core. core.now.spent ≡ false) }
+    fn open(&self) -> Option<&Machine>
+        ensures { IfSome result (λ machine. machine.now.spent ≡ false) }
     {
-        if self.core.is_spent() {
+        if self.machine.is_spent() {
             return None;
         }
-        Some(&self.core)
+        Some(&self.machine)
     }
 
     fn sizes(&self) -> Option<Sizes> {

@@ -5,7 +5,7 @@ use thes_base::data::Limits;
 use thes_base::fault::{Fault, PipeFault, ReadStop};
 use thes_base::pipe::Pipe;
 use thes_base::text::Base;
-use thes_core::{Answer, Command, Core};
+use thes_machine::{Answer, Command, Machine};
 use thes_devices::{Filling, Halting};
 use thes_exchange::core_desk::core_script;
 use thes_exchange::request::{Memory, Request, read_request};
@@ -52,7 +52,7 @@ pub struct Outcome {
 /// A store, of which the tests see what scripts are answered, and what can be looked up (`readers.rt`).
 #[derive(Drop)]
 pub struct Store {
-    pub core: Core,
+    pub machine: Machine,
 }
 
 impl Store {
@@ -60,7 +60,7 @@ impl Store {
     pub fn new(alloc: Global) -> Result<Store, ReadStop> {
         let base = Base::read(alloc, BASE)?;
         Ok(Store {
-            core: Core::new(alloc, base, Limits::default()),
+            machine: Machine::new(alloc, base, Limits::default()),
         })
     }
 
@@ -71,12 +71,12 @@ impl Store {
         requests: Halting,
         answers: Filling,
     ) -> (Filling, Result<Ended, PipeFault>) {
-        if self.core.is_spent() {
+        if self.machine.is_spent() {
             return (answers, Err(PipeFault::Fault(Fault::OutOfMemory)));
         }
         let mut reader = Pipe::new(requests);
         let mut writer = Pipe::new(answers);
-        let ended = core_script(alloc, &mut reader, &mut writer, &mut self.core);
+        let ended = core_script(alloc, &mut reader, &mut writer, &mut self.machine);
         (writer.into_device(), ended)
     }
 
@@ -103,10 +103,10 @@ impl Store {
 
     /// Performs requests of a list, and adds their answers.
     pub fn run(&mut self, commands: &[Command], answers: &mut Vec<Answer>) -> Result<(), Fault> {
-        if self.core.is_spent() {
+        if self.machine.is_spent() {
             return Err(Fault::OutOfMemory);
         }
-        self.core.run(commands, answers)
+        self.machine.run(commands, answers)
     }
 }
 

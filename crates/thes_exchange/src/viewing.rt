@@ -1,4 +1,4 @@
-//! Views of what a core holds.
+//! Views of what a machine holds.
 ghost use Rattle.std.specs.Prelude.{◌≡◌, Some, None, false, IfOk, MatchResult};
 ghost use Rattle.thes_base.specs.Resources.{numbered};
 ghost use Rattle.thes_base.specs.Views.{IsShown};
@@ -10,17 +10,17 @@ use std::alloc::{AllocError, Global};
 use thes_base::data::{LabelKind, Resource, ResourceKind};
 use thes_base::fault::Refusal;
 use thes_base::number::{PostNo, ResNo};
-use thes_core::Core;
+use thes_machine::Machine;
 
 // The concept of a number, live or dead.
-fn concept_at<'a>(core: &'a Core, number: ResNo) -> Result<&'a Resource, Refusal>
-    requires { core.now.spent ≡ false }
+fn concept_at<'a>(machine: &'a Machine, number: ResNo) -> Result<&'a Resource, Refusal>
+    requires { machine.now.spent ≡ false }
     ensures { MatchResult result
-        (λ resource. unless_concept core.now.state number None
-        × (numbered core.now.state.resources number ≡ Some resource.now))
-        (λ refusal. unless_concept core.now.state number (Some refusal)) }
+        (λ resource. unless_concept machine.now.state number None
+        × (numbered machine.now.state.resources number ≡ Some resource.now))
+        (λ refusal. unless_concept machine.now.state number (Some refusal)) }
 {
-    let Some(resource) = core.resource(number) else {
+    let Some(resource) = machine.resource(number) else {
         return Err(Refusal::UnknownResource);
     };
     match resource.kind {
@@ -33,78 +33,78 @@ fn concept_at<'a>(core: &'a Core, number: ResNo) -> Result<&'a Resource, Refusal
 
 // What is shown of a concept.
 fn concept_shown<'a>(
-    core: &'a Core,
+    machine: &'a Machine,
     alloc: Global,
     number: ResNo,
     resource: &Resource,
 ) -> Result<ConceptView<'a>, AllocError>
-    requires unspent { core.now.spent ≡ false }
-    requires found { numbered core.now.state.resources number ≡ Some resource.now }
-    ensures { IfOk result (IsShown core.now.state number) }
+    requires unspent { machine.now.spent ≡ false }
+    requires found { numbered machine.now.state.resources number ≡ Some resource.now }
+    ensures { IfOk result (IsShown machine.now.state number) }
 {
-    let broader = core.broader_of(alloc, number)?;
+    let broader = machine.broader_of(alloc, number)?;
     let top = resource.live && broader.is_empty();
     Ok(ConceptView {
-        alt: core.labels_of_kind(alloc, number, LabelKind::Alt)?,
+        alt: machine.labels_of_kind(alloc, number, LabelKind::Alt)?,
         broader,
-        collections: core.collections_of(alloc, number)?,
-        hidden: core.labels_of_kind(alloc, number, LabelKind::Hidden)?,
+        collections: machine.collections_of(alloc, number)?,
+        hidden: machine.labels_of_kind(alloc, number, LabelKind::Hidden)?,
         live: resource.live,
-        mappings: core.mapped(alloc, number)?,
-        narrower: core.narrower_of(alloc, number)?,
+        mappings: machine.mapped(alloc, number)?,
+        narrower: machine.narrower_of(alloc, number)?,
         number,
-        postings: core.count(number),
-        pref: core.labels_of_kind(alloc, number, LabelKind::Pref)?,
-        related: core.related_of(alloc, number)?,
+        postings: machine.count(number),
+        pref: machine.labels_of_kind(alloc, number, LabelKind::Pref)?,
+        related: machine.related_of(alloc, number)?,
         replaced: resource.replaced,
         scheme: resource.scheme,
-        scope: core.labels_of_kind(alloc, number, LabelKind::Scope)?,
+        scope: machine.labels_of_kind(alloc, number, LabelKind::Scope)?,
         top,
-        typed: core.typed_of(alloc, number)?,
+        typed: machine.typed_of(alloc, number)?,
     })
 }
 
-fn concept_view<'a>(core: &'a Core, alloc: Global, number: ResNo) -> Result<View<'a>, AllocError>
-    requires { core.now.spent ≡ false }
-    ensures { IfOk result (IsView core.now.state (Query.Concept number)) }
+fn concept_view<'a>(machine: &'a Machine, alloc: Global, number: ResNo) -> Result<View<'a>, AllocError>
+    requires { machine.now.spent ≡ false }
+    ensures { IfOk result (IsView machine.now.state (Query.Concept number)) }
 {
-    match concept_at(core, number) {
-        Ok(resource) => Ok(View::Concept(concept_shown(core, alloc, number, resource)?)),
+    match concept_at(machine, number) {
+        Ok(resource) => Ok(View::Concept(concept_shown(machine, alloc, number, resource)?)),
         Err(refusal) => Ok(View::No(refusal)),
     }
 }
 
-fn postings_view<'a>(core: &'a Core, alloc: Global, concept: ResNo) -> Result<View<'a>, AllocError>
-    requires { core.now.spent ≡ false }
-    ensures { IfOk result (IsView core.now.state (Query.Postings concept)) }
+fn postings_view<'a>(machine: &'a Machine, alloc: Global, concept: ResNo) -> Result<View<'a>, AllocError>
+    requires { machine.now.spent ≡ false }
+    ensures { IfOk result (IsView machine.now.state (Query.Postings concept)) }
 {
-    match concept_at(core, concept) {
+    match concept_at(machine, concept) {
         Ok(_) => Ok(View::Postings(PostingRows {
-            rows: core.histories_at(alloc, concept)?,
+            rows: machine.histories_at(alloc, concept)?,
         })),
         Err(refusal) => Ok(View::No(refusal)),
     }
 }
 
-fn posting_view<'a>(core: &'a Core, number: PostNo) -> View<'a>
-    requires { core.now.spent ≡ false }
-    ensures { IsView core.now.state (Query.Posting number) result }
+fn posting_view<'a>(machine: &'a Machine, number: PostNo) -> View<'a>
+    requires { machine.now.spent ≡ false }
+    ensures { IsView machine.now.state (Query.Posting number) result }
 {
-    match core.history(number) {
+    match machine.history(number) {
         Some(history) => View::Posting(history),
         None => View::No(Refusal::UnknownPosting),
     }
 }
 
 /// The view that a query asks for, or the refusal.
-pub fn view_of<'a>(core: &'a Core, alloc: Global, query: &Query) -> Result<View<'a>, AllocError>
-    requires { core.now.spent ≡ false }
-    ensures { IfOk result (IsView core.now.state query.now) }
+pub fn view_of<'a>(machine: &'a Machine, alloc: Global, query: &Query) -> Result<View<'a>, AllocError>
+    requires { machine.now.spent ≡ false }
+    ensures { IfOk result (IsView machine.now.state query.now) }
 {
     match *query {
-        Query::Totals => Ok(View::Totals(core.totals())),
-        Query::Concept(number) => concept_view(core, alloc, number),
-        Query::Postings(concept) => postings_view(core, alloc, concept),
-        Query::Posting(number) => Ok(posting_view(core, number)),
+        Query::Totals => Ok(View::Totals(machine.totals())),
+        Query::Concept(number) => concept_view(machine, alloc, number),
+        Query::Postings(concept) => postings_view(machine, alloc, concept),
+        Query::Posting(number) => Ok(posting_view(machine, number)),
     }
 }

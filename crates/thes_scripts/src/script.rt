@@ -7,9 +7,9 @@ use thes_base::data::Limits;
 use thes_base::fault::{Fault, PipeFault};
 use thes_base::pipe::Pipe;
 use thes_base::text::Base;
-use thes_core::Core;
 use thes_exchange::core_desk::core_script;
 use thes_exchange::script::Ended;
+use thes_machine::Machine;
 
 // The base of each store.
 const BASE: &str = "https://thesaurus.example/id/";
@@ -48,10 +48,10 @@ fn answered<R: Read + Drop, W: Write>(
     let Ok(base) = Base::read(alloc, BASE) else {
         return (output, Err(PipeFault::Fault(Fault::OutOfMemory)));
     };
-    let mut core = Core::new(alloc, base, limits);
+    let mut machine = Machine::new(alloc, base, limits);
     let mut reader = Pipe::new(input);
     let mut writer = Pipe::new(output);
-    let ended = core_script(alloc, &mut reader, &mut writer, &mut core);
+    let ended = core_script(alloc, &mut reader, &mut writer, &mut machine);
     (writer.into_device(), ended)
 }
 
