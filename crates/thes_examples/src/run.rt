@@ -5,11 +5,11 @@ use thes_base::data::Limits;
 use thes_base::fault::{Fault, PipeFault, ReadStop};
 use thes_base::pipe::Pipe;
 use thes_base::text::Base;
-use thes_machine::{Answer, Command, Machine};
 use thes_devices::{Filling, Halting};
 use thes_exchange::core_desk::core_script;
 use thes_exchange::request::{Memory, Request, read_request};
 use thes_exchange::script::Ended;
+use thes_machine::{Answer, Command, Machine};
 
 // The base of the examples.
 const BASE: &str = "https://thesaurus.example/id/";

@@ -64,7 +64,11 @@ fn concept_shown<'a>(
     })
 }
 
-fn concept_view<'a>(machine: &'a Machine, alloc: Global, number: ResNo) -> Result<View<'a>, AllocError>
+fn concept_view<'a>(
+    machine: &'a Machine,
+    alloc: Global,
+    number: ResNo,
+) -> Result<View<'a>, AllocError>
     requires { machine.now.spent ≡ false }
     ensures { IfOk result (IsView machine.now.state (Query.Concept number)) }
 {
@@ -74,7 +78,11 @@ fn concept_view<'a>(machine: &'a Machine, alloc: Global, number: ResNo) -> Resul
     }
 }
 
-fn postings_view<'a>(machine: &'a Machine, alloc: Global, concept: ResNo) -> Result<View<'a>, AllocError>
+fn postings_view<'a>(
+    machine: &'a Machine,
+    alloc: Global,
+    concept: ResNo,
+) -> Result<View<'a>, AllocError>
     requires { machine.now.spent ≡ false }
     ensures { IfOk result (IsView machine.now.state (Query.Postings concept)) }
 {
@@ -97,7 +105,11 @@ fn posting_view<'a>(machine: &'a Machine, number: PostNo) -> View<'a>
 }
 
 /// The view that a query asks for, or the refusal.
-pub fn view_of<'a>(machine: &'a Machine, alloc: Global, query: &Query) -> Result<View<'a>, AllocError>
+pub fn view_of<'a>(
+    machine: &'a Machine,
+    alloc: Global,
+    query: &Query,
+) -> Result<View<'a>, AllocError>
     requires { machine.now.spent ≡ false }
     ensures { IfOk result (IsView machine.now.state query.now) }
 {

@@ -1,11 +1,8 @@
 -- What the machine holds, as its parts keep it.
-use Rattle.std.proofs.Common.{◌≡◌, List, ◌∙◌, ap, subst, sym, refl, inr, Bool, false}
+use Rattle.std.proofs.Common.{◌≡◌, List, ◌∙◌, ap, subst, sym, Bool, false}
 use Rattle.thes_base.specs.declared.data.History.{History}
-use Rattle.thes_base.specs.declared.request.Command.{Command}
-use Rattle.thes_base.specs.declared.request.Answer.{Answer}
 use Rattle.thes_base.specs.Headline.{IsInOrder}
-use Rattle.thes_base.specs.Machine.{Step, next_state, answer_of}
-use Rattle.thes_base.specs.Refusals.{Setting, IsSetting}
+use Rattle.thes_base.specs.Refusals.{IsSetting}
 use Rattle.thes_base.specs.State.{State}
 use Rattle.thes_base.proofs.MachineLemmas.{legal_is_in_order}
 use Rattle.thes_core.specs.Kept.{Holds, with_histories}

@@ -1,6 +1,6 @@
 -- What an accepted request leaves room for among the histories.
-use Rattle.std.proofs.Common.{◌≡◌, ◌≢◌, ◌<◌, ◌^◌, ◌+◌, ℕ, length, List, [], ◌∷◌, arith, rules, length-append}
-use Rattle.std.specs.Prelude.{None, Some, count_by}
+use Rattle.std.proofs.Common.{◌≢◌, ◌<◌, ◌^◌, ◌+◌, ℕ, length, List, [], ◌∷◌, arith, rules, length-append}
+use Rattle.std.specs.Prelude.{None}
 use Rattle.thes_base.specs.declared.request.Command.TheVariants as request
 use Rattle.thes_base.specs.Rows.{accepted}
 use Rattle.thes_base.specs.Resources.{IsConcept, scheme_of, replacements}
