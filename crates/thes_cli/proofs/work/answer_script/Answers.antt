@@ -11,6 +11,6 @@ returns-in_err-machine g c =
 pub returns : goal.returns
 returns g c = inl (
     answers g.R.Read.remaining g.W.Write.contents c.args.input.now c.core_script.new.reader c.args.output.now c.core_script.new.writer
-    c.in_ok-machine.machine c.core_script.new.machine c.core_script.result c.in_ok-core.ensures
+    c.in_ok-machine.machine c.core_script.new.machine c.core_script.result c.in_ok-machine.ensures
     c.core_script.ensures.completed c.core_script.ensures.stopped c.core_script.ensures.led c.core_script.ensures.in_order c.core_script.ensures.calls
     )
