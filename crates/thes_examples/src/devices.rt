@@ -1,10 +1,9 @@
 //! Readers and writers that fail in mid-stream, at each of their calls in turn.
 use crate::run::{Devices, SOUND, Store};
 use Failing::{FullWriter, Reader, Writer};
-use std::alloc::{AllocError, Global};
+use std::alloc::Global;
 use std::process::Abort;
 use std::test::Fail;
-use thes_base::fault::PipeFault;
 
 // Requests of which each changes what the views below show.
 static REQUESTS: &str = r#"{"do":"scheme","tag":"en","text":"Animals"}
@@ -27,7 +26,7 @@ static VIEWS: &str = r#"{"get":"totals"}
 "#;
 
 // The device that fails: a reader that breaks, a writer that breaks, or one that is full.
-#[derive(Clone, Copy, Debug, PartialEq, Eq)]
+#[derive(Clone, Copy)]
 enum Failing {
     Reader,
     Writer,
@@ -42,26 +41,33 @@ impl Failing {
                 writes: u32::MAX,
                 is_full: false,
             },
-            _ => Devices {
+            Writer => Devices {
                 reads: u32::MAX,
                 writes: calls,
-                is_full: self == FullWriter,
+                is_full: false,
+            },
+            FullWriter => Devices {
+                reads: u32::MAX,
+                writes: calls,
+                is_full: true,
             },
         }
     }
 
-    fn fault(self) -> PipeFault {
-        if self == Reader {
-            PipeFault::Read
-        } else {
-            PipeFault::Write
+    fn fault(self) -> &'static str {
+        match self {
+            Reader => "Read",
+            Writer | FullWriter => "Write",
         }
     }
 
     // How many requests were performed: those that are answered, and the one whose answer a writer failed to take.
     fn performed(self, written: &str) -> usize {
         let answered = written.matches('\n').count();
-        answered.saturating_add(usize::from(self != Reader))
+        match self {
+            Reader => answered,
+            Writer | FullWriter => answered.saturating_add(1),
+        }
     }
 }
 
@@ -69,21 +75,10 @@ fn views_of(alloc: Global, store: &mut Store) -> Result<String, Fail> {
     Ok(store.answer(alloc, VIEWS, SOUND)?.written)
 }
 
-// The first so many lines of a text.
-fn first(alloc: Global, text: &str, count: usize) -> Result<String, AllocError> {
-    let mut lines = String::new(alloc);
-    for line in text.lines().take(count) {
-        lines.push_str(line)?;
-        lines.push('\n')?;
-    }
-    Ok(lines)
-}
-
 // What the views show after the first so many requests.
 fn views_after(alloc: Global, count: usize) -> Result<String, Fail> {
     let mut store = Store::new(alloc)?;
-    let requests = first(alloc, REQUESTS, count)?;
-    let _ = store.answer(alloc, requests.as_str(), SOUND)?;
+    let _ = store.run(alloc, REQUESTS, count)?;
     views_of(alloc, &mut store)
 }
 
@@ -99,15 +94,15 @@ fn is_served(
     let mut store = Store::new(alloc)?;
     let run = store.answer(alloc, REQUESTS, failing.devices(calls))?;
     let written = run.written.as_str();
-    assert!(rt; whole.starts_with(written), "{failing:?} {calls}");
-    if run.ended.is_ok() {
-        assert_eq!(rt; written, whole, "{failing:?} {calls}");
+    if run.ended == "done" {
+        assert_eq!(rt; written, whole, "{calls}");
         return Ok(true);
     }
-    assert_eq!(rt; run.ended, Err(failing.fault()), "{failing:?} {calls}");
+    assert_eq!(rt; run.ended, failing.fault(), "{calls}");
+    assert!(rt; whole.starts_with(written), "{calls}");
     let wanted = views_after(alloc, failing.performed(written))?;
     let views = views_of(alloc, &mut store)?;
-    assert_eq!(rt; views.as_str(), wanted.as_str(), "{failing:?} {calls}");
+    assert_eq!(rt; views.as_str(), wanted.as_str(), "{calls}");
     Ok(false)
 }
 
@@ -126,13 +121,23 @@ fn is_ever_served(
     Ok(false)
 }
 
-#[test]
-fn a_device_may_fail_at_each_call(rt: HostRuntime) -> Result<(), Fail> {
-    let alloc = rt.alloc();
+fn expect_served(rt: &impl Abort, alloc: Global, failing: Failing) -> Result<(), Fail> {
     let whole = Store::new(alloc)?.answer(alloc, REQUESTS, SOUND)?.written;
-    for failing in [Reader, Writer, FullWriter] {
-        let is_whole = is_ever_served(&rt, alloc, whole.as_str(), failing)?;
-        assert!(rt; is_whole, "{failing:?}");
-    }
+    assert!(rt; is_ever_served(rt, alloc, whole.as_str(), failing)?);
     Ok(())
+}
+
+#[test]
+fn a_reader_may_break_at_each_call(rt: HostRuntime) -> Result<(), Fail> {
+    expect_served(&rt, rt.alloc(), Reader)
+}
+
+#[test]
+fn a_writer_may_break_at_each_call(rt: HostRuntime) -> Result<(), Fail> {
+    expect_served(&rt, rt.alloc(), Writer)
+}
+
+#[test]
+fn a_writer_may_be_full_at_each_call(rt: HostRuntime) -> Result<(), Fail> {
+    expect_served(&rt, rt.alloc(), FullWriter)
 }

@@ -16,10 +16,6 @@ mod library;
 #[cfg(test)]
 mod readers;
 #[cfg(test)]
-mod requests;
-#[cfg(test)]
 mod run;
 #[cfg(test)]
 mod scripts;
-#[cfg(test)]
-mod views;

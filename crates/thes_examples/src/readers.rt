@@ -2,13 +2,22 @@
 //! scripts of thes_scripts.)
 ghost use Rattle.std.specs.Prelude.{◌≡◌, false, IfSome};
 
-use crate::run::{Store, fill};
+use crate::run::{START, Store};
+use std::alloc::Global;
+use std::process::Abort;
 use std::test::Fail;
-use thes_base::data::{Label, LabelKind, Link, LinkKind};
+use thes_base::data::{LabelKind, Link, LinkKind};
 use thes_base::number::{PostNo, ResNo};
 use thes_base::text::{Iri, Tag, Text};
 use thes_core::Core;
-use thes_core::reading::Sizes;
+
+fn no(n: u32) -> ResNo {
+    ResNo::new(n.max(1))
+}
+
+fn number(n: Option<ResNo>) -> Option<u32> {
+    Some(n?.get())
+}
 
 // A store that running out of memory has closed has no core to look into.
 impl Store {
@@ -21,55 +30,84 @@ impl Store {
         Some(&self.core)
     }
 
-    fn sizes(&self) -> Option<Sizes> {
-        Some(self.open()?.sizes())
+    // Whether it has so many resources, labels, postings accepted and moves, no link, and no posting withdrawn.
+    fn has_sizes(&self, resources: u64, labels: u64, accepted: u64, moves: u64) -> bool {
+        let Some(core) = self.open() else {
+            return false;
+        };
+        let sizes = core.sizes();
+        sizes.resources == resources
+            && sizes.labels == labels
+            && sizes.links == 0
+            && sizes.accepted == accepted
+            && sizes.withdrawn == 0
+            && sizes.moves == moves
     }
 
-    fn place(&self, posting: PostNo) -> Option<ResNo> {
-        self.open()?.place(posting)
+    fn place(&self, posting: u32) -> Option<u32> {
+        number(self.open()?.place(PostNo::new(posting.max(1))))
     }
 
-    fn standing_at(&self, concept: ResNo) -> Option<&[PostNo]> {
-        Some(self.open()?.standing_at(concept))
+    // The posting that stands at the concept, where just one does.
+    fn posting_at(&self, concept: u32) -> Option<u32> {
+        match self.open()?.standing_at(no(concept)) {
+            [posting] => Some(posting.get()),
+            _ => None,
+        }
     }
 
-    fn is_live(&self, n: ResNo) -> Option<bool> {
-        Some(self.open()?.is_live(n))
+    fn is_live(&self, n: u32) -> Option<bool> {
+        Some(self.open()?.is_live(no(n)))
     }
 
-    fn preferred(&self, owner: ResNo, tag: &Tag) -> Option<&str> {
-        Some(self.open()?.preferred(owner, tag)?.as_str())
+    fn preferred(&self, alloc: Global, owner: u32, tag: &str) -> Result<Option<&str>, Fail> {
+        let tag = Tag::read(alloc, tag)?;
+        let core = self.open().ok_or("closed")?;
+        match core.preferred(no(owner), &tag) {
+            Some(text) => Ok(Some(text.as_str())),
+            None => Ok(None),
+        }
     }
 
-    fn labels_of(&self, owner: ResNo) -> Option<&[Label]> {
-        Some(self.open()?.labels_of(owner))
+    // The text of the owner's nth label, where it is of this kind.
+    fn label(&self, owner: u32, place: usize, kind: LabelKind) -> Option<&str> {
+        let label = self.open()?.labels_of(no(owner)).get(place)?;
+        if label.kind() != kind {
+            return None;
+        }
+        Some(label.text())
     }
 
-    fn holder(&self, scheme: ResNo, tag: &Tag, text: &Text) -> Option<ResNo> {
-        self.open()?.holder(scheme, tag, text)
+    fn label_count(&self, owner: u32) -> Option<usize> {
+        Some(self.open()?.labels_of(no(owner)).len())
     }
 
-    fn outside(&self, iri: &Iri) -> Option<ResNo> {
-        self.open()?.outside(iri)
+    fn holder(
+        &self,
+        alloc: Global,
+        scheme: u32,
+        tag: &str,
+        text: &str,
+    ) -> Result<Option<u32>, Fail> {
+        let tag = Tag::read(alloc, tag)?;
+        let text = Text::read(alloc, text)?;
+        let core = self.open().ok_or("closed")?;
+        Ok(number(core.holder(no(scheme), &tag, &text)))
     }
 
-    fn outside_iri(&self, n: ResNo) -> Option<&str> {
-        Some(self.open()?.outside_iri(n)?.as_str())
+    fn outside(&self, alloc: Global, iri: &str) -> Result<Option<u32>, Fail> {
+        let iri = Iri::read(alloc, iri)?;
+        let core = self.open().ok_or("closed")?;
+        Ok(number(core.outside(&iri)))
     }
 
-    fn has(&self, kind: LinkKind, a: ResNo, b: ResNo) -> Option<bool> {
+    fn outside_iri(&self, n: u32) -> Option<&str> {
+        Some(self.open()?.outside_iri(no(n))?.as_str())
+    }
+
+    fn has(&self, kind: LinkKind, a: u32, b: u32) -> Option<bool> {
+        let (a, b) = (no(a), no(b));
         Some(self.open()?.has(&Link { kind, a, b }))
-    }
-}
-
-fn sizes(resources: u64, labels: u64, accepted: u64, moves: u64) -> Sizes {
-    Sizes {
-        resources,
-        labels,
-        links: 0,
-        accepted,
-        withdrawn: 0,
-        moves,
     }
 }
 
@@ -78,70 +116,47 @@ const MERGED: &str = r#"{"do":"post","key":"k1","record":"r1","concept":2}
 {"do":"merge","source":2,"target":3}
 "#;
 
+fn filled(alloc: Global, requests: &str) -> Result<Store, Fail> {
+    let mut store = Store::new(alloc)?;
+    store.fill(alloc, START)?;
+    store.fill(alloc, requests)?;
+    Ok(store)
+}
+
 #[test]
 fn what_is_held_is_counted(rt: HostRuntime) -> Result<(), Fail> {
-    let mut store = Store::new(rt.alloc())?;
-    assert_eq!(rt; store.sizes(), Some(sizes(0, 0, 0, 0)));
-    fill(rt.alloc(), &mut store, MERGED)?;
-    assert_eq!(rt; store.sizes(), Some(sizes(4, 5, 1, 1)));
+    let store = Store::new(rt.alloc())?;
+    assert!(rt; store.has_sizes(0, 0, 0, 0));
+    let store = filled(rt.alloc(), MERGED)?;
+    assert!(rt; store.has_sizes(4, 5, 1, 1));
     Ok(())
 }
 
 #[test]
 fn what_a_merge_moved_is_told(rt: HostRuntime) -> Result<(), Fail> {
-    let mut store = Store::new(rt.alloc())?;
-    fill(rt.alloc(), &mut store, MERGED)?;
-    assert_eq!(rt; store.place(PostNo::new(1)), Some(ResNo::new(3)));
-    assert_eq!(rt; store.place(PostNo::new(2)), None);
-    let listed = store.standing_at(ResNo::new(3)).unwrap_or(&[]);
-    assert_eq!(rt; listed, [PostNo::new(1)].as_slice());
+    let store = filled(rt.alloc(), MERGED)?;
+    assert_eq!(rt; store.place(1), Some(3));
+    assert_eq!(rt; store.place(2), None);
+    assert_eq!(rt; store.posting_at(3), Some(1));
     for (n, live) in [(1, true), (2, false), (3, true), (5, false)] {
-        assert_eq!(rt; store.is_live(ResNo::new(n)), Some(live), "{n}");
+        assert_eq!(rt; store.is_live(n), Some(live), "{n}");
     }
     Ok(())
 }
 
+// A dead concept keeps its preferred label, and holds it no longer.
 #[test]
-fn labels_are_listed(rt: HostRuntime) -> Result<(), Fail> {
-    let mut store = Store::new(rt.alloc())?;
-    fill(rt.alloc(), &mut store, MERGED)?;
-    let wanted = [(LabelKind::Pref, "Mammals"), (LabelKind::Alt, "Cats")];
-    let labels = store.labels_of(ResNo::new(3)).unwrap_or(&[]);
-    assert_eq!(rt; labels.len(), wanted.len());
-    for (label, (kind, text)) in labels.iter().zip(wanted) {
-        assert_eq!(rt; label.kind(), kind);
-        assert_eq!(rt; label.text(), text);
-    }
-    Ok(())
-}
-
-#[test]
-fn a_preferred_label_is_told(rt: HostRuntime) -> Result<(), Fail> {
+fn labels_are_told(rt: HostRuntime) -> Result<(), Fail> {
     let alloc = rt.alloc();
-    let mut store = Store::new(alloc)?;
-    fill(alloc, &mut store, MERGED)?;
-    for (owner, tag, text) in [
-        (2, "en", Some("Cats")),
-        (3, "en", Some("Mammals")),
-        (3, "de", None),
-    ] {
-        let tag = Tag::read(alloc, tag)?;
-        assert_eq!(rt; store.preferred(ResNo::new(owner), &tag), text, "{owner}");
-    }
-    Ok(())
-}
-
-// A dead concept holds its preferred label no longer.
-#[test]
-fn the_holder_of_a_preferred_label_is_told(rt: HostRuntime) -> Result<(), Fail> {
-    let alloc = rt.alloc();
-    let mut store = Store::new(alloc)?;
-    fill(alloc, &mut store, MERGED)?;
-    let tag = Tag::read(alloc, "en")?;
-    for (text, holder) in [("Cats", None), ("Mammals", Some(ResNo::new(3)))] {
-        let name = Text::read(alloc, text)?;
-        assert_eq!(rt; store.holder(ResNo::new(1), &tag, &name), holder, "{text}");
-    }
+    let store = filled(alloc, MERGED)?;
+    assert_eq!(rt; store.label_count(3), Some(2));
+    assert_eq!(rt; store.label(3, 0, LabelKind::Pref), Some("Mammals"));
+    assert_eq!(rt; store.label(3, 1, LabelKind::Alt), Some("Cats"));
+    assert_eq!(rt; store.preferred(alloc, 2, "en")?, Some("Cats"));
+    assert_eq!(rt; store.preferred(alloc, 3, "en")?, Some("Mammals"));
+    assert_eq!(rt; store.preferred(alloc, 3, "de")?, None);
+    assert_eq!(rt; store.holder(alloc, 1, "en", "Cats")?, None);
+    assert_eq!(rt; store.holder(alloc, 1, "en", "Mammals")?, Some(3));
     Ok(())
 }
 
@@ -157,39 +172,32 @@ const LINKED: &str = r#"{"do":"collection","scheme":1,"tag":"en","text":"House a
 #[test]
 fn an_outside_concept_is_found(rt: HostRuntime) -> Result<(), Fail> {
     let alloc = rt.alloc();
-    let mut store = Store::new(alloc)?;
-    fill(alloc, &mut store, LINKED)?;
-    for (iri, number) in [
-        ("http://example.org/x", Some(ResNo::new(6))),
-        ("http://example.org/y", None),
-    ] {
-        assert_eq!(rt; store.outside(&Iri::read(alloc, iri)?), number, "{iri}");
-    }
-    assert_eq!(rt;
-        store.outside_iri(ResNo::new(6)),
-        Some("http://example.org/x")
-    );
-    assert_eq!(rt; store.outside_iri(ResNo::new(2)), None);
+    let store = filled(alloc, LINKED)?;
+    assert_eq!(rt; store.outside(alloc, "http://example.org/x")?, Some(6));
+    assert_eq!(rt; store.outside(alloc, "http://example.org/y")?, None);
+    assert_eq!(rt; store.outside_iri(6), Some("http://example.org/x"));
+    assert_eq!(rt; store.outside_iri(2), None);
     Ok(())
+}
+
+static LINKS: [(LinkKind, u32, u32, bool); 6] = [
+    (LinkKind::Broader, 2, 3, true),
+    (LinkKind::Broader, 3, 2, false),
+    (LinkKind::Related, 2, 4, true),
+    (LinkKind::Related, 4, 2, true),
+    (LinkKind::Close, 2, 6, true),
+    (LinkKind::Exact, 2, 6, false),
+];
+
+fn expect_links(rt: &impl Abort, store: &Store, links: &[(LinkKind, u32, u32, bool)]) {
+    for (kind, a, b, held) in links {
+        assert_eq!(rt; store.has(*kind, *a, *b), Some(*held), "{a} {b}");
+    }
 }
 
 #[test]
 fn links_are_found(rt: HostRuntime) -> Result<(), Fail> {
-    let mut store = Store::new(rt.alloc())?;
-    fill(rt.alloc(), &mut store, LINKED)?;
-    for (kind, a, b, held) in [
-        (LinkKind::Broader, 2, 3, true),
-        (LinkKind::Broader, 3, 2, false),
-        (LinkKind::Related, 2, 4, true),
-        (LinkKind::Related, 4, 2, true),
-        (LinkKind::Close, 2, 6, true),
-        (LinkKind::Exact, 2, 6, false),
-    ] {
-        assert_eq!(rt;
-            store.has(kind, ResNo::new(a), ResNo::new(b)),
-            Some(held),
-            "{a} {b}"
-        );
-    }
+    let store = filled(rt.alloc(), LINKED)?;
+    expect_links(&rt, &store, &LINKS);
     Ok(())
 }

@@ -1,31 +1,22 @@
 //! What a script does over readers and writers that break, and over a desk that closes.
 use crate::counter::Counter;
+use crate::run::ending;
 use std::alloc::Global;
 use std::io;
 use std::io::{Read, Write};
 use std::process::Abort;
-use thes_base::fault::{Fault, PipeFault};
 use thes_base::pipe::Pipe;
 use thes_devices::{Filling, Halting};
-use thes_exchange::script::{Ended, script};
+use thes_exchange::script::script;
 
-const DONE: Result<Ended, PipeFault> = Ok(Ended {
-    refused: false,
-    fault: None,
-});
-
-const REFUSED: Result<Ended, PipeFault> = Ok(Ended {
-    refused: true,
-    fault: None,
-});
-
-// Serves a script at a desk that closes after so many withdrawals: how it ends, whether the reader and the writer have failed, and the writer.
+// Serves a script at a desk that closes after so many withdrawals: how it ends, whether the reader and the writer have
+// failed, and the writer.
 fn served<R: Read + Drop, W: Write>(
     alloc: Global,
     input: R,
     output: W,
     most: u32,
-) -> (Result<Ended, PipeFault>, bool, bool, W) {
+) -> (&'static str, bool, bool, W) {
     let mut reader = Pipe::new(input);
     let mut writer = Pipe::new(output);
     let mut desk = Counter {
@@ -35,7 +26,7 @@ fn served<R: Read + Drop, W: Write>(
     };
     let ended = script(alloc, &mut reader, &mut writer, &mut desk);
     let (unread, unwritten) = (reader.failed(), writer.failed());
-    (ended, unread, unwritten, writer.into_device())
+    (ending(ended), unread, unwritten, writer.into_device())
 }
 
 // A writer that is full after so many calls, of which every other one takes a byte.
@@ -65,30 +56,30 @@ impl Write for Counting {
 }
 
 // A script, what it is answered, and how it ends.
-type Case = (&'static [u8], &'static [u8], Result<Ended, PipeFault>);
+type Case = (&'static [u8], &'static [u8], &'static str);
 
 static CASES: [Case; 8] = [
-    (b"", b"", DONE),
+    (b"", b"", "done"),
     (
         b"{\"do\":\"withdraw\",\"posting\":1}\r\n \t\n\n{\"get\":\"totals\"}\n{\"do\":\"withdraw\",\"posting\":2}",
         b"{\"ok\":1}\n{}\n{\"ok\":2}\n",
-        DONE,
+        "done",
     ),
-    (b"[1\n", b"{\"bad\":\"NotJson\"}\n", REFUSED),
-    (b"{\"do\":\"fly\"}\n", b"{\"bad\":\"BadShape\"}\n", REFUSED),
+    (b"[1\n", b"{\"bad\":\"NotJson\"}\n", "refused"),
+    (b"{\"do\":\"fly\"}\n", b"{\"bad\":\"BadShape\"}\n", "refused"),
     (
         b"{\"do\":\"merge\",\"source\":2,\"target\":3}\n",
         b"{\"no\":\"WrongKind\"}\n",
-        REFUSED,
+        "refused",
     ),
     (
         b"{\"get\":\"posting\",\"number\":1}\n",
         b"{\"no\":\"UnknownResource\"}\n",
-        REFUSED,
+        "refused",
     ),
     // a carriage return that no newline follows stands on its line
-    (b"\r", b"{\"bad\":\"NotJson\"}\n", REFUSED),
-    (b"\r\r\n", b"{\"bad\":\"NotJson\"}\n", REFUSED),
+    (b"\r", b"{\"bad\":\"NotJson\"}\n", "refused"),
+    (b"\r\r\n", b"{\"bad\":\"NotJson\"}\n", "refused"),
 ];
 
 fn expect_each(rt: &impl Abort, alloc: Global, cases: &[Case]) {
@@ -98,8 +89,8 @@ fn expect_each(rt: &impl Abort, alloc: Global, cases: &[Case]) {
             calls: u32::MAX,
         };
         let (ended, _, _, device) = served(alloc, input, filling(alloc, u32::MAX), 100);
-        assert_eq!(rt; ended, *wanted, "{bytes:?}");
-        assert_eq!(rt; device.bytes.as_slice(), *answers, "{bytes:?}");
+        assert_eq!(rt; ended, *wanted);
+        assert_eq!(rt; device.bytes.as_slice(), *answers);
     }
 }
 
@@ -121,11 +112,11 @@ fn is_read(rt: &impl Abort, alloc: Global, input: &[u8], text: &[u8], calls: u32
     };
     let (ended, unread, _, device) = served(alloc, reader, filling(alloc, u32::MAX), 100);
     let written = device.bytes;
-    if ended.is_ok() {
+    if ended == "refused" {
         assert!(rt; !unread && written.as_slice() == text);
         return true;
     }
-    assert_eq!(rt; ended, Err(PipeFault::Read));
+    assert_eq!(rt; ended, "Read");
     assert!(rt; unread && text.starts_with(&written));
     assert!(rt; written.is_empty() || written.ends_with(b"\n"));
     false
@@ -143,7 +134,7 @@ fn a_reader_that_breaks_leaves_whole_answers(rt: HostRuntime) {
 // A writer that is full after so many bytes has taken a front of the text.
 fn expect_stuck(rt: &impl Abort, alloc: Global, input: &[u8], front: &[u8], calls: u32) {
     let (ended, _, unwritten, device) = served(alloc, input, filling(alloc, calls), 100);
-    assert_eq!(rt; ended, Err(PipeFault::Write));
+    assert_eq!(rt; ended, "Write");
     assert!(rt; unwritten);
     assert_eq!(rt; device.bytes.as_slice(), front);
 }
@@ -163,7 +154,7 @@ fn a_writer_that_is_stuck_leaves_a_front(rt: HostRuntime) {
 
 fn expect_closed(rt: &impl Abort, alloc: Global, input: &[u8], text: &[u8]) {
     let (ended, _, _, device) = served(alloc, input, filling(alloc, u32::MAX), 1);
-    assert_eq!(rt; ended, Err(PipeFault::Fault(Fault::OutOfMemory)));
+    assert_eq!(rt; ended, "OutOfMemory");
     assert_eq!(rt; device.bytes.as_slice(), text);
 }
 
@@ -176,7 +167,7 @@ fn a_desk_that_closes_ends_the_script(rt: HostRuntime) {
 
 fn expect_writes(rt: &impl Abort, alloc: Global, input: &[u8], wanted: u32) {
     let (ended, _, _, device) = served(alloc, input, Counting { calls: 0 }, 100);
-    assert_eq!(rt; ended, REFUSED);
+    assert_eq!(rt; ended, "refused");
     assert_eq!(rt; device.calls, wanted);
 }
 
