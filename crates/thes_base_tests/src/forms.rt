@@ -3,7 +3,9 @@ use Form::{Base, Iri, Key, Note, Record, Tag, Text};
 use std::alloc::{AllocError, Global};
 use std::test::Fail;
 use thes_base::fault::{FormFault, ReadStop};
-use thes_base::text;
+use thes_base::form;
+use thes_base::form::{BaseForm, IriForm, KeyForm, NoteForm, RecordNameForm, TagForm, TextForm};
+use thes_base::text::{self, Formed};
 
 // What a text is read as.
 #[derive(Clone, Copy, Debug, PartialEq, Eq)]
@@ -29,64 +31,26 @@ impl Form {
     }
 }
 
-// What a clone shows, if it is equal to what was cloned.
-fn shown(alloc: Global, clone: &str, is_equal: bool) -> Result<String, ReadStop> {
-    let shown = if is_equal { clone } else { "another value" };
-    Ok(String::from_str(alloc, shown)?)
-}
-
-fn tag(alloc: Global, text: &str) -> Result<String, ReadStop> {
-    let read = text::Tag::read(alloc, text)?;
+// What a text of the form `F` is kept as, which its clone shows. Nothing if they are not equal.
+fn reread<F: form::Form>(alloc: Global, text: &str) -> Result<String, ReadStop> {
+    let read: Formed<F> = Formed::read(alloc, text)?;
     let clone = read.try_clone(alloc)?;
-    shown(alloc, clone.as_str(), read == clone)
-}
-
-fn text(alloc: Global, text: &str) -> Result<String, ReadStop> {
-    let read = text::Text::read(alloc, text)?;
-    let clone = read.try_clone(alloc)?;
-    shown(alloc, clone.as_str(), read == clone)
-}
-
-fn note(alloc: Global, text: &str) -> Result<String, ReadStop> {
-    let read = text::Note::read(alloc, text)?;
-    let clone = read.try_clone(alloc)?;
-    shown(alloc, clone.as_str(), read == clone)
-}
-
-fn iri(alloc: Global, text: &str) -> Result<String, ReadStop> {
-    let read = text::Iri::read(alloc, text)?;
-    let clone = read.try_clone(alloc)?;
-    shown(alloc, clone.as_str(), read == clone)
-}
-
-fn base(alloc: Global, text: &str) -> Result<String, ReadStop> {
-    let read = text::Base::read(alloc, text)?;
-    let clone = read.try_clone(alloc)?;
-    shown(alloc, clone.as_str(), read == clone)
-}
-
-fn key(alloc: Global, text: &str) -> Result<String, ReadStop> {
-    let read = text::Key::read(alloc, text)?;
-    let clone = read.try_clone(alloc)?;
-    shown(alloc, clone.as_str(), read == clone)
-}
-
-fn record(alloc: Global, text: &str) -> Result<String, ReadStop> {
-    let read = text::RecordName::read(alloc, text)?;
-    let clone = read.try_clone(alloc)?;
-    shown(alloc, clone.as_str(), read == clone)
+    if read != clone {
+        return Ok(String::new(alloc));
+    }
+    Ok(String::from_str(alloc, clone.as_str())?)
 }
 
 // What a text is kept as, if it has the form.
 fn kept(alloc: Global, form: Form, given: &str) -> Result<String, ReadStop> {
     match form {
-        Tag => tag(alloc, given),
-        Text => text(alloc, given),
-        Note => note(alloc, given),
-        Iri => iri(alloc, given),
-        Base => base(alloc, given),
-        Key => key(alloc, given),
-        Record => record(alloc, given),
+        Tag => reread::<TagForm>(alloc, given),
+        Text => reread::<TextForm>(alloc, given),
+        Note => reread::<NoteForm>(alloc, given),
+        Iri => reread::<IriForm>(alloc, given),
+        Base => reread::<BaseForm>(alloc, given),
+        Key => reread::<KeyForm>(alloc, given),
+        Record => reread::<RecordNameForm>(alloc, given),
     }
 }
 

@@ -7,6 +7,15 @@ use thes_base::number::{MoveNo, PostNo, ResNo};
 use thes_base::request::{Command, PostNos};
 use thes_base::text::{Key, Note, RecordName, Tag, Text};
 
+// Whether a value is equal to its clone. Both end here, since a function in which a value of many parts ends takes long to
+// prove.
+fn is_equal<T: PartialEq + Drop>(value: T, clone: Result<T, AllocError>) -> bool {
+    match clone {
+        Ok(clone) => value == clone,
+        Err(_) => false,
+    }
+}
+
 // A label's value that is no note.
 fn name(kind: LabelKind, text: Text) -> LabelValue {
     match kind {
@@ -25,14 +34,19 @@ fn value(alloc: Global, kind: LabelKind, text: &str) -> Result<LabelValue, ReadS
     Ok(name(kind, text))
 }
 
-// Whether a label of this kind shows its kind and its text, and is equal to its clone.
-fn is_shown(alloc: Global, kind: LabelKind, text: &str) -> Result<bool, ReadStop> {
-    let label = Label {
+fn label(alloc: Global, kind: LabelKind, text: &str) -> Result<Label, ReadStop> {
+    Ok(Label {
         tag: Tag::read(alloc, "en")?,
         value: value(alloc, kind, text)?,
-    };
-    let clone = label.try_clone(alloc)?;
-    Ok(label == clone && clone.kind() == kind && clone.text() == text)
+    })
+}
+
+// Whether a label of this kind shows its kind and its text, and is equal to its clone.
+fn is_shown(alloc: Global, kind: LabelKind, text: &str) -> Result<bool, ReadStop> {
+    let label = label(alloc, kind, text)?;
+    let shows = label.kind() == kind && label.text() == text;
+    let clone = label.try_clone(alloc);
+    Ok(is_equal(label, clone) && shows)
 }
 
 #[test]
@@ -48,35 +62,55 @@ fn a_label_shows_its_kind_and_its_text(rt: HostRuntime) -> Result<(), Fail> {
     Ok(())
 }
 
-fn history_of(alloc: Global, key: Key, rec: RecordName) -> History {
-    History {
+// A history of a posting with these moves.
+fn history(alloc: Global, moves: Moves) -> Result<History, ReadStop> {
+    let key = Key::read(alloc, "k1")?;
+    let rec = RecordName::read(alloc, "r1")?;
+    Ok(History {
         number: PostNo::new(1),
         key,
         rec,
         first: ResNo::new(2),
-        moves: Moves::new(alloc),
+        moves,
         withdrawn: false,
-    }
+    })
 }
 
-fn history(alloc: Global) -> Result<History, ReadStop> {
-    let key = Key::read(alloc, "k1")?;
-    let rec = RecordName::read(alloc, "r1")?;
-    Ok(history_of(alloc, key, rec))
+fn unmoved(alloc: Global) -> Result<History, ReadStop> {
+    history(alloc, Moves::new(alloc))
 }
 
-#[test]
-fn a_history_is_equal_to_its_clone(rt: HostRuntime) -> Result<(), Fail> {
-    let unmoved = history(rt.alloc())?;
-    let mut moved = unmoved.try_clone(rt.alloc())?;
-    moved.moves.push(Move {
+fn moved(alloc: Global) -> Result<History, ReadStop> {
+    let mut moves = Moves::new(alloc);
+    moves.push(Move {
         number: MoveNo::new(1),
         source: ResNo::new(2),
         target: ResNo::new(3),
     })?;
-    assert!(rt; moved == moved.try_clone(rt.alloc())?);
-    assert!(rt; moved != unmoved);
-    assert_eq!(rt; moved.moves.as_slice().len(), 1);
+    history(alloc, moves)
+}
+
+fn is_copied_history(alloc: Global, history: History) -> bool {
+    let clone = history.try_clone(alloc);
+    is_equal(history, clone)
+}
+
+#[test]
+fn a_history_is_equal_to_its_clone(rt: HostRuntime) -> Result<(), Fail> {
+    let moved_once = moved(rt.alloc())?;
+    assert_eq!(rt; moved_once.moves.as_slice().len(), 1);
+    assert!(rt; is_copied_history(rt.alloc(), moved_once));
+    assert!(rt; is_copied_history(rt.alloc(), unmoved(rt.alloc())?));
+    Ok(())
+}
+
+fn is_same_history(one: &History, other: &History) -> bool {
+    *one == *other
+}
+
+#[test]
+fn a_moved_history_is_another(rt: HostRuntime) -> Result<(), Fail> {
+    assert!(rt; !is_same_history(&moved(rt.alloc())?, &unmoved(rt.alloc())?));
     Ok(())
 }
 
@@ -93,13 +127,9 @@ fn the_usual_limits(rt: HostRuntime) {
     assert_eq!(rt; counts, [20_000, 200_000, 200_000, 100_000, 1_000_000]);
 }
 
-fn is_same_resource(new: &NewResource, clone: &NewResource) -> bool {
-    *new == *clone
-}
-
-fn is_copied(alloc: Global, new: &NewResource) -> Result<bool, AllocError> {
-    let clone = new.try_clone(alloc)?;
-    Ok(is_same_resource(new, &clone))
+fn is_copied(alloc: Global, new: NewResource) -> bool {
+    let clone = new.try_clone(alloc);
+    is_equal(new, clone)
 }
 
 #[test]
@@ -107,29 +137,24 @@ fn a_new_resource_is_equal_to_its_clone(rt: HostRuntime) -> Result<(), Fail> {
     let alloc = rt.alloc();
     for text in ["Animals", "Cats"] {
         let (tag, text) = (Tag::read(alloc, "en")?, Text::read(alloc, text)?);
-        assert!(rt; is_copied(alloc, &NewResource::Scheme(tag, text))?);
+        assert!(rt; is_copied(alloc, NewResource::Scheme(tag, text)));
     }
     for text in ["Cats", "Dogs"] {
         let (tag, text) = (Tag::read(alloc, "en")?, Text::read(alloc, text)?);
-        assert!(rt; is_copied(alloc, &NewResource::Concept(ResNo::new(1), tag, text))?);
+        assert!(rt; is_copied(alloc, NewResource::Concept(ResNo::new(1), tag, text)));
     }
     Ok(())
 }
 
-fn is_same_command(command: &Command, clone: &Command) -> bool {
-    *command == *clone
-}
-
-fn is_repeated(alloc: Global, command: &Command) -> Result<bool, AllocError> {
-    let clone = command.try_clone(alloc)?;
-    Ok(is_same_command(command, &clone))
+fn is_repeated(alloc: Global, command: Command) -> bool {
+    let clone = command.try_clone(alloc);
+    is_equal(command, clone)
 }
 
 #[test]
-fn a_merge_is_equal_to_its_clone(rt: HostRuntime) -> Result<(), Fail> {
+fn a_merge_is_equal_to_its_clone(rt: HostRuntime) {
     let merge = Command::Merge(ResNo::new(2), ResNo::new(3));
-    assert!(rt; is_repeated(rt.alloc(), &merge)?);
-    Ok(())
+    assert!(rt; is_repeated(rt.alloc(), merge));
 }
 
 fn post(alloc: Global) -> Result<Command, ReadStop> {
@@ -141,19 +166,32 @@ fn post(alloc: Global) -> Result<Command, ReadStop> {
 #[test]
 fn a_post_is_equal_to_its_clone(rt: HostRuntime) -> Result<(), Fail> {
     let post = post(rt.alloc())?;
-    assert!(rt; is_repeated(rt.alloc(), &post)?);
+    assert!(rt; is_repeated(rt.alloc(), post));
     Ok(())
+}
+
+fn listed(alloc: Global) -> Result<PostNos, AllocError> {
+    let list = [PostNo::new(2), PostNo::new(1)].to_vec(alloc)?;
+    Ok(PostNos::from(list))
+}
+
+fn pushed(alloc: Global) -> Result<PostNos, AllocError> {
+    let mut pushed = PostNos::new(alloc);
+    pushed.push(PostNo::new(2))?;
+    pushed.push(PostNo::new(1))?;
+    Ok(pushed)
+}
+
+fn is_copied_list(alloc: Global, list: PostNos) -> bool {
+    let clone = list.try_clone(alloc);
+    is_equal(list, clone)
 }
 
 #[test]
 fn a_list_of_postings_holds_what_was_pushed(rt: HostRuntime) -> Result<(), Fail> {
-    let list = [PostNo::new(2), PostNo::new(1)].to_vec(rt.alloc())?;
-    let listed = PostNos::from(list);
-    assert!(rt; listed == listed.try_clone(rt.alloc())?);
-    let mut pushed = PostNos::new(rt.alloc());
-    pushed.push(PostNo::new(2))?;
-    pushed.push(PostNo::new(1))?;
-    assert!(rt; pushed == listed);
-    assert_eq!(rt; pushed.as_slice().len(), 2);
+    let two = pushed(rt.alloc())?;
+    assert_eq!(rt; two.as_slice().len(), 2);
+    assert!(rt; is_equal(two, listed(rt.alloc())));
+    assert!(rt; is_copied_list(rt.alloc(), listed(rt.alloc())?));
     Ok(())
 }

@@ -1,11 +1,12 @@
 -- How the program ends after a script.
-use Rattle.std.specs.Prelude.{◌≡◌, ◌⊎◌, ◌++◌, ℕ, List, Bool, true, if◌then◌else◌, Option, Some, None, option_map, Result, Ok, Err, codes}
+use Rattle.std.specs.Prelude.{◌≡◌, ◌⊎◌, ◌++◌, ℕ, List, Bool, true, if◌then◌else◌, Option, Some, None, option_map, Result, Ok, Err, codes, decimal}
 use Rattle.std.specs.Io.KnownBytes.{Appends}
 use Rattle.thes_base.specs.Names.{pipe_text}
 use Rattle.thes_base.specs.Pipe.{failed_of, denied_of, written, AppendsFront}
 use Rattle.thes_base.specs.declared.fault.PipeFault.{PipeFault}
 use Rattle.thes_base.specs.declared.fault.PipeFault.TheVariants as faults
 use Rattle.thes_base.specs.declared.pipe.Pipe.{Pipe}
+use Rattle.thes_core.specs.declared.reading.Sizes.{Sizes}
 use Rattle.thes_exchange.specs.declared.script.Ended.{Ended}
 
 -- the fault that stopped the script, or else the last one that was answered
@@ -25,6 +26,21 @@ status_of (Ok ended) = status_with (option_map faults.Fault ended.fault) ended.r
 -- the line of a fault
 abbrev pub fault_line : PipeFault → List ℕ
 fault_line fault = codes "thesaurus: fault " ++ pipe_text fault ++ codes "\n"
+
+-- the line of the file that a store is in
+abbrev pub file_line : List ℕ → List ℕ
+file_line file = codes "thesaurus: store " ++ file ++ codes "\n"
+
+-- the name of a size, and the number
+abbrev pub size_text : List ℕ → ℕ → List ℕ
+size_text name size = name ++ decimal size
+
+-- how much a store holds
+abbrev pub sizes_line : Sizes → List ℕ
+sizes_line sizes =
+    size_text (codes "ok resources=") sizes.resources ++ size_text (codes " labels=") sizes.labels
+    ++ size_text (codes " links=") sizes.links ++ size_text (codes " accepted=") sizes.accepted
+    ++ size_text (codes " withdrawn=") sizes.withdrawn ++ size_text (codes " moves=") sizes.moves ++ codes "\n"
 
 -- the text was written, or a front of it where the writer failed or was denied a write
 abbrev pub Prints : {W : Type 0} → (W → Option (List ℕ)) → Pipe W → Pipe W → List ℕ → Type 0

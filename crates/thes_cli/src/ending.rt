@@ -1,13 +1,18 @@
 //! How the program ends after a script.
-ghost use Rattle.std.specs.Prelude.{◌≡◌, ◌⊎◌, true, MatchBool, MatchOption};
+ghost use Rattle.std.specs.Prelude.{◌≡◌, ◌⊎◌, ◌++◌, true, string_bytes, IfOk, OnOk, MatchBool, MatchOption};
 ghost use Rattle.std.specs.Io.KnownBytes.{Appends};
 ghost use Rattle.thes_base.specs.Pipe.{IsFresh, failed_of, denied_of, written, AppendsFront};
 ghost use Rattle.thes_cli.specs.Ending as ends;
 ghost use Rattle.thes_cli.specs.Ending.{Prints};
+ghost use Rattle.thes_cli.specs.Parting as parting;
+ghost use Rattle.thes_cli.specs.Parting.{PrintsText};
 
+use itoa::Buffer;
+use std::alloc::{AllocError, Global};
 use std::io::Write;
-use thes_base::fault::{Fault, PipeFault};
+use thes_base::fault::{Fault, FormFault, PipeFault};
 use thes_base::pipe::{Budget, Pipe};
+use thes_core::reading::Sizes;
 use thes_exchange::line::Line;
 use thes_exchange::script::Ended;
 
@@ -45,6 +50,16 @@ fn fault_line(fault: PipeFault) -> Line
     line
 }
 
+/// The line of a form's fault.
+pub fn form_line(fault: FormFault) -> Line
+    ensures { result ≡ parting.form_line fault }
+{
+    let mut line = Line::of("thesaurus: ");
+    line.push(fault.name());
+    line.push("\n");
+    line
+}
+
 /// Prints a text, and says whether all of it was written.
 pub fn print<W: Write>(writer: &mut Pipe<W>, text: &[u8]) -> bool
     requires { IsFresh writer.old }
@@ -54,6 +69,85 @@ pub fn print<W: Write>(writer: &mut Pipe<W>, text: &[u8]) -> bool
         × ((failed_of writer.new ≡ true) ⊎ (denied_of writer.new ≡ true))) }
 {
     writer.write_all(&mut Budget::new(), text).is_ok()
+}
+
+/// Prints a text to standard output, or the fault of its writer to standard error; and returns the status.
+pub fn print_out<W: Write, E: Write>(output: &mut Pipe<W>, errors: &mut Pipe<E>, text: &[u8]) -> u8
+    requires output { IsFresh output.old }
+    requires errors { IsFresh errors.old }
+    ensures { PrintsText W.contents E.contents output.old output.new errors.old errors.new text.now result }
+{
+    if print(output, text) {
+        0
+    } else {
+        tell(errors, PipeFault::Write)
+    }
+}
+
+// Adds the name of a size, and the number.
+fn push_size(line: &mut String, name: &str, size: u64) -> Result<(), AllocError>
+    ensures { OnOk result (string_bytes line.new ≡ string_bytes line.old ++ ends.size_text name.now size) }
+{
+    line.push_str(name)?;
+    line.push_str(Buffer::new().format(size))?;
+    Ok(())
+}
+
+/// Makes the line that tells how much a store holds.
+pub fn sizes_line(alloc: Global, sizes: &Sizes) -> Result<String, AllocError>
+    ensures { IfOk result (λ line. string_bytes line ≡ ends.sizes_line sizes.now) }
+{
+    let mut line = String::new(alloc);
+    push_size(&mut line, "ok resources=", sizes.resources)?;
+    push_size(&mut line, " labels=", sizes.labels)?;
+    push_size(&mut line, " links=", sizes.links)?;
+    push_size(&mut line, " accepted=", sizes.accepted)?;
+    push_size(&mut line, " withdrawn=", sizes.withdrawn)?;
+    push_size(&mut line, " moves=", sizes.moves)?;
+    line.push_str("\n")?;
+    Ok(line)
+}
+
+// The lines of a fault of the store in a file.
+fn fault_lines(alloc: Global, file: &str, fault: PipeFault) -> Result<Vec<u8>, AllocError>
+    ensures { IfOk result (λ lines. lines.items ≡ ends.file_line file.now ++ ends.fault_line fault) }
+{
+    let mut lines = Vec::new(alloc);
+    lines.extend_from_slice("thesaurus: store ".as_bytes())?;
+    lines.extend_from_slice(file.as_bytes())?;
+    lines.extend_from_slice("\n".as_bytes())?;
+    lines.extend_from_slice(fault_line(fault).as_bytes())?;
+    Ok(lines)
+}
+
+// Prints a text that tells a fault, and returns the status for one.
+fn tell_text<E: Write>(errors: &mut Pipe<E>, text: &[u8]) -> u8
+    requires { IsFresh errors.old }
+    ensures text { Prints E.contents errors.old errors.new text.now }
+    ensures status { result ≡ 3 }
+{
+    print(errors, text);
+    3
+}
+
+// Prints a fault of the store in a file, after the file; or alone, where there is no memory for both lines.
+fn tell_in<E: Write>(alloc: Global, errors: &mut Pipe<E>, file: &str, fault: PipeFault) -> u8
+    requires { IsFresh errors.old }
+    ensures { result ≡ 3 }
+{
+    match fault_lines(alloc, file, fault) {
+        Ok(lines) => tell_text(errors, lines.as_slice()),
+        Err(_) => tell(errors, fault),
+    }
+}
+
+/// Prints a fault of the store in a file, after the file, and returns the status for it. Where there is no memory for both
+/// lines it prints the fault alone.
+pub fn tell_of<E: Write>(alloc: Global, errors: &mut Pipe<E>, file: &str, fault: Fault) -> u8
+    requires { IsFresh errors.old }
+    ensures { result ≡ 3 }
+{
+    tell_in(alloc, errors, file, PipeFault::Fault(fault))
 }
 
 /// Prints a fault, and returns the status for it, which tells of the fault even where it can't be printed.

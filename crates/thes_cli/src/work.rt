@@ -1,98 +1,80 @@
-//! What the words of the command line ask for, done over three streams.
-ghost use Rattle.std.specs.Prelude.{◌⊎◌, IfOk};
-ghost use Rattle.std.specs.Process.{exit_status};
-ghost use Rattle.thes_base.specs.Pipe.{IsFresh};
-ghost use Rattle.thes_cli.specs.Parting.{Parts};
-ghost use Rattle.thes_cli.specs.Work.{IsNewStore, AnswersScript, HasNoStore, Works};
+//! What the program does with a new store in memory.
+ghost use Rattle.std.specs.Prelude.{◌≡◌};
+ghost use Rattle.thes_base.specs.Pipe.{IsFresh, KeepsToLimit};
+ghost use Rattle.thes_cli.specs.Work.{IsNewStore, AnswersScript, ChecksStore, Works};
 
-use crate::ending::{close, print, tell};
-use crate::words::{Parting, Task};
-use std::alloc::{AllocError, Global};
+use crate::ending::{close, print_out, sizes_line, tell};
+use crate::words::Task;
+use std::alloc::Global;
 use std::io::{Read, Write};
-use std::process::ExitCode;
 use thes_base::data::Limits;
 use thes_base::fault::{Fault, PipeFault};
 use thes_base::pipe::Pipe;
 use thes_base::text::Base;
-use thes_core::Core;
 use thes_exchange::core_desk::core_script;
 use thes_exchange::script::Ended;
+use thes_machine::Machine;
 
-// The base of a store that is given none.
-const BASE: &str = "https://thesaurus.example/id/";
-
-const NOT_TEXT: &str = "thesaurus: a word of the command line is not UTF-8\n";
-
-// An empty store.
-fn new_store(alloc: Global) -> Result<Core, AllocError>
-    ensures { IfOk result IsNewStore }
+// Makes an empty store.
+fn new_store(alloc: Global, base: Base) -> Machine
+    ensures { IsNewStore base result }
 {
-    // It has the form of a base, so the only cause of an error is memory.
-    let base = Base::read(alloc, BASE).map_err(|_| AllocError)?;
-    Ok(Core::new(alloc, base, Limits::default()))
+    Machine::new(alloc, base, Limits::default())
 }
 
 // Answers a script over a new store.
 fn answer_script<R: Read, W: Write>(
     alloc: Global,
+    base: Base,
     input: &mut Pipe<R>,
     output: &mut Pipe<W>,
 ) -> Result<Ended, PipeFault>
     requires input { IsFresh input.old }
     requires output { IsFresh output.old }
-    ensures { AnswersScript R.remaining W.contents input.old input.new output.old output.new result
-        ⊎ HasNoStore R.remaining W.contents input.old input.new output.old output.new result }
+    ensures { AnswersScript R.remaining W.contents input.old input.new output.old output.new base result }
 {
-    let mut core = new_store(alloc)?;
-    core_script(alloc, input, output, &mut core)
+    let mut machine = new_store(alloc, base);
+    core_script(alloc, input, output, &mut machine)
 }
 
-// Prints why nothing is done, and returns the status for it.
-fn part<W: Write, E: Write>(output: &mut Pipe<W>, errors: &mut Pipe<E>, parting: &Parting) -> u8
+// Tells how much a new store holds.
+fn check<W: Write, E: Write>(
+    alloc: Global,
+    base: Base,
+    output: &mut Pipe<W>,
+    errors: &mut Pipe<E>,
+) -> u8
     requires output { IsFresh output.old }
     requires errors { IsFresh errors.old }
-    ensures { Parts W.contents E.contents output.old output.new errors.old errors.new
-        parting.now result }
+    ensures { ChecksStore W.contents E.contents output.old output.new errors.old errors.new result }
 {
-    match parting {
-        Parting::Help(text) => {
-            if !print(output, text.as_bytes()) {
-                return tell(errors, PipeFault::Write);
-            }
-        }
-        Parting::Usage(text) => {
-            print(errors, text.as_bytes());
-        }
-        Parting::NotText => {
-            print(errors, NOT_TEXT.as_bytes());
-        }
-        Parting::OutOfMemory => {
-            tell(errors, PipeFault::Fault(Fault::OutOfMemory));
-        }
+    let machine = new_store(alloc, base);
+    match sizes_line(alloc, &machine.sizes()) {
+        Ok(line) => print_out(output, errors, line.as_bytes()),
+        Err(_) => tell(errors, PipeFault::Fault(Fault::OutOfMemory)),
     }
-    parting.status()
 }
 
-/// Runs a script, or prints why nothing is done, and returns the exit status.
+/// Does a task over a new store in memory, and returns the exit status.
 pub fn work<R: Read, W: Write, E: Write>(
     alloc: Global,
-    planned: &Result<Task, Parting>,
+    task: Task,
+    base: Base,
     input: &mut Pipe<R>,
     output: &mut Pipe<W>,
     errors: &mut Pipe<E>,
-) -> ExitCode
+) -> u8
     requires input { IsFresh input.old }
     requires output { IsFresh output.old }
     requires errors { IsFresh errors.old }
     ensures { Works R.remaining W.contents input.old input.new output.old output.new
-        E.contents errors.old errors.new planned.now (exit_status result) }
+        E.contents errors.old errors.new task base result }
 {
-    let status = match planned {
-        Ok(Task::Script) => {
-            let ended = answer_script(alloc, input, output);
+    match task {
+        Task::Script => {
+            let ended = answer_script(alloc, base, input, output);
             close(errors, &ended)
         }
-        Err(parting) => part(output, errors, parting),
-    };
-    ExitCode::from(status)
+        Task::Check => check(alloc, base, output, errors),
+    }
 }

@@ -1,137 +1,320 @@
 -- What the changes of the parts make of the whole.
-use Rattle.std.proofs.Common.{◌≡◌, ◌≢◌, ◌<◌, ◌^◌, ◌+◌, ℕ, length, List, [], ◌∷◌, ◌++◌, refl, sym, ap, ◌∙◌, subst, arith, rules, zero, suc, Bool, true, false}
-use Rattle.std.specs.Prelude.{None, Some}
+use Rattle.std.proofs.Common.{◌≡◌, ◌≢◌, ◌<◌, ◌^◌, ◌+◌, ℕ, length, List, [], ◌∷◌, ◌++◌, refl, sym, ap, ◌∙◌, subst, inr, arith, rules, zero, suc, ◌≤◌, Bool, true, false, length-append}
+use Rattle.std.specs.Prelude.{None, Some, Result, Ok, Err, OnOk, count_by}
 use Rattle.std.specs.Ordering.{nat_cmp}
 use Rattle.std.specs.FinSet as set
 use Rattle.thes_base.specs.declared.data.NewResource.{NewResource}
 use Rattle.thes_base.specs.declared.data.NewResource.TheVariants.{Scheme, Concept, Collection, Outside}
 use Rattle.thes_base.specs.declared.data.History.{History}
+use Rattle.thes_base.specs.declared.fault.Fault.{Fault}
+use Rattle.thes_base.specs.declared.request.Answer.{Answer}
+use Rattle.thes_base.specs.declared.request.Answer.TheVariants as reply
 use Rattle.thes_base.specs.declared.request.Command.{Command}
 use Rattle.thes_base.specs.declared.request.Command.TheVariants as request
 use Rattle.thes_base.specs.Rows.{accepted}
 use Rattle.thes_base.specs.Resources.{IsConcept, scheme_of, replacements, is_outside}
 use Rattle.thes_base.specs.Postings.{stands_at, standing_count, move_count}
-use Rattle.thes_base.specs.State.{State}
-use Rattle.thes_base.specs.Changes.{histories_split, scheme_resource, collection_resource, concept_resource, split_off, is_listed, next_number}
+use Rattle.thes_base.specs.State.{State, empty_state}
+use Rattle.thes_base.specs.Changes.{histories_split, histories_posted, new_history, scheme_resource, collection_resource, concept_resource, split_off, is_listed, next_number}
 use Rattle.thes_base.specs.Headline.{IsInOrder}
 use Rattle.thes_base.specs.Legal.{Legal}
 use Rattle.thes_base.specs.Texts.{HasForms}
-use Rattle.thes_base.specs.Machine.{next_state}
+use Rattle.thes_base.specs.Machine.{Step, next_state, answer_of}
 use Rattle.thes_base.specs.Refusals.{Setting, IsSetting, unless_unique, unless_listed}
 use Rattle.thes_base.proofs.Forwarding.{count_posted}
 use Rattle.thes_base.proofs.ListedLemmas.{listed_count}
 use Rattle.thes_base.proofs.MachineLemmas.{legal_empty, legal_is_in_order}
 use Rattle.thes_base.proofs.MoveLemmas.{count_moved}
 use Rattle.thes_base.proofs.NumberedLemmas.{numbered_bound}
-use Rattle.thes_base.proofs.RowLemmas.{passed_unless}
+use Rattle.thes_base.proofs.RowLemmas.{passed_unless, passed_if}
 use Rattle.thes_base.proofs.Sound.{IsSound}
 use Rattle.thes_vocab.specs.Vocabulary.{Vocabulary, empty_vocabulary}
 use Rattle.thes_vocab.specs.Requests.{unless_new, with_new}
 use Rattle.thes_graph.specs.Net.{Net}
+use Rattle.thes_post.specs.Sums.{Sums, AreSums, SomeMoved}
+use Rattle.thes_post.proofs.SumLemmas.{AllStand, all_stand, both_fit, fewer_than, sums_moved, sums_none}
 use Rattle.thes_core.specs.declared.thesaurus.Thesaurus.{Thesaurus}
-use Rattle.thes_core.specs.Kept.{Kept}
-use Rattle.thes_core.specs.Requests.{Allows, Becomes, command_of, is_foreign}
-use Rattle.thes_core.specs.View.{state_of, setting_of, IsKept}
+use Rattle.thes_core.specs.Kept.{Kept, Holds, with_histories, without_postings}
+use Rattle.thes_core.specs.Decides.{Accepts, Makes, Performs}
+use Rattle.thes_core.specs.declared.facts.Facts.{Facts}
+use Rattle.thes_core.specs.Facts.{AreFacts}
+use Rattle.thes_core.specs.Requests.{Allows, AreMeant, Becomes, Counts, MayChange, Remakes, command_of, is_foreign}
+use Rattle.thes_core.specs.View.{state_of, setting_of, kept_of, IsKept}
+use Rattle.thes_core.proofs.FactLemmas.{listed_stand}
 use Rattle.thes_core.proofs.JudgeLemmas.{name_allowed}
-use Rattle.thes_core.proofs.NextLemmas.{next_sound, next_legal}
+use Rattle.thes_core.proofs.NextLemmas.{next_sound, next_legal, step_of_accepted}
 use Rattle.thes_core.proofs.OutsideLemmas.{knows_pushed, knows_marked}
 
 -- The parts after a change, each as it is known, make the state.
-pub becomes : {old new : Thesaurus} {s : State} {v : Vocabulary} {g : Net} {b : List History} → new.vocab ≡ v → new.graph ≡ g → new.book ≡ b → new.limits ≡ old.limits
-    → record { resources = v.resources; iris = v.iris; labels = v.labels; links = g.links; histories = b } ≡ s → v.base ≡ old.vocab.base → ((n : ℕ) → set.contains g.outside n ≡ is_outside v.resources n) → Becomes old s new
-becomes {old} {new} {s} {v} {g} {b} is_v is_g is_b is_l is_s base knows = record {
-  state = (λ i. record { resources = (is_v i).resources; iris = (is_v i).iris; labels = (is_v i).labels; links = (is_g i).links; histories = is_b i }) ∙ is_s;
+pub becomes : {old new : Thesaurus} {s : State} {v : Vocabulary} {g : Net} → new.vocab ≡ v → new.graph ≡ g → new.limits ≡ old.limits
+    → record { resources = v.resources; iris = v.iris; labels = v.labels; links = g.links; histories = s.histories } ≡ s → v.base ≡ old.vocab.base → ((n : ℕ) → set.contains g.outside n ≡ is_outside v.resources n) → Becomes old s new
+becomes {old} {new} {s} {v} {g} is_v is_g is_l is_s base knows = record {
+  state = (λ i. record { resources = (is_v i).resources; iris = (is_v i).iris; labels = (is_v i).labels; links = (is_g i).links; histories = s.histories }) ∙ is_s;
   setting = (λ i. record { base = (is_v i).base; limits = is_l i }) ∙ (λ i. record { base = base i; limits = old.limits });
   outside = λ n. ap (λ (x : Net). set.contains x.outside n) is_g ∙ knows n ∙ ap (λ (x : Vocabulary). is_outside x.resources n) (sym is_v);
 }
 
 -- the next state of an accepted request is sound
-sound_after : (t : Thesaurus) (command : Command) → Allows t command → IsSound t.vocab.base (next_state command (state_of t))
-sound_after t command ok = next_sound (setting_of t) ok.kept.fit (state_of t) command ok.kept.legal ok.accepts
+sound_after : (t : Thesaurus) (hs : List History) (command : Command) → Allows t hs command → IsSound t.vocab.base (next_state command (state_of t hs))
+sound_after t hs command ok = next_sound (setting_of t) ok.kept.fit (state_of t hs) command ok.kept.legal ok.accepts
 
--- What is kept after an accepted request.
-pub kept_after : (old new : Thesaurus) (command : Command) → HasForms command → Allows old command → Becomes old (next_state command (state_of old)) new → IsKept new
-kept_after old new command forms ok made = record {
-  fit = subst IsSetting (sym made.setting) ok.kept.fit;
-  legal = subst (λ (x : List ℕ). Legal x (state_of new)) (sym (ap (λ (x : Setting). x.base) made.setting)) (subst (Legal old.vocab.base) (sym made.state) (next_legal (setting_of old) ok.kept.fit (state_of old) command forms ok.kept.legal ok.accepts));
+-- What is kept where the parts stand for a legal state.
+pub kept_after : (old new : Thesaurus) (s : State) → IsSetting (setting_of old) → Legal old.vocab.base s → Becomes old s new → IsKept new s.histories
+kept_after old new s fit legal made = record {
+  fit = subst IsSetting (sym made.setting) fit;
+  legal = subst (λ (x : List ℕ). Legal x (state_of new s.histories)) (sym (ap (λ (x : Setting). x.base) made.setting)) (subst (Legal old.vocab.base) (sym made.state) legal);
   outside = made.outside;
 }
 
--- The numbers of a merge's moves fit.
-pub merge_fits : (t : Thesaurus) (source target : ℕ) → Allows t (request.Merge source target) → move_count t.book + standing_count source t.book < 2 ^ 32
-merge_fits t source target ok =
-    let few = (sound_after t (request.Merge source target) ok).postings.few_moves in
-    let count = count_moved (stands_at source) target (move_count t.book + 1) t.book in
+-- The next state of a request that may be applied is legal without its postings.
+bare_legal : (t : Thesaurus) (command : Command) → HasForms command → MayChange t command → Legal t.vocab.base (without_postings (next_state command (state_of t [])))
+bare_legal t (request.Scheme tag text) forms (kept, ok) = next_legal (setting_of t) kept.fit (state_of t []) (request.Scheme tag text) forms kept.legal ok
+bare_legal t (request.Concept scheme tag text) forms (kept, ok) = next_legal (setting_of t) kept.fit (state_of t []) (request.Concept scheme tag text) forms kept.legal ok
+bare_legal t (request.Collection scheme tag text) forms (kept, ok) = next_legal (setting_of t) kept.fit (state_of t []) (request.Collection scheme tag text) forms kept.legal ok
+bare_legal t (request.Outside iri) forms (kept, ok) = next_legal (setting_of t) kept.fit (state_of t []) (request.Outside iri) forms kept.legal ok
+bare_legal t (request.AddLabel owner l) forms (kept, ok) = next_legal (setting_of t) kept.fit (state_of t []) (request.AddLabel owner l) forms kept.legal ok
+bare_legal t (request.DropLabel owner l) forms (kept, ok) = next_legal (setting_of t) kept.fit (state_of t []) (request.DropLabel owner l) forms kept.legal ok
+bare_legal t (request.Relabel owner tag text keep) forms (kept, ok) = next_legal (setting_of t) kept.fit (state_of t []) (request.Relabel owner tag text keep) forms kept.legal ok
+bare_legal t (request.Link kind a b) forms (kept, ok) = next_legal (setting_of t) kept.fit (state_of t []) (request.Link kind a b) forms kept.legal ok
+bare_legal t (request.Unlink kind a b) forms (kept, ok) = next_legal (setting_of t) kept.fit (state_of t []) (request.Unlink kind a b) forms kept.legal ok
+bare_legal t (request.Deprecate concept) forms (kept, ok) = next_legal (setting_of t) kept.fit (state_of t []) (request.Deprecate concept) forms kept.legal ok
+bare_legal t (request.Merge source target) forms (kept, ok) = next_legal (setting_of t) kept.fit (state_of t []) (request.Merge source target) forms kept.legal ok
+bare_legal t (request.Split source tag text postings) forms (kept, ok) = next_legal (setting_of t) kept.fit (state_of t []) (request.Split source tag text []) forms kept.legal ok
+bare_legal t (request.Post key rec concept) forms (kept, ok) = kept.legal
+bare_legal t (request.Withdraw posting) forms (kept, ok) = kept.legal
+
+-- What a request makes of a state, but for its postings, doesn't depend on them.
+next_parts : (t : Thesaurus) (hs : List History) (command : Command) → record (without_postings (next_state command (state_of t []))) { histories = (next_state command (state_of t hs)).histories } ≡ next_state command (state_of t hs)
+next_parts t hs (request.Scheme tag text) = refl
+next_parts t hs (request.Concept scheme tag text) = refl
+next_parts t hs (request.Collection scheme tag text) = refl
+next_parts t hs (request.Outside iri) = refl
+next_parts t hs (request.AddLabel owner l) = refl
+next_parts t hs (request.DropLabel owner l) = refl
+next_parts t hs (request.Relabel owner tag text keep) = refl
+next_parts t hs (request.Link kind a b) = refl
+next_parts t hs (request.Unlink kind a b) = refl
+next_parts t hs (request.Deprecate concept) = refl
+next_parts t hs (request.Merge source target) = refl
+next_parts t hs (request.Split source tag text postings) = refl
+next_parts t hs (request.Post key rec concept) = refl
+next_parts t hs (request.Withdraw posting) = refl
+
+-- So the parts stand for the next state of any histories.
+pub remade_for : (old new : Thesaurus) (hs : List History) (command : Command) → Remakes command old new → Becomes old (next_state command (state_of old hs)) new
+remade_for old new hs command made = record {
+  state = ap (λ (x : State). record x { histories = (next_state command (state_of old hs)).histories }) made.state ∙ next_parts old hs command;
+  setting = made.setting;
+  outside = made.outside;
+}
+
+-- The numbers of a merge's moves fit, and so do those who stand at the target then.
+pub merge_fits : (t : Thesaurus) (hs : List History) (source target : ℕ) → Allows t hs (request.Merge source target) → move_count hs + standing_count source hs < 2 ^ 32
+merge_fits t hs source target ok =
+    let few = (sound_after t hs (request.Merge source target) ok).postings.few_moves in
+    let count = count_moved (stands_at source) target (move_count hs + 1) hs in
     omega (arith, few, count)
 
--- The numbers of a posting's moves fit.
-pub post_fits : (t : Thesaurus) (key rec : List ℕ) (concept : ℕ) → Allows t (request.Post key rec concept) → move_count t.book + length (replacements t.vocab.resources concept) < 2 ^ 32
-post_fits t key rec concept ok =
-    let few = (sound_after t (request.Post key rec concept) ok).postings.few_moves in
-    let count = count_posted key rec concept (replacements t.vocab.resources concept) t.book in
+pub merge_apart : (t : Thesaurus) (hs : List History) (source target : ℕ) → Allows t hs (request.Merge source target) → source ≢ target
+merge_apart t hs source target ok = (passed_if (passed_unless (passed_unless (passed_unless ok.accepts.row).1).1).1).0
+
+pub merge_there : (t : Thesaurus) (hs : List History) (source target : ℕ) → Allows t hs (request.Merge source target) → standing_count target hs + standing_count source hs < 2 ^ 32
+merge_there t hs source target ok =
+    let apart = merge_apart t hs source target ok in
+    let fit = both_fit (stands_at source) source target apart (move_count hs + 1) hs (all_stand source target apart hs) in
+    let few = ok.kept.legal.postings.few in
+    omega (arith, fit, few)
+
+-- One more posting, and its moves.
+pub post_fits : (t : Thesaurus) (hs : List History) (key rec : List ℕ) (concept : ℕ) → Allows t hs (request.Post key rec concept) → move_count hs + length (replacements t.vocab.resources concept) < 2 ^ 32
+post_fits t hs key rec concept ok =
+    let few = (sound_after t hs (request.Post key rec concept) ok).postings.few_moves in
+    let count = count_posted key rec concept (replacements t.vocab.resources concept) hs in
     omega (arith, few, count)
+
+pub post_more : (t : Thesaurus) (hs : List History) (key rec : List ℕ) (concept : ℕ) → Allows t hs (request.Post key rec concept) → length hs + 1 < 2 ^ 32
+post_more t hs key rec concept ok =
+    let few = (sound_after t hs (request.Post key rec concept) ok).postings.few in
+    let count = length-append hs (new_history key rec concept (replacements t.vocab.resources concept) hs ∷ []) in
+    omega (arith, few, count)
+
+pub post_answer : (key rec : List ℕ) (concept : ℕ) (way : List ℕ) (hs : List History) → length (histories_posted key rec concept way hs) ≡ length hs + 1
+post_answer key rec concept way hs = length-append hs (new_history key rec concept way hs ∷ [])
+
+-- What a posting makes of the parts doesn't depend on its key and its record.
+pub remade_post : {E : Type 0} (r : Result Answer E) (t new : Thesaurus) (command : Command) (key rec : List ℕ) (concept : ℕ) → command ≡ request.Post key rec concept
+    → OnOk r ((k m : List ℕ) → Remakes (request.Post k m concept) t new) → OnOk r (Remakes command t new)
+remade_post (Ok answer) t new command key rec concept is made = subst (λ (k : Command). Remakes k t new) (sym is) (made key rec)
+remade_post (Err fault) t new command key rec concept is made = tt
 
 -- A new resource.
-module _ (t : Thesaurus) (kept : IsKept t) where
-  pub made_other : (new : NewResource) (v : Vocabulary) → is_foreign new ≡ false → v ≡ with_new new t.vocab → Becomes t (next_state (command_of new) (state_of t)) (record t { vocab = v })
-  made_other (Scheme tag text) v e is = becomes is refl refl refl refl refl (knows_pushed t kept.outside scheme_resource refl)
-  made_other (Concept scheme tag text) v e is = becomes is refl refl refl refl refl (knows_pushed t kept.outside (concept_resource (Some scheme)) refl)
-  made_other (Collection scheme tag text) v e is = becomes is refl refl refl refl refl (knows_pushed t kept.outside (collection_resource scheme) refl)
+module _ (t : Thesaurus) (kept : IsKept t []) where
+  pub made_other : (new : NewResource) (v : Vocabulary) → is_foreign new ≡ false → v ≡ with_new new t.vocab → Remakes (command_of new) t (record t { vocab = v })
+  made_other (Scheme tag text) v e is = becomes is refl refl refl refl (knows_pushed t kept.outside scheme_resource refl)
+  made_other (Concept scheme tag text) v e is = becomes is refl refl refl refl (knows_pushed t kept.outside (concept_resource (Some scheme)) refl)
+  made_other (Collection scheme tag text) v e is = becomes is refl refl refl refl (knows_pushed t kept.outside (collection_resource scheme) refl)
   made_other (Outside iri) v e is = absurd (cc)
 
-  pub made_outside : (new : NewResource) (v : Vocabulary) (g : Net) (n : ℕ) → is_foreign new ≡ true → v ≡ with_new new t.vocab → n ≡ length t.vocab.resources + 1 → g ≡ record t.graph { outside = set.insert t.graph.outside n } → Becomes t (next_state (command_of new) (state_of t)) (record t { vocab = v; graph = g })
-  made_outside (Outside iri) v g n e is number marked = becomes is (marked ∙ ap (λ (k : ℕ). record t.graph { outside = set.insert t.graph.outside k }) number) refl refl refl refl (knows_marked t kept.outside)
+  pub made_outside : (new : NewResource) (v : Vocabulary) (g : Net) (n : ℕ) → is_foreign new ≡ true → v ≡ with_new new t.vocab → n ≡ length t.vocab.resources + 1 → g ≡ record t.graph { outside = set.insert t.graph.outside n } → Remakes (command_of new) t (record t { vocab = v; graph = g })
+  made_outside (Outside iri) v g n e is number marked = becomes is (marked ∙ ap (λ (k : ℕ). record t.graph { outside = set.insert t.graph.outside k }) number) refl refl refl (knows_marked t kept.outside)
   made_outside (Scheme tag text) v g n e is number marked = absurd (cc)
   made_outside (Concept scheme tag text) v g n e is number marked = absurd (cc)
   made_outside (Collection scheme tag text) v g n e is number marked = absurd (cc)
 
+-- its number is the answer, and no posting is touched
+pub made_counts : (t changed : Thesaurus) (hs : List History) (new : NewResource) {n : ℕ} → n ≡ length t.vocab.resources + 1 → AreSums hs changed.book → Counts (command_of new) hs t changed (reply.Number n)
+made_counts t changed hs (Scheme tag text) is are = record { answer_is = ap reply.Number is; sums = are }
+made_counts t changed hs (Concept scheme tag text) is are = record { answer_is = ap reply.Number is; sums = are }
+made_counts t changed hs (Collection scheme tag text) is are = record { answer_is = ap reply.Number is; sums = are }
+made_counts t changed hs (Outside iri) is are = record { answer_is = ap reply.Number is; sums = are }
+
 -- A split.
-module _ (t : Thesaurus) (source : ℕ) (tag text : List ℕ) (postings : List ℕ) (ok : Allows t (request.Split source tag text postings)) where
+module _ (t : Thesaurus) (hs : List History) (source : ℕ) (tag text : List ℕ) (postings : List ℕ) (ok : Allows t hs (request.Split source tag text postings)) where
   abbrev after : State
-  after = split_off source tag text postings (state_of t)
+  after = split_off source tag text postings (state_of t hs)
 
   pub split_source : IsConcept t.vocab.resources source
   split_source = (passed_unless (passed_unless ok.accepts.row).1).0
 
-  pub split_fits : move_count t.book + length postings < 2 ^ 32
+  pub listed_row : unless_listed hs source postings accepted None
+  listed_row = let row = ok.accepts.row in search rules depth 16
+
+  pub split_count : count_by (is_listed postings) hs ≡ length postings
+  split_count = listed_count t.vocab.base (state_of t hs) source postings ok.kept.legal listed_row
+
+  pub split_fits : move_count hs + length postings < 2 ^ 32
   split_fits =
-      let few = (sound_after t (request.Split source tag text postings) ok).postings.few_moves in
-      let count = count_moved (is_listed postings) (next_number (state_of t)) (move_count t.book + 1) t.book in
-      let row = ok.accepts.row in
-      let passed : unless_listed t.book source postings accepted None = search rules depth 16 in
-      let listed = listed_count t.vocab.base (state_of t) source postings ok.kept.legal passed in
+      let few = (sound_after t hs (request.Split source tag text postings) ok).postings.few_moves in
+      let count = count_moved (is_listed postings) (next_number (state_of t hs)) (move_count hs + 1) hs in
+      let listed = split_count in
       omega (arith, few, count, listed)
 
   pub split_apart : (n : ℕ) → n ≡ length t.vocab.resources + 1 → source ≢ n
   split_apart n e same = let b = numbered_bound t.vocab.resources source split_source.0 split_source.1 in omega (arith, b, e, same)
+
+  pub all_listed : (n : ℕ) (apart : source ≢ n) → AllStand (is_listed postings) source n apart hs
+  all_listed n apart = listed_stand n apart hs postings (λ i h at. (ok.kept.legal.postings.sound (suc i) h at).number) listed_row
+
+  pub split_standing : (n : ℕ) → n ≡ length t.vocab.resources + 1 → length postings ≤ standing_count source hs
+  split_standing n e =
+      let apart = split_apart n e in
+      let less = fewer_than (is_listed postings) source n apart (move_count hs + 1) hs (all_listed n apart) in
+      let listed = split_count in
+      omega (arith, less, listed)
+
+  pub split_there : (n : ℕ) → n ≡ length t.vocab.resources + 1 → standing_count n hs + length postings < 2 ^ 32
+  split_there n e =
+      let apart = split_apart n e in
+      let fit = both_fit (is_listed postings) source n apart (move_count hs + 1) hs (all_listed n apart) in
+      let few = ok.kept.legal.postings.few in
+      let listed = split_count in
+      omega (arith, fit, few, listed)
+
+  pub split_sums : (n : ℕ) → n ≡ length t.vocab.resources + 1 → (old new : Sums) → AreSums hs old → SomeMoved source n (length postings) old new → AreSums after.histories new
+  split_sums n e old new are some = subst (λ (k : ℕ). AreSums (histories_split postings k hs) new) e
+      (let apart = split_apart n e in sums_moved (is_listed postings) source n apart (move_count hs + 1) hs (all_listed n apart) (length postings) (sym split_count) old new are some)
 
   module _ (scheme : ℕ) (is : scheme_of t.vocab.resources source ≡ Some scheme) where
     pub split_allowed : unless_new t.vocab (Concept scheme tag text) accepted None
     split_allowed =
         let row = ok.accepts.row in
         let unique : unless_unique after.resources after.labels accepted None = search rules depth 20 in
-        name_allowed t ok.kept source scheme tag text split_source is unique
+        name_allowed t hs ok.kept source scheme tag text split_source is unique
 
-    pub split_made : (v : Vocabulary) (b : List History) (n : ℕ) → v ≡ with_new (Concept scheme tag text) t.vocab → n ≡ length t.vocab.resources + 1 → b ≡ histories_split postings n t.book → Becomes t after (record t { vocab = v; book = b })
-    split_made v b n is_v number is_b = becomes is_v refl (is_b ∙ ap (λ (k : ℕ). histories_split postings k t.book) number) refl
-        (λ i. record after { resources = t.vocab.resources ++ concept_resource (sym is i) ∷ [] })
+    pub split_made : (v : Vocabulary) (b : Sums) → v ≡ with_new (Concept scheme tag text) t.vocab → Becomes t (without_postings after) (record t { vocab = v; book = b })
+    split_made v b is_v = becomes is_v refl refl
+        (λ i. record (without_postings after) { resources = t.vocab.resources ++ concept_resource (sym is i) ∷ [] })
         refl (knows_pushed t ok.kept.outside (concept_resource (Some scheme)) refl)
 
 -- What is kept is in order.
-pub kept_in_order : (t : Thesaurus) → IsKept t → IsInOrder t.vocab.base (state_of t)
-kept_in_order t kept = legal_is_in_order t.vocab.base (state_of t) kept.legal
+pub held_in_order : (k : Kept) (s : State) → Holds k s → IsInOrder k.setting.base s
+held_in_order k s holds = legal_is_in_order k.setting.base s holds.legal
 
-pub in_order_at : (t : Thesaurus) (spent : Bool) (k : Kept) → record { state = state_of t; setting = setting_of t; spent = spent } ≡ k → k.spent ≡ false → (spent ≡ false → IsKept t) → IsInOrder k.setting.base k.state
-in_order_at t spent k is unspent kept = subst (λ (x : Kept). IsInOrder x.setting.base x.state) is (kept_in_order t (kept (ap (λ (x : Kept). x.spent) is ∙ unspent)))
+-- What the parts show where they aren't spent.
+pub held_unspent : (t : Thesaurus) (spent : Bool) (k : Kept) → kept_of t spent ≡ k → k.spent ≡ false → kept_of t false ≡ k
+held_unspent t spent k is unspent = ap (kept_of t) (sym (ap (λ (x : Kept). x.spent) is ∙ unspent)) ∙ is
+
+-- What a core holds, as its parts keep it; and back.
+module _ (t : Thesaurus) (spent : Bool) (k : Kept) (is : kept_of t spent ≡ k) (s : State) where
+  pub held_state : Holds k s → state_of t s.histories ≡ s
+  held_state holds = ap (with_histories s.histories) is ∙ holds.state
+
+  pub held_setting : setting_of t ≡ k.setting
+  held_setting = ap (λ (x : Kept). x.setting) is
+
+  pub held_sums : Holds k s → AreSums s.histories t.book
+  held_sums holds = subst (AreSums s.histories) (ap (λ (x : Kept). x.sums) (sym is)) holds.sums
+
+  pub held_kept : IsKept t [] → Holds k s → IsKept t s.histories
+  held_kept fit holds = record {
+    fit = fit.fit;
+    legal = subst (λ (p : List ℕ × State). Legal p.0 p.1) (λ i. (ap (λ (x : Kept). x.setting.base) (sym is) i, sym (held_state holds) i)) holds.legal;
+    outside = fit.outside;
+  }
+
+pub held_of : (t : Thesaurus) (spent : Bool) (s : State) → state_of t s.histories ≡ s → IsKept t s.histories → AreSums s.histories t.book → Holds (kept_of t spent) s
+held_of t spent s is kept sums = record { state = is; sums = sums; legal = subst (Legal t.vocab.base) is kept.legal }
+
+-- What an accepted request makes of a core.
+module _ (t : Thesaurus) (spent : Bool) (k : Kept) (is : kept_of t spent ≡ k) (s : State) (fit : IsKept t []) (holds : Holds k s) (command : Command) (accepts : Accepts k.setting s command) where
+  pub held_allows : Allows t s.histories command
+  held_allows = record {
+    kept = held_kept t spent k is s fit holds;
+    accepts = subst (λ (p : Setting × State). Accepts p.0 p.1 command) (λ i. (sym (held_setting t spent k is s) i, sym (held_state t spent k is s holds) i)) accepts;
+  }
+
+  pub held_meant : (facts : Facts) → AreFacts command s.histories facts → AreMeant t command facts s.histories
+  held_meant facts are = record { allows = held_allows; sums = held_sums t spent k is s holds; told = are }
+
+  module _ (new : Thesaurus) (answer : Answer) (forms : HasForms command) (made : Remakes command t new) (counts : Counts command s.histories t new answer) where
+    abbrev next : State
+    next = next_state command (state_of t s.histories)
+
+    made_next : Becomes t next new
+    made_next = remade_for t new s.histories command made
+
+    kept_new : IsKept new next.histories
+    kept_new = kept_after t new next held_allows.kept.fit (next_legal (setting_of t) held_allows.kept.fit (state_of t s.histories) command forms held_allows.kept.legal held_allows.accepts) made_next
+
+    pub makes_new : Makes k (next_state command s) (answer_of command s) (Ok answer) (kept_of new false)
+    makes_new =
+        let same = held_state t spent k is s holds in (
+          counts.answer_is ∙ ap (answer_of command) same,
+          subst (Holds (kept_of new false)) (ap (next_state command) same) (held_of new false next made_next.state kept_new counts.sums),
+          refl,
+          made_next.setting ∙ held_setting t spent k is s,
+        )
+
+-- What is kept after a request that may be applied.
+pub fit_new : (t new : Thesaurus) (command : Command) → HasForms command → MayChange t command → Remakes command t new → IsKept new []
+fit_new t new command forms may made = kept_after t new (without_postings (next_state command (state_of t []))) may.0.fit (bare_legal t command forms may) made
+
+-- So a step of the machine is made.
+pub performs_made : (old new : Kept) (s : State) (command : Command) (result : Result Answer Fault) → Accepts old.setting s command → Makes old (next_state command s) (answer_of command s) result new → Performs old s command result new
+performs_made old new s command (Ok answer) accepts makes =
+    (next_state command s, subst (λ (a : Answer). Step old.setting s command a (next_state command s)) (sym makes.0) (step_of_accepted old.setting s command accepts), makes.1, makes.2, makes.3)
+performs_made old new s command (Err fault) accepts makes = (makes.0, inr makes.1)
+
+pub order_made : (k : Kept) (result : Result Answer Fault) → OnOk result ((s : State) → Holds k s → IsInOrder k.setting.base s)
+order_made k (Ok answer) = held_in_order k
+order_made k (Err fault) = tt
 
 none_outside : (n : ℕ) → is_outside [] n ≡ false
 none_outside zero = refl
 none_outside (suc n) = refl
 
 -- What is kept where there is nothing yet.
-pub kept_empty : (t : Thesaurus) (base : List ℕ) → IsSetting (record { base = base; limits = t.limits }) → t.vocab ≡ empty_vocabulary base → t.graph ≡ record { links = set.empty; outside = set.empty } → t.book ≡ [] → IsKept t
-kept_empty t base fit vocab graph book = record {
-  fit = subst IsSetting (λ i. record { base = (sym vocab i).base; limits = t.limits }) fit;
-  legal = subst (λ (p : Vocabulary × (Net × List History)). Legal p.0.base (record { resources = p.0.resources; iris = p.0.iris; labels = p.0.labels; links = p.1.0.links; histories = p.1.1 })) (λ i. (sym vocab i, (sym graph i, sym book i))) (legal_empty base fit.base_form);
-  outside = λ n. ap (λ (g : Net). set.contains g.outside n) graph ∙ set.contains-empty nat_cmp n ∙ sym (none_outside n) ∙ ap (λ (v : Vocabulary). is_outside v.resources n) (sym vocab);
-}
+module _ (t : Thesaurus) (base : List ℕ) (fit : IsSetting (record { base = base; limits = t.limits })) (vocab : t.vocab ≡ empty_vocabulary base) (graph : t.graph ≡ record { links = set.empty; outside = set.empty }) (book : t.book ≡ record { counts = []; accepted = 0; withdrawn = 0; moves = 0 }) where
+  pub fit_empty : IsKept t []
+  fit_empty = record {
+    fit = subst IsSetting (λ i. record { base = (sym vocab i).base; limits = t.limits }) fit;
+    outside = λ n. ap (λ (g : Net). set.contains g.outside n) graph ∙ set.contains-empty nat_cmp n ∙ sym (none_outside n) ∙ ap (λ (v : Vocabulary). is_outside v.resources n) (sym vocab);
+    legal = subst (λ (x : Vocabulary × Net). Legal x.0.base (record { resources = x.0.resources; iris = x.0.iris; labels = x.0.labels; links = x.1.links; histories = [] })) (λ i. (sym vocab i, sym graph i)) (legal_empty base fit.base_form);
+  }
+
+  pub held_empty : Holds (kept_of t false) empty_state
+  held_empty = record {
+    state = λ i. record { resources = (vocab i).resources; iris = (vocab i).iris; labels = (vocab i).labels; links = (graph i).links; histories = [] };
+    sums = subst (AreSums []) (sym book) sums_none;
+    legal = subst (λ (x : List ℕ). Legal x empty_state) (ap (λ (v : Vocabulary). v.base) (sym vocab)) (legal_empty base fit.base_form);
+  }

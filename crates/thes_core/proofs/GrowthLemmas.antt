@@ -25,7 +25,7 @@ use Rattle.thes_base.proofs.Forwarding.{count_posted}
 use Rattle.thes_base.proofs.MoveLemmas.{count_moved, length_moved}
 use Rattle.thes_base.proofs.NumberedLemmas.{numbered_bound}
 use Rattle.thes_core.specs.declared.room.Growth.{Growth}
-use Rattle.thes_core.specs.Room.{HasRoom}
+use Rattle.thes_core.specs.Room.{HasRoom, counts_of}
 
 -- a count that rises by so many, or doesn't rise where it is to rise by none
 abbrev pub Rises : ℕ → ℕ → ℕ → Type 0
@@ -47,7 +47,7 @@ fits_from limit before after more (inl e) fits = omega arith
 fits_from limit before after more (inr (none, less)) fits = omega arith
 
 module _ (limits : Limits) (s t : State) (growth : Growth) (grows : Grows s t growth) where
-  pub within_of_room : HasRoom limits s growth → IsWithin limits s t
+  pub within_of_room : HasRoom limits (counts_of s) growth → IsWithin limits s t
   within_of_room room = record {
     resources = fits_to _ _ _ _ grows.resources room.for_resources;
     labels = fits_to _ _ _ _ grows.labels room.for_labels;
@@ -56,7 +56,7 @@ module _ (limits : Limits) (s t : State) (growth : Growth) (grows : Grows s t gr
     moves = fits_to _ _ _ _ grows.moves room.for_moves;
   }
 
-  pub room_of_within : IsWithin limits s t → HasRoom limits s growth
+  pub room_of_within : IsWithin limits s t → HasRoom limits (counts_of s) growth
   room_of_within within = record {
     for_resources = fits_from _ _ _ _ grows.resources within.resources;
     for_labels = fits_from _ _ _ _ grows.labels within.labels;

@@ -1,7 +1,15 @@
+pub mod FactLemmas
 pub mod GrowthLemmas
 pub mod NextLemmas
 pub mod JudgeLemmas
 pub mod OutsideLemmas
 pub mod ApplyLemmas
 pub mod ShownLemmas
+pub mod MovingLemmas
+pub mod SeenLemmas
+pub mod DeltaLemmas
+pub mod MergedLinkLemmas
+pub mod TakenLemmas
+pub mod MergedLemmas
 pub mod DisplayLemmas
+pub mod PartLemmas

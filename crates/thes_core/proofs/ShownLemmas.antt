@@ -1,5 +1,5 @@
--- Lists that are shown: the labels of one kind, and the histories of the postings at a concept.
-use Rattle.std.proofs.Common.{◌≡◌, ◌<◌, ◌∙◌, refl, sym, ap, subst, ℕ, zero, suc, List, [], ◌∷◌, ◌++◌, length, map, filter, take, get_or, Option, Some, slice_get, Bool, true, false, cond, ◌==◌, ◌⊎◌, inl, inr, ⊎_elim, eqb-true, true≢false, add-one, ◌+◌, Bor, None, arith, rules}
+-- Lists that are shown: the labels of one kind.
+use Rattle.std.proofs.Common.{◌≡◌, ◌∙◌, refl, sym, ap, subst, ℕ, suc, List, [], ◌∷◌, map, filter, true, false, cond, ◌==◌, ◌⊎◌, inl, inr, ⊎_elim, eqb-true, true≢false, arith}
 use Rattle.std.specs.declared.cmp.Ordering.{Ordering}
 use Rattle.std.specs.declared.cmp.Ordering.TheVariants.{Less, Equal, Greater}
 use Rattle.std.specs.Ordering.{nat_cmp, ordering_then, eq_by_cmp}
@@ -10,16 +10,12 @@ use Rattle.std.specs.List.Sorted.{IsStrictlySortedBy}
 use Rattle.std.proofs.lemmas.List.Elements.{All-from_recursion, All-contains}
 use Rattle.std.proofs.lemmas.Bool.{or_cases, or_left, or_right}
 use Rattle.std.proofs.lemmas.Simd.{map-map}
-use Rattle.std.proofs.lemmas.List.{map-append}
-use Rattle.std.specs.Option.{option_copied, IsSome}
-use Rattle.thes_base.specs.declared.data.History.{History}
 use Rattle.thes_base.specs.declared.data.LabelKind.{LabelKind}
 use Rattle.thes_base.specs.declared.data.LabelKind.TheVariants.{Pref, Alt, Hidden, Scope}
 use Rattle.thes_base.specs.Data.{LabelData}
 use Rattle.thes_base.specs.Labels.{Label, Labels, HasLabel, label_kind_no}
 use Rattle.thes_base.specs.Listing.{IsListing}
 use Rattle.thes_base.specs.Machine.{owned}
-use Rattle.thes_base.specs.Resources.{numbered}
 use Rattle.thes_base.specs.Views.{Tagged, tagged_cmp}
 use Rattle.thes_base.proofs.LabelSets.{labels_total, labels_exact, same_kind}
 use Rattle.thes_vocab.specs.LabelData.{AreLabelsOf, data_cmp, has_own, own_label}
@@ -37,10 +33,10 @@ then_assoc Greater b c = refl
 as_owned : (x y : LabelData) → data_cmp x y ≡ ordering_then (nat_cmp (label_kind_no x.kind) (label_kind_no y.kind)) (tagged_cmp (tagged x) (tagged y))
 as_owned x y = then_assoc (nat_cmp (label_kind_no x.kind) (label_kind_no y.kind)) (slice_cmp nat_cmp x.tag y.tag) (slice_cmp nat_cmp x.text y.text)
 
-data_exact : (x y : LabelData) → data_cmp x y ≡ Equal → x ≡ y
+pub data_exact : (x y : LabelData) → data_cmp x y ≡ Equal → x ≡ y
 data_exact x y e = ap (λ (l : Label). record { kind = l.kind; tag = l.tag; text = l.text }) (labels_exact (owned 0 x) (owned 0 y) (sym (as_owned x y) ∙ e))
 
-data_itself : (x : LabelData) → eq_by_cmp data_cmp x x ≡ true
+pub data_itself : (x : LabelData) → eq_by_cmp data_cmp x x ≡ true
 data_itself x = (Equal-is (data_cmp x x)).1 (as_owned x x ∙ tied_itself labels_total (owned 0 x))
 
 kind_itself : (kind : LabelKind) → (label_kind_no kind == label_kind_no kind) ≡ true
@@ -115,39 +111,3 @@ module _ (kind : LabelKind) where
       → IsListing tagged_cmp (λ t. HasLabel labels owner kind t.tag t.text) (map (λ x. tagged (see x)) xs)
   listed_by see labels owner own xs a e =
       subst (IsListing tagged_cmp (λ t. HasLabel labels owner kind t.tag t.text)) (sym (ap (map tagged) e) ∙ map-map tagged see xs) (listed labels owner own a)
-
--- Postings.
-
--- what stands at a place among those that pass stands somewhere
-among : {A : Type 0} (test : A → Bool) (xs : List A) (k : ℕ) (x : A) → slice_get (filter test xs) k ≡ Some x → (i : ℕ) × (slice_get xs i ≡ Some x)
-among test [] k x e = (k, e)
-among test (y ∷ xs) zero x e = elim (test y) as (λ t. slice_get (cond t (y ∷ filter test xs) (filter test xs)) 0 ≡ Some x → (i : ℕ) × (slice_get (y ∷ xs) i ≡ Some x)) [
-  | true ↦ λ f. (0, f)
-  | false ↦ λ f. let r = among test xs 0 x f in (suc r.0, r.1)
-] e
-among test (y ∷ xs) (suc k) x e = elim (test y) as (λ t. slice_get (cond t (y ∷ filter test xs) (filter test xs)) (suc k) ≡ Some x → (i : ℕ) × (slice_get (y ∷ xs) i ≡ Some x)) [
-  | true ↦ λ f. let r = among test xs k x f in (suc r.0, r.1)
-  | false ↦ λ f. let r = among test xs (suc k) x f in (suc r.0, r.1)
-] e
-
--- what stands at a place, by the number that the place has in another list
-at_place : {A : Type 0} (number : A → ℕ) (xs : List A) (i p : ℕ) → i < length (map number xs) → p ≡ get_or (map number xs) i p → (x : A) × (slice_get xs i ≡ Some x) × (number x ≡ p) × (take (suc i) xs ≡ take i xs ++ x ∷ [])
-at_place number [] i p b e = absurd (omega arith)
-at_place number (x ∷ xs) zero p b e = (x, refl, sym e, refl)
-at_place number (x ∷ xs) (suc i) p b e = let r = at_place number xs i p (omega arith) e in (r.0, r.1, r.2, ap (λ t. x ∷ t) r.3)
-
--- what stands at a place among the numbers of histories that pass is the number of the one at the place
-pub numbered_at : (test : History → Bool) (hs : List History) → ((n : ℕ) (h : History) → numbered hs n ≡ Some h → h.number ≡ n) → (ps : List ℕ) → ps ≡ map (λ (h : History). h.number) (filter test hs)
-    → (i p : ℕ) → i < length ps → p ≡ get_or ps i p → (h : History) × (numbered hs p ≡ Some h) × (take (suc i) (filter test hs) ≡ take i (filter test hs) ++ h ∷ [])
-numbered_at test hs f ps e i p b q =
-    let r = at_place (λ (h : History). h.number) (filter test hs) i p (subst (λ (ns : List ℕ). i < length ns) e b) (subst (λ (ns : List ℕ). p ≡ get_or ns i p) e q) in
-    let at = among test hs i r.0 r.1 in
-    (r.0, subst (λ n. numbered hs n ≡ Some r.0) (sym (f (suc at.0) r.0 at.1) ∙ r.2) at.1, r.3)
-
-pub some_of_copied : {X : Type 0} (o : Option (Bor X)) (x : X) → option_copied o ≡ Some x → IsSome o
-some_of_copied None x e = absurd (cc)
-some_of_copied (Some y) x e = search rules
-
--- one more history
-pub shown_more : {X : Type 0} (see : X → History) (found new : List X) (x : X) (h : History) (hs : List History) (i : ℕ) → map see found ≡ take i hs → new ≡ found ++ x ∷ [] → see x ≡ h → take (suc i) hs ≡ take i hs ++ h ∷ [] → map see new ≡ take (i + 1) hs
-shown_more see found new x h hs i e f g k = ap (map see) f ∙ map-append see found (x ∷ []) ∙ ap (λ t. t ++ see x ∷ []) e ∙ ap (λ q. take i hs ++ q ∷ []) g ∙ sym k ∙ ap (λ n. take n hs) (sym (add-one i))

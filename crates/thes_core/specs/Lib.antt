@@ -1,5 +1,9 @@
+pub mod Deltas
+pub mod Named
+pub mod Facts
 pub mod Room
 pub mod Kept
+pub mod Parts
 pub mod Decides
 pub mod Requests
 pub mod View

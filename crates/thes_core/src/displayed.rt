@@ -5,7 +5,9 @@ ghost use Rattle.thes_base.specs.declared.data.LinkKind.{LinkKind as Kind};
 ghost use Rattle.thes_base.specs.declared.data.LinkForm.TheVariants.{Within};
 ghost use Rattle.thes_base.specs.Links.{form_of};
 ghost use Rattle.thes_base.specs.Listing.{IsListing};
+ghost use Rattle.thes_base.specs.State.{State};
 ghost use Rattle.thes_base.specs.Views.{HasLink};
+ghost use Rattle.thes_core.specs.Kept.{Holds};
 ghost use Rattle.thes_core.specs.Terms.{term_text};
 ghost use Rattle.thes_vocab.specs.Vocabulary.{IsConceptOf};
 
@@ -18,9 +20,10 @@ impl Core {
     /// Lists the scheme's live concepts, rising. What a link within a scheme joins to one of them is one of them.
     pub fn live_of(&self, scheme: ResNo) -> &[ResNo]
         requires { self.now.spent ≡ false }
-        ensures listed { IsListing nat_cmp (IsConceptOf self.now.state.resources scheme) result.now }
-        ensures closed { let is_in = IsConceptOf self.now.state.resources scheme in
-            (kind : Kind) (a b : ℕ) → form_of kind ≡ Within → HasLink self.now.state.links kind a b → is_in a ↔ is_in b }
+        ensures listed { IsListing nat_cmp (IsConceptOf self.now.resources scheme) result.now }
+        ensures closed { let is_in = IsConceptOf self.now.resources scheme in
+            (s : State) → Holds self.now s → (kind : Kind) (a b : ℕ) → form_of kind ≡ Within →
+            HasLink self.now.links kind a b → is_in a ↔ is_in b }
     {
         self.thesaurus.vocab.live_of(scheme)
     }
@@ -28,7 +31,7 @@ impl Core {
     /// Makes what stands for a concept in the language: its preferred label, or its number in brackets where it has none.
     pub fn term(&self, alloc: Global, n: ResNo, tag: &Tag) -> Result<String, AllocError>
         requires { self.now.spent ≡ false }
-        ensures { IfOk result (λ text. string_bytes text ≡ term_text self.now.state.labels tag.now n) }
+        ensures { IfOk result (λ text. string_bytes text ≡ term_text self.now.labels tag.now n) }
     {
         match self.preferred(n, tag) {
             Some(text) => String::from_str(alloc, text.as_str()),

@@ -1,44 +1,60 @@
 //! Which refusal a request meets: the checks of its row in their order, as its arguments, the vocabulary, the graph,
 //! the book and the limits show.
-ghost use Rattle.std.specs.Prelude.{IfOk, IfSome, IfNone};
+ghost use Rattle.std.specs.Prelude.{IfOk, IfSome, IfNone, List, [], false};
+ghost use Rattle.thes_base.specs.declared.data.History.{History};
 ghost use Rattle.thes_base.specs.declared.fault.Refusal.TheVariants as no;
 ghost use Rattle.thes_base.specs.Machine.{HasNewKey, KnownAnswer};
 ghost use Rattle.thes_base.specs.Rows.{refused_unless, accepted};
 ghost use Rattle.thes_core.specs.Requests.{Judges};
-ghost use Rattle.thes_core.specs.Room.{HasRoom};
-ghost use Rattle.thes_core.specs.View.{state_of, IsKept};
+ghost use Rattle.thes_base.specs.State.{State};
+ghost use Rattle.thes_core.specs.Decides.{MayApply};
+ghost use Rattle.thes_core.specs.Facts.{AreFacts};
+ghost use Rattle.thes_post.specs.Sums.{AreSums};
+ghost use Rattle.thes_core.specs.Room.{HasRoom, counts_in};
+ghost use Rattle.thes_core.specs.View.{IsKept, kept_of};
 
 mod links;
 mod names;
 mod postings;
 
+use crate::facts::Facts;
+use crate::named::judge_withdraw;
 use crate::room::{Growth, may_rise};
 use crate::thesaurus::Thesaurus;
 use std::alloc::AllocError;
-use thes_base::data::Known;
 use thes_base::fault::Refusal;
 use thes_base::request::{Answer, Command};
 
-impl Thesaurus {
-    // The answer to a key that is known.
-    pub(crate) fn known(&self, command: &Command) -> Option<Answer>
-        requires { IsKept self.now }
-        ensures some { IfSome result (KnownAnswer command.now (state_of self.now)) }
-        ensures none { IfNone result (HasNewKey command.now (state_of self.now)) }
-    {
-        let Command::Post(key, rec, concept) = command else {
-            return None;
-        };
-        match self.book.judge_post(key, rec, *concept)? {
-            Known::Again(number) => Some(Answer::Again(number.get())),
-            Known::Reused => Some(Answer::No(Refusal::KeyReused)),
-        }
+// The answer to a key that is known.
+pub(crate) fn known(command: &Command, facts: &Facts) -> Option<Answer>
+    ensures some { IfSome result (λ answer. (state : State) → AreFacts command.now state.histories facts.now
+        → KnownAnswer command.now state answer) }
+    ensures none { IfNone result ((state : State) → AreFacts command.now state.histories facts.now
+        → HasNewKey command.now state) }
+{
+    let Command::Post(_, rec, concept) = command else {
+        return None;
+    };
+    let row = facts.known.as_ref()?;
+    if row.rec == *rec && row.first == *concept {
+        Some(Answer::Again(row.number.get()))
+    } else {
+        Some(Answer::No(Refusal::KeyReused))
     }
+}
 
+impl Thesaurus {
     // Which refusal a request meets, but for a key that is known.
-    pub(crate) fn judge(&self, command: &Command) -> Result<Option<Refusal>, AllocError>
-        requires { IsKept self.now }
-        ensures { IfOk result (Judges self.now command.now) }
+    pub(crate) fn judge(
+        &self,
+        command: &Command,
+        facts: &Facts,
+    ) -> Result<Option<Refusal>, AllocError>
+        requires { IsKept self.now [] }
+        ensures row { IfOk result (λ refusal. (histories : List History) → IsKept self.now histories
+            → AreSums histories self.now.book → AreFacts command.now histories facts.now
+            → Judges self.now histories command.now refusal) }
+        ensures may { IfOk result (λ refusal. IfNone refusal (MayApply (kept_of self.now false) command.now)) }
     {
         match command {
             Command::Scheme(_, _) => Ok(self.judge_scheme()),
@@ -55,16 +71,16 @@ impl Thesaurus {
             Command::Deprecate(concept) => Ok(self.judge_deprecate(*concept)),
             Command::Merge(source, target) => self.judge_merge(*source, *target),
             Command::Split(source, tag, text, postings) => {
-                self.judge_split(*source, tag, text, postings.as_slice())
+                self.judge_split(*source, tag, text, postings.as_slice(), facts)
             }
             Command::Post(_, _, concept) => Ok(self.judge_post(*concept)),
-            Command::Withdraw(posting) => Ok(self.judge_withdraw(*posting)),
+            Command::Withdraw(posting) => Ok(judge_withdraw(*posting, facts)),
         }
     }
 
     // Whether the limits leave room.
     fn judge_room(&self, growth: Growth) -> Option<Refusal>
-        ensures { let has_room = HasRoom self.now.limits (state_of self.now) growth in
+        ensures { let has_room = HasRoom self.now.limits (counts_in self.now) growth in
             refused_unless has_room no.TooMany accepted result }
     {
         let limits = &self.limits;

@@ -1,11 +1,14 @@
-//! The machine: its state in memory, and one request after another.
-ghost use Rattle.std.specs.Prelude.{◌≡◌, false, IfOk, IfErr, OnOk};
+//! The machine: what each request is answered with, and the state that it leaves, but for the histories of postings.
+ghost use Rattle.std.specs.Prelude.{◌≡◌, false, true, IfOk, IfErr, IfNone, OnOk};
 ghost use Rattle.thes_base.specs.State.{State, empty_state};
 ghost use Rattle.thes_base.specs.Headline.{IsInOrder};
 ghost use Rattle.thes_base.specs.Machine.{next_state, answer_of};
+ghost use Rattle.thes_core.specs.Facts.{AreFacts};
 ghost use Rattle.thes_core.specs.Kept.{Holds};
-ghost use Rattle.thes_core.specs.Decides.{Accepts, Decides, Makes, Performs, Runs};
+ghost use Rattle.thes_core.specs.Decides.{Accepts, Decides, Makes, MayApply, Performs, Permits, Settles};
 
+use crate::facts::Facts;
+use crate::judging::known;
 use crate::thesaurus::Thesaurus;
 use crate::verdict::Verdict;
 use std::alloc::Global;
@@ -18,7 +21,7 @@ use thes_graph::graph::Graph;
 use thes_post::book::Book;
 use thes_vocab::Vocab;
 
-/// The state of a thesaurus: its vocabulary, its links and its postings.
+/// The state of a thesaurus: its vocabulary, its links and the sums of its postings.
 #[derive(Drop)]
 pub struct Core {
     pub(crate) thesaurus: Thesaurus,
@@ -27,26 +30,26 @@ pub struct Core {
 }
 
 impl Model for Core {
-    ghost use Rattle.std.specs.Prelude.{◌≡◌, false};
+    ghost use Rattle.std.specs.Prelude.{◌≡◌, false, []};
     ghost use Rattle.std.specs.Coded.{codes};
     ghost use Rattle.std.specs.FinSet as set;
     ghost use Rattle.std.specs.FinMap as dict;
     ghost use Rattle.thes_core.specs.Kept.{Kept};
-    ghost use Rattle.thes_core.specs.View.{state_of, setting_of, IsKept};
+    ghost use Rattle.thes_core.specs.View.{kept_of, IsKept};
 
     ghost Value = { Kept };
 
     ghost coded = { Prim.hlevel (codes, set.code, dict.code) };
 
-    ghost view = { λ a. record { state = state_of a.thesaurus; setting = setting_of a.thesaurus; spent = a.spent } };
+    ghost view = { λ a. kept_of a.thesaurus a.spent };
 
-    ghost invariant = { λ a. a.spent ≡ false → IsKept a.thesaurus };
+    ghost invariant = { λ a. a.spent ≡ false → IsKept a.thesaurus [] };
 }
 
 impl Core {
-    /// The empty state.
+    /// Makes a core that holds the empty state.
     pub fn new(alloc: Global, base: Base, limits: Limits) -> Core
-        ensures state { result.state ≡ empty_state }
+        ensures holds { Holds result empty_state }
         ensures base { result.setting.base ≡ base }
         ensures limits { result.setting.limits ≡ limits }
         ensures spent { result.spent ≡ false }
@@ -65,36 +68,54 @@ impl Core {
         }
     }
 
-    /// Decides what a request is answered with, or that it may be applied. The caller names the state that the core holds.
-    pub fn decide(&self, command: &Command) -> Result<Verdict, Fault>
-        ghost state: { State }
-        requires unspent { self.now.spent ≡ false }
-        requires holds { Holds self.now state }
-        ensures ok { IfOk result (Decides self.now.setting state command.now) }
+    /// Answers a request that leaves the state as it is: with a refusal, or with what a repeated key was answered before.
+    /// Where there is no such answer, the request may be applied.
+    pub fn settled(&self, command: &Command, facts: &Facts) -> Result<Option<Answer>, Fault>
+        requires { self.now.spent ≡ false }
+        ensures ok { IfOk result (λ answer. (s : State) → Holds self.now s
+            → AreFacts command.now s.histories facts.now → Settles self.now.setting s command.now answer) }
+        ensures may { IfOk result (λ answer. IfNone answer (MayApply self.now command.now)) }
         ensures err { IfErr result (λ fault. fault ≡ Fault.OutOfMemory) }
-        ensures in_order { IsInOrder self.now.setting.base self.now.state }
     {
-        if let Some(answer) = self.thesaurus.known(command) {
-            return Ok(Verdict::Settled(answer));
+        if let Some(answer) = known(command, facts) {
+            return Ok(Some(answer));
         }
-        match self.thesaurus.judge(command)? {
-            Some(refusal) => Ok(Verdict::Settled(Answer::No(refusal))),
-            None => Ok(Verdict::Accepted),
+        match self.thesaurus.judge(command, facts)? {
+            Some(refusal) => Ok(Some(Answer::No(refusal))),
+            None => Ok(None),
+        }
+    }
+
+    /// Decides what a request is answered with, and the changes of rows that it makes where it is accepted; another answer
+    /// changes nothing. The facts tell what the request concerns of the postings: where they are so, the verdict is right.
+    pub fn decide(&self, command: &Command, facts: &Facts) -> Result<Verdict, Fault>
+        requires { self.now.spent ≡ false }
+        ensures ok { IfOk result (λ verdict. (s : State) → Holds self.now s
+            → AreFacts command.now s.histories facts.now → Decides self.now.setting s command.now verdict) }
+        ensures may { IfOk result (Permits self.now command.now) }
+        ensures err { IfErr result (λ fault. fault ≡ Fault.OutOfMemory) }
+        ensures in_order { (s : State) → Holds self.now s → IsInOrder self.now.setting.base s }
+    {
+        match self.settled(command, facts)? {
+            Some(answer) => Ok(Verdict::Settled(answer)),
+            None => Ok(self.thesaurus.accepted(command, facts)?),
         }
     }
 
     /// Makes what an accepted request asks for, and answers it. Running out of memory leaves the core spent.
-    pub fn apply(&mut self, command: &Command) -> Result<Answer, Fault>
+    pub fn apply(&mut self, command: &Command, facts: &Facts) -> Result<Answer, Fault>
         requires unspent { self.old.spent ≡ false }
-        requires accepted { Accepts self.old.setting self.old.state command.now }
-        ensures made { let s = self.old.state in
-            Makes self.old (next_state command.now s) (answer_of command.now s) result self.new }
-        ensures in_order { OnOk result (IsInOrder self.new.setting.base self.new.state) }
+        requires may { MayApply self.old command.now }
+        ensures made { (s : State) → Holds self.old s → AreFacts command.now s.histories facts.now
+            → Accepts self.old.setting s command.now
+            → Makes self.old (next_state command.now s) (answer_of command.now s) result self.new }
+        ensures ok { OnOk result ((self.new.spent ≡ false) × (self.new.setting ≡ self.old.setting)) }
+        ensures err { IfErr result (λ fault. (fault ≡ Fault.OutOfMemory) × (self.new.spent ≡ true)) }
     {
         // That its texts have their forms is known from here on.
         command.forms();
         self.spent = true;
-        match self.thesaurus.change(command) {
+        match self.thesaurus.change(command, facts) {
             Ok(answer) => {
                 self.spent = false;
                 Ok(answer)
@@ -106,36 +127,15 @@ impl Core {
     /// Performs a request, and answers it. In the state after it each posting that isn't withdrawn stands at exactly one
     /// live concept, the counts add up, and the triples meet the conditions of SKOS. Running out of memory changes
     /// nothing, or leaves the core spent.
-    pub fn step(&mut self, command: &Command) -> Result<Answer, Fault>
+    pub fn step(&mut self, command: &Command, facts: &Facts) -> Result<Answer, Fault>
         requires { self.old.spent ≡ false }
-        ensures performs { Performs self.old command.now result self.new }
-        ensures in_order { OnOk result (IsInOrder self.new.setting.base self.new.state) }
+        ensures performs { (s : State) → Holds self.old s → AreFacts command.now s.histories facts.now
+            → Performs self.old s command.now result self.new }
+        ensures in_order { OnOk result ((s : State) → Holds self.new s → IsInOrder self.new.setting.base s) }
     {
-        match self.decide(command)? {
-            Verdict::Settled(answer) => Ok(answer),
-            Verdict::Accepted => self.apply(command),
+        match self.settled(command, facts)? {
+            Some(answer) => Ok(answer),
+            None => self.apply(command, facts),
         }
-    }
-
-    /// Performs requests in order, and adds their answers: those of the machine, which leave its state. In that state each
-    /// posting that isn't withdrawn stands at exactly one live concept, the one its moves lead to from its first; the live
-    /// concepts' counts add up to what was accepted less what was withdrawn; and the triples meet the conditions of SKOS.
-    pub fn run(&mut self, commands: &[Command], answers: &mut Vec<Answer>) -> Result<(), Fault>
-        requires { self.old.spent ≡ false }
-        ensures runs { Runs self.old commands.now answers.old.items answers.new.items result self.new }
-        ensures in_order { OnOk result (IsInOrder self.new.setting.base self.new.state) }
-    {
-        // What the parts keep is known from here on.
-        let _ = &self.thesaurus;
-        for command in commands {
-            if answers.try_reserve(1).is_err() {
-                return Err(Fault::OutOfMemory);
-            }
-            match self.step(command) {
-                Ok(answer) => answers.push(answer).unwrap(),
-                Err(fault) => return Err(fault),
-            }
-        }
-        Ok(())
     }
 }

@@ -1,5 +1,5 @@
 //! Look-ups in a core. Of a spent one only `is_spent` may be asked.
-ghost use Rattle.std.specs.Prelude.{◌≡◌, ◌↔◌, ◌⊎◌, ℕ, Some, false, true, filter, length, map, IfOk, IsTrue, MatchOption, option_map};
+ghost use Rattle.std.specs.Prelude.{◌≡◌, ◌↔◌, ◌⊎◌, ◌-◌, ℕ, Some, false, true, length, IfOk, IsTrue, MatchOption};
 ghost use Rattle.std.specs.FinMap as dict;
 ghost use Rattle.std.specs.FinSet as set;
 ghost use Rattle.std.specs.Option.{option_copied};
@@ -9,16 +9,18 @@ ghost use Rattle.thes_base.specs.Headline.{IsInOrder};
 ghost use Rattle.thes_base.specs.Labels.{IsTaken, preferred_in};
 ghost use Rattle.thes_base.specs.Links.{HeldIn, norm};
 ghost use Rattle.thes_base.specs.Listing.{IsListing};
-ghost use Rattle.thes_base.specs.Postings.{accepted_count, move_count, place, standing_count, stands_at, withdrawn_count};
-ghost use Rattle.thes_base.specs.Resources.{is_outside, numbered, IsLive};
-ghost use Rattle.thes_base.specs.Views.{totals_of, HasLink, HasBroader, IsMapping, IsTyped, mapping_cmp, typed_cmp};
+ghost use Rattle.thes_base.specs.Resources.{is_outside, numbered, replacements, IsLive};
+ghost use Rattle.thes_base.specs.State.{State};
+ghost use Rattle.thes_base.specs.Views.{HasLink, HasBroader, IsMapping, IsTyped, mapping_cmp, typed_cmp};
+ghost use Rattle.thes_core.specs.Kept.{Holds};
+ghost use Rattle.thes_post.specs.Sums.{count_of};
 ghost use Rattle.thes_vocab.specs.LabelData.{AreLabelsOf};
 ghost use Rattle.thes_vocab.specs.Vocabulary.{IsHolder};
 
 use crate::machine::Core;
 use std::alloc::{AllocError, Global};
-use thes_base::data::{History, Label, Link, LinkKind, Resource, Totals, TypedKind};
-use thes_base::number::{PostNo, ResNo};
+use thes_base::data::{Label, Link, LinkKind, Resource, Totals, TypedKind};
+use thes_base::number::ResNo;
 use thes_base::text::{Iri, Tag, Text};
 
 /// How much a store holds.
@@ -38,7 +40,7 @@ impl Core {
     /// conditions.
     pub fn is_spent(&self) -> bool
         ensures value { result ≡ self.now.spent }
-        ensures in_order { result ≡ false → IsInOrder self.now.setting.base self.now.state }
+        ensures in_order { result ≡ false → (s : State) → Holds self.now s → IsInOrder self.now.setting.base s }
     {
         self.spent
     }
@@ -46,12 +48,12 @@ impl Core {
     /// How much is held. Withdrawn postings count among those accepted.
     pub fn sizes(&self) -> Sizes
         requires { self.now.spent ≡ false }
-        ensures resources { result.resources ≡ length self.now.state.resources }
-        ensures labels { result.labels ≡ set.len self.now.state.labels }
-        ensures links { result.links ≡ set.len self.now.state.links }
-        ensures accepted { result.accepted ≡ accepted_count self.now.state.histories }
-        ensures withdrawn { result.withdrawn ≡ withdrawn_count self.now.state.histories }
-        ensures moves { result.moves ≡ move_count self.now.state.histories }
+        ensures resources { result.resources ≡ length self.now.resources }
+        ensures labels { result.labels ≡ set.len self.now.labels }
+        ensures links { result.links ≡ set.len self.now.links }
+        ensures accepted { result.accepted ≡ self.now.sums.accepted }
+        ensures withdrawn { result.withdrawn ≡ self.now.sums.withdrawn }
+        ensures moves { result.moves ≡ self.now.sums.moves }
     {
         let totals = self.thesaurus.book.totals();
         Sizes {
@@ -67,56 +69,41 @@ impl Core {
     /// How many postings were accepted, how many of them are withdrawn, and how many stand.
     pub fn totals(&self) -> Totals
         requires { self.now.spent ≡ false }
-        ensures { result ≡ totals_of self.now.state.histories }
+        ensures accepted { result.accepted ≡ self.now.sums.accepted }
+        ensures withdrawn { result.withdrawn ≡ self.now.sums.withdrawn }
+        ensures standing { result.standing ≡ self.now.sums.accepted - self.now.sums.withdrawn }
     {
         self.thesaurus.book.totals()
-    }
-
-    /// Where a posting stands, or stood when it was withdrawn.
-    pub fn place(&self, posting: PostNo) -> Option<ResNo>
-        requires { self.now.spent ≡ false }
-        ensures { result ≡ option_map place (numbered self.now.state.histories posting) }
-    {
-        self.thesaurus.book.place(posting)
     }
 
     /// How many postings stand at a concept.
     pub fn count(&self, concept: ResNo) -> u64
         requires { self.now.spent ≡ false }
-        ensures { result ≡ standing_count concept self.now.state.histories }
+        ensures { result ≡ count_of self.now.sums concept }
     {
         self.thesaurus.book.count(concept)
-    }
-
-    /// The history of a posting.
-    pub fn history(&self, posting: PostNo) -> Option<&History>
-        requires { self.now.spent ≡ false }
-        ensures { option_copied result ≡ numbered self.now.state.histories posting }
-    {
-        self.thesaurus.book.history(posting)
-    }
-
-    /// The numbers of the postings that stand at a concept, rising.
-    pub fn standing_at(&self, concept: ResNo) -> &[PostNo]
-        requires { self.now.spent ≡ false }
-        ensures { let standing = filter (stands_at concept) self.now.state.histories in
-            result.now ≡ map (λ h. h.number) standing }
-    {
-        self.thesaurus.book.standing_at(concept)
     }
 
     /// The resource of a number.
     pub fn resource(&self, n: ResNo) -> Option<&Resource>
         requires { self.now.spent ≡ false }
-        ensures { option_copied result ≡ numbered self.now.state.resources n }
+        ensures { option_copied result ≡ numbered self.now.resources n }
     {
         self.thesaurus.vocab.resource(n)
+    }
+
+    /// Lists the replacements of a concept: its replacement, the replacement of that, and so on.
+    pub fn replacements(&self, alloc: Global, concept: ResNo) -> Result<Vec<ResNo>, AllocError>
+        requires { self.now.spent ≡ false }
+        ensures { IfOk result (λ way. way.items ≡ replacements self.now.resources concept) }
+    {
+        self.thesaurus.vocab.replacements(alloc, concept)
     }
 
     /// Whether the number is a live resource's.
     pub fn is_live(&self, n: ResNo) -> bool
         requires { self.now.spent ≡ false }
-        ensures { IsTrue result ↔ IsLive self.now.state.resources n }
+        ensures { IsTrue result ↔ IsLive self.now.resources n }
     {
         self.thesaurus.vocab.is_live(n)
     }
@@ -124,7 +111,7 @@ impl Core {
     /// The owner's preferred label in the language.
     pub fn preferred(&self, owner: ResNo, tag: &Tag) -> Option<&Text>
         requires { self.now.spent ≡ false }
-        ensures { option_copied result ≡ preferred_in self.now.state.labels owner tag.now }
+        ensures { option_copied result ≡ preferred_in self.now.labels owner tag.now }
     {
         self.thesaurus.vocab.preferred(owner, tag)
     }
@@ -132,7 +119,7 @@ impl Core {
     /// The labels of an owner, by kind, language and text.
     pub fn labels_of(&self, owner: ResNo) -> &[Label]
         requires { self.now.spent ≡ false }
-        ensures { AreLabelsOf self.now.state.labels owner result.now }
+        ensures { AreLabelsOf self.now.labels owner result.now }
     {
         self.thesaurus.vocab.labels_of(owner)
     }
@@ -140,7 +127,7 @@ impl Core {
     /// The live concept of the scheme that has this preferred label.
     pub fn holder(&self, scheme: ResNo, tag: &Tag, text: &Text) -> Option<ResNo>
         requires { self.now.spent ≡ false }
-        ensures { let s = self.now.state in
+        ensures { let s = self.now in
             MatchOption result (¬ IsTaken s.resources s.labels scheme tag.now text.now)
             (IsHolder s.resources s.labels scheme tag.now text.now) }
     {
@@ -150,7 +137,7 @@ impl Core {
     /// The number of the outside concept with this IRI.
     pub fn outside(&self, iri: &Iri) -> Option<ResNo>
         requires { self.now.spent ≡ false }
-        ensures { let has_iri = λ (n : ℕ). dict.get self.now.state.iris n ≡ Some iri.now in
+        ensures { let has_iri = λ (n : ℕ). dict.get self.now.iris n ≡ Some iri.now in
             MatchOption result ((n : ℕ) → ¬ has_iri n) has_iri }
     {
         self.thesaurus.vocab.outside(iri)
@@ -159,7 +146,7 @@ impl Core {
     /// The IRI of an outside concept.
     pub fn outside_iri(&self, n: ResNo) -> Option<&Iri>
         requires { self.now.spent ≡ false }
-        ensures { option_copied result ≡ dict.get self.now.state.iris n }
+        ensures { option_copied result ≡ dict.get self.now.iris n }
     {
         self.thesaurus.vocab.outside_iri(n)
     }
@@ -167,7 +154,7 @@ impl Core {
     /// Whether the link is held, in the order of its ends in which it is kept.
     pub fn has(&self, link: &Link) -> bool
         requires { self.now.spent ≡ false }
-        ensures { let s = self.now.state in
+        ensures { let s = self.now in
             IsTrue result ↔ HeldIn s.links (norm (is_outside s.resources) link.now) }
     {
         self.thesaurus.graph.has(link)
@@ -176,7 +163,7 @@ impl Core {
     /// The concepts that are broader than this one in its own scheme, by a link of whatever type, rising.
     pub fn broader_of(&self, alloc: Global, n: ResNo) -> Result<Vec<ResNo>, AllocError>
         requires { self.now.spent ≡ false }
-        ensures { let is_broader = HasBroader self.now.state.links n in
+        ensures { let is_broader = HasBroader self.now.links n in
             IfOk result (λ found. IsListing nat_cmp is_broader found.items) }
     {
         self.thesaurus.graph.broader_of(alloc, n)
@@ -185,7 +172,7 @@ impl Core {
     /// The concepts that are narrower than this one in its own scheme, by a link of whatever type, rising.
     pub fn narrower_of(&self, alloc: Global, n: ResNo) -> Result<Vec<ResNo>, AllocError>
         requires { self.now.spent ≡ false }
-        ensures { let is_narrower = λ (a : ℕ). HasBroader self.now.state.links a n in
+        ensures { let is_narrower = λ (a : ℕ). HasBroader self.now.links a n in
             IfOk result (λ found. IsListing nat_cmp is_narrower found.items) }
     {
         self.thesaurus.graph.narrower_of(alloc, n)
@@ -194,7 +181,7 @@ impl Core {
     /// The concepts related to this one in its own scheme, rising.
     pub fn related_of(&self, alloc: Global, n: ResNo) -> Result<Vec<ResNo>, AllocError>
         requires { self.now.spent ≡ false }
-        ensures { let has = HasLink self.now.state.links kinds.Related in
+        ensures { let has = HasLink self.now.links kinds.Related in
             IfOk result (λ found. IsListing nat_cmp (λ m. has n m ⊎ has m n) found.items) }
     {
         self.thesaurus.graph.related_of(alloc, n)
@@ -203,7 +190,7 @@ impl Core {
     /// The collections that the concept is a member of, rising.
     pub fn collections_of(&self, alloc: Global, n: ResNo) -> Result<Vec<ResNo>, AllocError>
         requires { self.now.spent ≡ false }
-        ensures { let has_member = λ (c : ℕ). HasLink self.now.state.links kinds.Member c n in
+        ensures { let has_member = λ (c : ℕ). HasLink self.now.links kinds.Member c n in
             IfOk result (λ found. IsListing nat_cmp has_member found.items) }
     {
         self.thesaurus.graph.collections_of(alloc, n)
@@ -212,7 +199,7 @@ impl Core {
     /// The mappings of the concept as seen from it, by the words of their kinds and then by number.
     pub fn mapped(&self, alloc: Global, n: ResNo) -> Result<Vec<(LinkKind, ResNo)>, AllocError>
         requires { self.now.spent ≡ false }
-        ensures { let is_mapping = IsMapping self.now.state.links n in
+        ensures { let is_mapping = IsMapping self.now.links n in
             IfOk result (λ found. IsListing mapping_cmp is_mapping found.items) }
     {
         self.thesaurus.graph.mapped(alloc, n)
@@ -221,7 +208,7 @@ impl Core {
     /// The typed hierarchical links of the concept as seen from it, by their words and then by number.
     pub fn typed_of(&self, alloc: Global, n: ResNo) -> Result<Vec<(TypedKind, ResNo)>, AllocError>
         requires { self.now.spent ≡ false }
-        ensures { let is_typed = IsTyped self.now.state.links n in
+        ensures { let is_typed = IsTyped self.now.links n in
             IfOk result (λ found. IsListing typed_cmp is_typed found.items) }
     {
         self.thesaurus.graph.typed_of(alloc, n)

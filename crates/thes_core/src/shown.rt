@@ -1,15 +1,13 @@
 //! Lists shown from a core, which must not be spent.
-ghost use Rattle.std.specs.Prelude.{◌≡◌, ℕ, Some, false, filter, map, IfOk};
-ghost use Rattle.thes_base.specs.declared.data.History.{History};
-ghost use Rattle.thes_base.specs.Resources.{numbered};
-ghost use Rattle.thes_base.specs.Views.{AreLabels, standing_histories};
+ghost use Rattle.std.specs.Prelude.{◌≡◌, false, [], filter, map, IfOk};
+ghost use Rattle.thes_base.specs.Views.{AreLabels};
+ghost use Rattle.thes_core.specs.Kept.{with_histories};
 ghost use Rattle.thes_core.specs.Shown.{is_of_kind, tagged};
 
 use crate::machine::Core;
 use std::alloc::{AllocError, Global};
-use thes_base::data::{History, Label, LabelKind};
+use thes_base::data::{Label, LabelKind};
 use thes_base::number::ResNo;
-use thes_post::book::Book;
 
 // Those of the kind.
 fn of_kind<'a>(
@@ -28,22 +26,6 @@ fn of_kind<'a>(
     Ok(found)
 }
 
-// The histories of the postings that stand at a concept.
-fn standing_in<'a>(
-    alloc: Global,
-    book: &'a Book,
-    concept: ResNo,
-) -> Result<Vec<&'a History>, AllocError>
-    requires { (n : ℕ) (h : History) → numbered book.now n ≡ Some h → h.number ≡ n }
-    ensures { IfOk result (λ found. map (λ h. h.now) found.items ≡ standing_histories concept book.now) }
-{
-    let mut found = Vec::new(alloc);
-    for posting in book.standing_at(concept) {
-        found.push(book.history(*posting).unwrap())?;
-    }
-    Ok(found)
-}
-
 impl Core {
     /// The labels of one kind of an owner, by language and text.
     pub fn labels_of_kind(
@@ -53,18 +35,9 @@ impl Core {
         kind: LabelKind,
     ) -> Result<Vec<&Label>, AllocError>
         requires { self.now.spent ≡ false }
-        ensures { let are_labels = AreLabels self.now.state owner kind in
+        ensures { let are_labels = AreLabels (with_histories [] self.now) owner kind in
             IfOk result (λ found. are_labels (map (λ l. tagged l.now) found.items)) }
     {
         of_kind(alloc, self.labels_of(owner), kind)
-    }
-
-    /// The histories of the postings that stand at a concept, by their numbers.
-    pub fn histories_at(&self, alloc: Global, concept: ResNo) -> Result<Vec<&History>, AllocError>
-        requires { self.now.spent ≡ false }
-        ensures { let standing = standing_histories concept self.now.state.histories in
-            IfOk result (λ found. map (λ h. h.now) found.items ≡ standing) }
-    {
-        standing_in(alloc, &self.thesaurus.book, concept)
     }
 }

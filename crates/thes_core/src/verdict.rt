@@ -1,11 +1,12 @@
 //! What a core decides of a request.
 use thes_base::request::Answer;
+use thes_rows::delta::Delta;
 
 /// What a core decides of a request before anything changes.
-#[derive(Clone, Copy, Debug, PartialEq, Eq)]
+#[derive(Debug, Drop)]
 pub enum Verdict {
     /// The answer, which changes nothing: a refusal, or what a repeated key was answered before.
     Settled(Answer),
-    /// Nothing refuses the request, which may be applied.
-    Accepted,
+    /// Nothing refuses the request, which may be applied: its answer, and the changes of rows that it makes.
+    Accepted(Answer, Delta),
 }

@@ -1,13 +1,16 @@
 -- What stands directly below a concept, in order of keys.
-use Rattle.std.proofs.Common.{◌≡◌, ◌∙◌, ◌<◌, ◌≤◌, sym, ap, refl, subst, ℕ, Bool, true, false, List, [], ◌∷◌, ◌++◌, map, length, Option, Some, None, arith, Ordering, Equal, ⊎_elim, inl, inr, true≢false, IsPermutation, IsSorted}
-use Rattle.std.specs.Prelude.{Contains, slice_get, IsTrue, ◌↔◌}
+use Rattle.std.proofs.Common.{◌≡◌, ◌∙◌, ◌<◌, sym, ap, refl, subst, ℕ, Bool, true, false, List, [], ◌∷◌, ◌++◌, map, length, Option, Some, None, arith, rules, ⊎_elim, inl, inr, true≢false, IsPermutation, IsSorted}
+use Rattle.std.specs.Prelude.{Contains, slice_get, is_some, IsTrue, ◌↔◌}
 use Rattle.std.specs.Option.{option_map_or}
+use Rattle.std.specs.List.{filter, filter_map}
 use Rattle.std.specs.Ordering.{nat_cmp}
 use Rattle.std.specs.Cmp.{IsTotalOrder, nat_cmp_total, tied_itself}
 use Rattle.std.proofs.lemmas.Cmp.{on_total}
 use Rattle.std.proofs.lemmas.List.{map-append}
+use Rattle.std.proofs.lemmas.List.Kept.{IsStrictlySortedBy-filter}
+use Rattle.std.proofs.lemmas.Simd.{map-map}
 use Rattle.std.specs.List.Sorted.{IsStrictlySortedBy}
-use Rattle.std.proofs.lemmas.Option.{slice_get_within, slice_get-get_or}
+use Rattle.std.proofs.lemmas.Option.{slice_get-get_or}
 use Rattle.std.proofs.lemmas.Map.Lookups.{exact_unsigned}
 use Rattle.thes_base.specs.Links.{Links}
 use Rattle.thes_base.specs.declared.data.LinkKind.{LinkKind}
@@ -18,8 +21,8 @@ use Rattle.thes_display.specs.declared.walk.Child.{Child}
 use Rattle.thes_display.specs.declared.walk.Types.{Types}
 use Rattle.thes_display.specs.Order.{Term}
 use Rattle.thes_display.specs.Below.{child, child_cmp}
-use Rattle.thes_display.specs.Hierarchical.{HasKey, IsBroader, IsTop, IsHome, IsAway, AreTypes}
-use Rattle.thes_display.specs.Gathered.{AreKeys, AreHomes, HaveOneKey, IsHomeKey, IsChildAt, IsChild, IsClosed}
+use Rattle.thes_display.specs.Hierarchical.{HasKey, IsBroader, IsHome, AreTypes}
+use Rattle.thes_display.specs.Gathered.{AreKeys, AreHomes, IsChildAt, IsChild}
 use Rattle.thes_display.proofs.WalkLemmas.{Among, among, contains_of, among_append}
 use Rattle.thes_display.proofs.GatherLemmas.{one_concept, key_within}
 use Rattle.thes_display.proofs.SortLemmas.{rises_by, relisted}
@@ -34,9 +37,6 @@ module _ (links : Links) (terms : List Term) (b : ℕ) where
   pub children_none : (children : List Child) → children ≡ [] → AreChildren [] children
   children_none children e = record { keys_are = ap (map (λ (c : Child). c.key)) e; kinds = λ c a. absurd (subst (Among c) e a) }
 
-  one_of : (x y : Option ℕ) → Some x ≡ Some y → x ≡ y
-  one_of x y e = cc
-
   -- a broader concept is the home or not, as the table of homes says
   kind_of : (homes : List (Option ℕ)) → AreHomes links terms (length terms) homes → (k : ℕ) (h : Bool) → IsBroader links terms k b → (h ≡ true → slice_get homes k ≡ Some (Some b)) → (h ≡ false → slice_get homes k ≡ Some (Some b) → ⊥) → IsChildAt links terms h k b
   kind_of homes are k true r is_at is_not = are.each k (Some b) (is_at refl)
@@ -46,10 +46,7 @@ module _ (links : Links) (terms : List Term) (b : ℕ) where
       homes_at k r = let s = are.size in let w = key_within terms r.lower k r.lower_key in (_, slice_get-get_or homes k None (omega (arith, s, w)))
 
       by_home : IsHome links terms k b → ((home : Option ℕ) × (slice_get homes k ≡ Some home)) → ⊥
-      by_home home (None, e) =
-          let top = are.each k None e in
-          let x = home.broader in
-          top.none x.upper (subst (λ n. HasBroader links n x.upper) (one_concept terms x.lower top.concept k x.lower_key top.key) x.link)
+      by_home home (None, e) = (are.each k None e).none b home.broader
       by_home home (Some j, e) =
           let other = are.each k (Some j) e in
           let l = home.least j other.broader in
@@ -71,20 +68,23 @@ module _ (links : Links) (terms : List Term) (b : ℕ) where
   concept_is : (n k : ℕ) → HasKey terms n k → concept_at k ≡ n
   concept_is n k h = ap (λ o. option_map_or (λ (t : Term). t.concept) o 0) h.stands ∙ h.concept
 
-  concepts_are : (keys : ℕ → Option ℕ) → AreKeys terms keys → (ks xs : List ℕ) (children : List Child) → map (λ k. Some k) ks ≡ map keys xs → map (λ (c : Child). c.key) children ≡ ks → map (λ (c : Child). concept_at c.key) children ≡ xs
-  concepts_are keys are [] [] [] e f = refl
-  concepts_are keys are [] (x ∷ xs) children e f = absurd (cc)
-  concepts_are keys are (k ∷ ks) [] children e f = absurd (cc)
-  concepts_are keys are [] [] (c ∷ children) e f = absurd (cc)
-  concepts_are keys are (k ∷ ks) (x ∷ xs) [] e f = absurd (cc)
-  concepts_are keys are (k ∷ ks) (x ∷ xs) (c ∷ children) e f =
-      let h : Some k ≡ keys x = cc in
-      let t : map (λ k. Some k) ks ≡ map keys xs = cc in
-      let g : c.key ≡ k = cc in
-      let u : map (λ (c : Child). c.key) children ≡ ks = cc in
-      let first : concept_at c.key ≡ x = ap concept_at g ∙ concept_is x k (are.of x k (sym h)) in
-      let rest = concepts_are keys are ks xs children t u in
-      cc
+  -- whether it has a key
+  abbrev has_key : (ℕ → Option ℕ) → ℕ → Bool
+  has_key keys n = is_some (keys n)
+
+  concepts_one : (keys : ℕ → Option ℕ) → AreKeys terms keys → (x : ℕ) (xs : List ℕ) (o : Option ℕ) → keys x ≡ o → map concept_at (filter_map keys xs) ≡ filter (has_key keys) xs
+      → map concept_at (filter_map keys (x ∷ xs)) ≡ filter (has_key keys) (x ∷ xs)
+  concepts_one keys are x xs None e rest = search (rules, e, rest)
+  concepts_one keys are x xs (Some k) e rest = let first = concept_is x k (are.of x k e) in search (rules, e, rest, first)
+
+  -- the concepts of the keys that were found are those that have one
+  concepts_are : (keys : ℕ → Option ℕ) → AreKeys terms keys → (xs : List ℕ) → map concept_at (filter_map keys xs) ≡ filter (has_key keys) xs
+  concepts_are keys are [] = refl
+  concepts_are keys are (x ∷ xs) = concepts_one keys are x xs (keys x) refl (concepts_are keys are xs)
+
+  concepts_made : (keys : ℕ → Option ℕ) → AreKeys terms keys → (ks xs : List ℕ) (made : List Child) → ks ≡ filter_map keys xs → map (λ (c : Child). c.key) made ≡ ks
+      → map (λ (c : Child). concept_at c.key) made ≡ filter (has_key keys) xs
+  concepts_made keys are ks xs made found e = sym (map-map concept_at (λ (c : Child). c.key) made) ∙ ap (map concept_at) (e ∙ found) ∙ concepts_are keys are xs
 
   child_total : IsTotalOrder child_cmp
   child_total = on_total (λ (c : Child). c.key) nat_cmp_total
@@ -111,7 +111,7 @@ module _ (links : Links) (terms : List Term) (b : ℕ) where
   same_test false true p q = absurd (true≢false (sym (p.1 (q.0 refl))))
 
   -- a pair has one types
-  one_types : (k : ℕ) (x y : Types) → AreTypes links terms x k b → AreTypes links terms y k b → x ≡ y
+  pub one_types : (k : ℕ) (x y : Types) → AreTypes links terms x k b → AreTypes links terms y k b → x ≡ y
   one_types k x y p q =
       let lower = one_concept terms q.lower p.lower k q.lower_key p.lower_key in
       let upper = one_concept terms q.upper p.upper b q.upper_key p.upper_key in
@@ -126,10 +126,10 @@ module _ (links : Links) (terms : List Term) (b : ℕ) where
   broader_of_child true k p = p.broader
   broader_of_child false k p = p.broader
 
-  made_children : (keys : ℕ → Option ℕ) → AreKeys terms keys → (n : ℕ) → HasKey terms n b → (xs ks : List ℕ) → IsListing nat_cmp (λ a. HasBroader links a n) xs → map (λ k. Some k) ks ≡ map keys xs
+  made_children : (keys : ℕ → Option ℕ) → AreKeys terms keys → (n : ℕ) → HasKey terms n b → (xs ks : List ℕ) → IsListing nat_cmp (λ a. HasBroader links a n) xs → ks ≡ filter_map keys xs
       → (made : List Child) → AreChildren ks made → IsListing (λ x y. nat_cmp (concept_at x.key) (concept_at y.key)) (IsChild links terms b) made
   made_children keys are n here xs ks listed found made a = record {
-    rises = rises_by (λ (c : Child). concept_at c.key) made (subst (IsStrictlySortedBy nat_cmp) (sym (concepts_are keys are ks xs made found a.keys_are)) listed.rises);
+    rises = rises_by (λ (c : Child). concept_at c.key) made (subst (IsStrictlySortedBy nat_cmp) (sym (concepts_made keys are ks xs made found a.keys_are)) (IsStrictlySortedBy-filter nat_cmp (has_key keys) xs listed.rises));
     sound = λ c i. a.kinds c (among c made i);
     complete = λ c i.
         let r = broader_of_child c.at_home c.key i.0 in
@@ -143,7 +143,7 @@ module _ (links : Links) (terms : List Term) (b : ℕ) where
         contains_of c made (subst (λ z. Among z made) (sym same) d.1);
   }
 
-  pub children_listed : (keys : ℕ → Option ℕ) → AreKeys terms keys → (n : ℕ) → HasKey terms n b → (xs ks : List ℕ) → IsListing nat_cmp (λ a. HasBroader links a n) xs → map (λ k. Some k) ks ≡ map keys xs
+  pub children_listed : (keys : ℕ → Option ℕ) → AreKeys terms keys → (n : ℕ) → HasKey terms n b → (xs ks : List ℕ) → IsListing nat_cmp (λ a. HasBroader links a n) xs → ks ≡ filter_map keys xs
       → (made children : List Child) → AreChildren ks made → IsPermutation made children → IsSorted child_cmp children → IsListing child_cmp (IsChild links terms b) children
   children_listed keys are n here xs ks listed found made children a p sorted =
       relisted (λ x y. nat_cmp (concept_at x.key) (concept_at y.key)) child_cmp (on_total (λ (c : Child). concept_at c.key) nat_cmp_total) child_total
@@ -151,7 +151,7 @@ module _ (links : Links) (terms : List Term) (b : ℕ) where
       (IsChild links terms b) made children (made_children keys are n here xs ks listed found made a) p sorted
 
   -- each key found is that of a narrower concept
-  pub broader_at : (keys : ℕ → Option ℕ) → AreKeys terms keys → (n : ℕ) → HasKey terms n b → (xs ks : List ℕ) → IsListing nat_cmp (λ a. HasBroader links a n) xs → map (λ k. Some k) ks ≡ map keys xs → (k : ℕ) → Contains ks k → IsBroader links terms k b
+  pub broader_at : (keys : ℕ → Option ℕ) → AreKeys terms keys → (n : ℕ) → HasKey terms n b → (xs ks : List ℕ) → IsListing nat_cmp (λ a. HasBroader links a n) xs → ks ≡ filter_map keys xs → (k : ℕ) → Contains ks k → IsBroader links terms k b
   broader_at keys are n here xs ks listed found k c =
       let x = key_from keys ks xs k found (among k ks c) in
       record { lower = x.0; upper = n; lower_key = are.of x.0 k x.2; upper_key = here; link = listed.sound x.0 (contains_of x.0 xs x.1) }

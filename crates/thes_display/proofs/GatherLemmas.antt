@@ -1,6 +1,6 @@
 -- What is gathered is a hierarchy, and its lines are those of the display.
-use Rattle.std.proofs.Common.{◌≡◌, ◌∙◌, ◌⊎◌, ◌<◌, ◌≤◌, sym, ap, refl, subst, ℕ, zero, suc, Bool, true, false, List, [], ◌∷◌, length, Option, Some, None, arith, Ordering, Less, true≢false, inl, inr}
-use Rattle.std.specs.Prelude.{Contains, slice_get}
+use Rattle.std.proofs.Common.{◌≡◌, ◌∙◌, ◌⊎◌, ◌<◌, ◌≤◌, sym, ap, refl, subst, ℕ, Bool, true, false, List, [], ◌∷◌, length, Option, Some, arith, inl, inr}
+use Rattle.std.specs.Prelude.{Contains}
 use Rattle.std.specs.Option.{option_map_or}
 use Rattle.std.specs.List.Sorted.{IsStrictlySortedBy}
 use Rattle.std.proofs.lemmas.Option.{slice_get_within, slice_get_past}
@@ -15,9 +15,9 @@ use Rattle.thes_display.specs.declared.walk.Child.{Child}
 use Rattle.thes_display.specs.declared.walk.Types.{Types}
 use Rattle.thes_display.specs.Order.{Term}
 use Rattle.thes_display.specs.Lines.{Line, IsLine, IsHomeward, IsPlaced, HasTypes, untyped, line_cmp}
-use Rattle.thes_display.specs.Below.{at, child, child_cmp, IsTopOf, IsUnder, IsTypedUnder, IsHierarchy, IsHierarchyText}
+use Rattle.thes_display.specs.Below.{at, child, child_cmp, IsUnder, IsTypedUnder, IsHierarchy, IsHierarchyText}
 use Rattle.thes_display.specs.Hierarchical.{HasKey, IsBroader, IsTop, IsHome, IsAway, AreTypes, AreTerms, IsHierarchical}
-use Rattle.thes_display.specs.Gathered.{IsGathered, IsChildAt, IsChild}
+use Rattle.thes_display.specs.Gathered.{IsGathered, IsChildAt, IsChild, IsClosed, IsRoot}
 use Rattle.thes_display.proofs.WalkLemmas.{Among, among, rises_none}
 
 -- Lines by other relations that say the same.
@@ -119,8 +119,7 @@ module _ (links : Links) (terms : List Term) (tops : List Child) (below : List (
     one_home = λ k b c p q. let h = under true k b p in let i = under true k c q in let l = h.least c i.broader in let m = i.least b h.broader in omega (arith, l, m);
     top_home = λ k b t p.
         let top = (g.tops_listed.sound (child k untyped true) t).1 in
-        let h = (under true k b p).broader in
-        top.none h.upper (subst (λ n. HasBroader links n h.upper) (one_concept terms h.lower top.concept k h.lower_key top.key) h.link);
+        top.none b (under true k b p).broader;
   }
 
   -- what stands below a concept is listed there, with its types
@@ -135,16 +134,33 @@ module _ (links : Links) (terms : List Term) (tops : List Child) (below : List (
   listed_typed types k b (inl p) are = (true, (g.below_listed b (upper_within k b p.broader)).complete (child k types true) (p, are))
   listed_typed types k b (inr p) are = (false, (g.below_listed b (upper_within k b p.broader)).complete (child k types false) (p, are))
 
-  pub is_hierarchical : (s : State) (scheme : ℕ) (tag text : List ℕ) → s.links ≡ links → AreTerms s scheme tag terms → IsHierarchyText terms tops below text → IsHierarchical s scheme tag text
-  is_hierarchical s scheme tag text e are t = record {
+  -- all that a link within the scheme leads to has a key, so a root is a top
+  top_of : IsClosed links terms → (k : ℕ) → IsRoot links terms k → IsTop links terms k
+  top_of closed k root = record {
+    concept = root.concept;
+    key = root.key;
+    none = λ m l.
+        let up = closed.upward l.0 root.concept m k l.1.0 l.2 root.key in
+        root.none up.0 (record { lower = root.concept; upper = m; lower_key = root.key; upper_key = up.1; link = l });
+  }
+
+  root_of : (k : ℕ) → IsTop links terms k → IsRoot links terms k
+  root_of k top = record {
+    concept = top.concept;
+    key = top.key;
+    none = λ b r. top.none r.upper (subst (λ n. HasBroader links n r.upper) (one_concept terms r.lower top.concept k r.lower_key top.key) r.link);
+  }
+
+  pub is_hierarchical : IsClosed links terms → (s : State) (scheme : ℕ) (tag text : List ℕ) → s.links ≡ links → AreTerms s scheme tag terms → IsHierarchyText terms tops below text → IsHierarchical s scheme tag text
+  is_hierarchical closed s scheme tag text e are t = record {
     terms = terms;
     are_terms = are;
     lines = t.lines;
     are_lines = subst (λ ls. IsListing line_cmp (IsLine (IsTop ls terms) (IsHome ls terms) (IsAway ls terms) (AreTypes ls terms)) t.lines) (sym e) (record {
       rises = t.listed.rises;
-      sound = λ l c. line_as _ _ _ _ (IsTop links terms) (IsHome links terms) (IsAway links terms) (AreTypes links terms) (λ k p. (g.tops_listed.sound (child k untyped true) p).1) (under true) (under false) (λ types k b p t. typed_under types k b t) l (t.listed.sound l c);
+      sound = λ l c. line_as _ _ _ _ (IsTop links terms) (IsHome links terms) (IsAway links terms) (AreTypes links terms) (λ k p. top_of closed k (g.tops_listed.sound (child k untyped true) p).1) (under true) (under false) (λ types k b p t. typed_under types k b t) l (t.listed.sound l c);
       complete = λ l i. t.listed.complete l (line_as (IsTop links terms) (IsHome links terms) (IsAway links terms) (AreTypes links terms) _ _ _ _
-          (λ k p. g.tops_listed.complete (child k untyped true) ((refl, refl), p))
+          (λ k p. g.tops_listed.complete (child k untyped true) ((refl, refl), root_of k p))
           (λ k b p. listed true k b p)
           (λ k b p. listed false k b p)
           listed_typed l i);

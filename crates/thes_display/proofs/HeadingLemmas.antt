@@ -1,10 +1,8 @@
 -- The headings of a scheme: those of each concept in turn, and then in the order of the display.
 use Rattle.std.proofs.Common.{◌≡◌, ◌∙◌, ◌⊎◌, ◌≤◌, ◌+◌, refl, sym, ap, subst, ℕ, Bool, true, false, cond, List, [], ◌∷◌, ◌++◌, take, take_all, length, append-nil, arith, Ordering, Less, Equal, Greater, ⊎_elim, inl, inr, IsPermutation, IsSorted}
-use Rattle.std.specs.Prelude.{Contains}
 use Rattle.std.specs.Ordering.{nat_cmp, ordering_then}
 use Rattle.std.specs.Cmp.{IsTotalOrder, nat_cmp_total, tied_itself}
 use Rattle.std.proofs.lemmas.Cmp.{then_total, on_total}
-use Rattle.std.proofs.lemmas.Map.Lookups.{exact_unsigned}
 use Rattle.std.specs.List.Sorted.{IsStrictlySortedBy}
 use Rattle.thes_base.specs.declared.data.LabelKind.TheVariants.{Alt}
 use Rattle.thes_base.specs.Labels.{HasLabel}

@@ -1,62 +1,58 @@
 -- The home broader of a concept is the least key of those broader than it.
-use Rattle.std.proofs.Common.{◌≡◌, ◌∙◌, ◌<◌, ◌≤◌, sym, ap, refl, subst, ℕ, List, [], ◌∷◌, map, length, Option, Some, None, arith, inl, inr, rules, zero, suc}
-use Rattle.std.specs.Prelude.{Contains, All, MatchOption, IsSome, slice_index_or}
+use Rattle.std.proofs.Common.{◌≡◌, ◌∙◌, ◌≤◌, sym, ap, refl, subst, ℕ, List, [], ◌∷◌, length, Option, Some, None, arith, inl, inr}
+use Rattle.std.specs.Prelude.{Contains, MatchOption}
+use Rattle.std.specs.List.{filter_map, cons_option}
 use Rattle.std.specs.Ordering.{nat_cmp}
-use Rattle.std.proofs.lemmas.List.{length-map}
 use Rattle.thes_base.specs.Links.{Links}
 use Rattle.thes_base.specs.Listing.{IsListing}
 use Rattle.thes_base.specs.Views.{HasBroader}
 use Rattle.thes_display.specs.Order.{Term}
-use Rattle.thes_display.specs.Hierarchical.{HasKey, IsBroader, IsTop, IsHome}
-use Rattle.thes_display.specs.Gathered.{AreKeys, IsClosed, IsHomeKey}
+use Rattle.thes_display.specs.Hierarchical.{HasKey}
+use Rattle.thes_display.specs.Gathered.{AreKeys, IsHomeKey}
 use Rattle.thes_display.proofs.WalkLemmas.{Among, among, contains_of}
 use Rattle.thes_display.proofs.GatherLemmas.{one_concept}
 
-one_some : (j k : ℕ) → Some j ≡ Some k → j ≡ k
-one_some j k e = cc
+-- what stands among the keys found, with that of one concept more
+from_one : (f : ℕ → Option ℕ) (x k : ℕ) (xs : List ℕ) (o : Option ℕ) → f x ≡ o → (Among k (filter_map f xs) → (y : ℕ) × Among y xs × (f y ≡ Some k)) → Among k (cons_option o (filter_map f xs)) → (y : ℕ) × Among y (x ∷ xs) × (f y ≡ Some k)
+from_one f x k xs None g rest a = let r = rest a in (r.0, inr r.1, r.2)
+from_one f x k xs (Some j) g rest (inl same) = (x, inl refl, g ∙ ap Some (sym same))
+from_one f x k xs (Some j) g rest (inr a) = let r = rest a in (r.0, inr r.1, r.2)
 
--- each key is some concept's, and each concept's key is there
-pub key_from : (f : ℕ → Option ℕ) (ks xs : List ℕ) (k : ℕ) → map (λ k. Some k) ks ≡ map f xs → Among k ks → (x : ℕ) × Among x xs × (f x ≡ Some k)
-key_from f [] xs k e a = absurd a
-key_from f (j ∷ ks) [] k e a = absurd (cc)
-key_from f (j ∷ ks) (x ∷ xs) k e (inl same) = let h : Some j ≡ f x = cc in (x, inl refl, sym h ∙ ap Some (sym same))
-key_from f (j ∷ ks) (x ∷ xs) k e (inr a) = let t : map (λ k. Some k) ks ≡ map f xs = cc in let r = key_from f ks xs k t a in (r.0, inr r.1, r.2)
+of_found : (f : ℕ → Option ℕ) (xs : List ℕ) (k : ℕ) → Among k (filter_map f xs) → (x : ℕ) × Among x xs × (f x ≡ Some k)
+of_found f [] k a = absurd a
+of_found f (x ∷ xs) k a = from_one f x k xs (f x) refl (λ b. of_found f xs k b) a
 
-pub key_to : (f : ℕ → Option ℕ) (ks xs : List ℕ) (x k : ℕ) → map (λ k. Some k) ks ≡ map f xs → Among x xs → f x ≡ Some k → Among k ks
-key_to f ks [] x k e a g = absurd a
-key_to f [] (y ∷ xs) x k e a g = absurd (cc)
-key_to f (j ∷ ks) (y ∷ xs) x k e (inl same) g = let h : Some j ≡ f y = cc in inl (sym (one_some j k (h ∙ ap f (sym same) ∙ g)))
-key_to f (j ∷ ks) (y ∷ xs) x k e (inr a) g = let t : map (λ k. Some k) ks ≡ map f xs = cc in inr (key_to f ks xs x k t a g)
+-- each key that was found is some concept's
+pub key_from : (f : ℕ → Option ℕ) (ks xs : List ℕ) (k : ℕ) → ks ≡ filter_map f xs → Among k ks → (x : ℕ) × Among x xs × (f x ≡ Some k)
+key_from f ks xs k e a = of_found f xs k (subst (Among k) e a)
 
--- each of a list of concepts with keys has one in the table
-pub all_known : (terms : List Term) (keys : ℕ → Option ℕ) → AreKeys terms keys → (P : ℕ → Type 0) (xs : List ℕ) → IsListing nat_cmp P xs → ((n : ℕ) → P n → (j : ℕ) × HasKey terms n j) → (k d : ℕ) → k < length xs → IsSome (keys (slice_index_or xs k d))
-all_known terms keys are P xs listed has k d l =
-    let n = slice_index_or xs k d in
-    let h = has n (listed.sound n (k, l, at_any xs k d n l)) in
-    is_some_of (keys n) h.0 (are.all n h.0 h.1)
-  where
-    is_some_of : (o : Option ℕ) (j : ℕ) → o ≡ Some j → IsSome o
-    is_some_of None j e = absurd (cc)
-    is_some_of (Some i) j e = search rules
+with_one : (k : ℕ) (o : Option ℕ) (ks : List ℕ) → Among k ks → Among k (cons_option o ks)
+with_one k None ks a = a
+with_one k (Some j) ks a = inr a
 
-    at_any : (xs : List ℕ) (k d e : ℕ) → k < length xs → slice_index_or xs k e ≡ slice_index_or xs k d
-    at_any [] k d e l = absurd (omega arith)
-    at_any (x ∷ xs) zero d e l = refl
-    at_any (x ∷ xs) (suc k) d e l = at_any xs k d e (omega arith)
+found_of : (f : ℕ → Option ℕ) (xs : List ℕ) (x k : ℕ) → Among x xs → f x ≡ Some k → Among k (filter_map f xs)
+found_of f [] x k a g = absurd a
+found_of f (y ∷ xs) x k (inl same) g = subst (λ o. Among k (cons_option o (filter_map f xs))) (sym g ∙ ap f same) (inl refl)
+found_of f (y ∷ xs) x k (inr a) g = with_one k (f y) (filter_map f xs) (found_of f xs x k a g)
+
+-- the key of each concept that has one was found
+pub key_to : (f : ℕ → Option ℕ) (ks xs : List ℕ) (x k : ℕ) → ks ≡ filter_map f xs → Among x xs → f x ≡ Some k → Among k ks
+key_to f ks xs x k e a g = subst (Among k) (sym e) (found_of f xs x k a g)
 
 module _ (links : Links) (terms : List Term) (keys : ℕ → Option ℕ) (are : AreKeys terms keys) (n key : ℕ) (here : HasKey terms n key)
-    (xs ks : List ℕ) (listed : IsListing nat_cmp (λ b. HasBroader links n b) xs) (found : map (λ k. Some k) ks ≡ map keys xs) where
+    (xs ks : List ℕ) (listed : IsListing nat_cmp (λ b. HasBroader links n b) xs) (found : ks ≡ filter_map keys xs) where
+  none_among : (ks : List ℕ) → length ks ≡ 0 → (b : ℕ) → Among b ks → ⊥
+  none_among [] e b a = a
+  none_among (k ∷ ks) e b a = absurd (omega (arith, e))
+
   pub home_from : (home : Option ℕ) → MatchOption home (length ks ≡ 0) (λ m. Contains ks m × ((c : ℕ) → Contains ks c → m ≤ c)) → IsHomeKey links terms key home
   home_from None e = record {
     concept = n;
     key = here;
-    none = λ m l.
-        let c = listed.complete m l in
-        let a = c.1 in
-        let b : length (map (λ k. Some k) ks) ≡ length (map keys xs) = ap length found in
-        let d = length-map ks (λ k. Some k) in
-        let g = length-map xs keys in
-        omega (arith, a, b, d, g, e);
+    none = λ b r.
+        let same = one_concept terms r.lower n key r.lower_key here in
+        let l = listed.complete r.upper (subst (λ z. HasBroader links z r.upper) same r.link) in
+        none_among ks e b (key_to keys ks xs r.upper b found (among r.upper xs l) (are.all r.upper b r.upper_key));
   }
   home_from (Some b) m =
       let x = key_from keys ks xs b found (among b ks m.0) in

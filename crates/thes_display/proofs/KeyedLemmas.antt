@@ -1,13 +1,13 @@
 -- What keys say of the concepts of a scheme.
-use Rattle.std.proofs.Common.{◌≡◌, ◌↔◌, ◌∙◌, ◌⊎◌, ◌<◌, ◌≤◌, sym, ap, refl, subst, ℕ, zero, suc, List, [], ◌∷◌, length, get_or, Option, Some, None, arith, Ordering, Less, Equal, inl, inr, ⊎_elim}
-use Rattle.std.specs.Prelude.{Contains, slice_get, IsSome}
+use Rattle.std.proofs.Common.{◌≡◌, ◌↔◌, ◌∙◌, ◌<◌, sym, ap, refl, subst, ℕ, List, get_or, Some, arith, Ordering, Less, Equal, ⊎_elim}
+use Rattle.std.specs.Prelude.{Contains, slice_get}
 use Rattle.std.specs.Cmp.{tied_itself}
 use Rattle.std.proofs.lemmas.Bool.{cases_lt}
 use Rattle.std.proofs.lemmas.Option.{slice_get_within, get_or_from_slice_get, slice_get-get_or}
 use Rattle.std.proofs.lemmas.Map.Keys.{Less-from_sorted}
 use Rattle.thes_base.specs.declared.data.LinkKind.{LinkKind}
 use Rattle.thes_base.specs.declared.data.LinkForm.TheVariants.{Within}
-use Rattle.thes_base.specs.Links.{Links, form_of}
+use Rattle.thes_base.specs.Links.{form_of}
 use Rattle.thes_base.specs.State.{State}
 use Rattle.thes_base.specs.Views.{HasLink}
 use Rattle.thes_core.specs.Terms.{term_text}
@@ -43,7 +43,7 @@ module _ (s : State) (scheme : ℕ) (tag : List ℕ) (terms : List Term) (are : 
   pub one_key : HaveOneKey terms
   one_key = record { one = λ n j k g h. ⊎_elim (λ l. absurd (not_before n j k g h l)) (λ m. ⊎_elim (λ l. absurd (not_before n k j h g l)) (λ o. omega (arith, m, o)) (cases_lt k j)) (cases_lt j k) }
 
-  key_of : (n : ℕ) → IsConceptOf s.resources scheme n → (k : ℕ) × HasKey terms n k
+  pub key_of : (n : ℕ) → IsConceptOf s.resources scheme n → (k : ℕ) × HasKey terms n k
   key_of n shown =
       let t : Term = record { text = term_text s.labels tag n; concept = n } in
       let c = are.complete t (record { shown = shown; term = refl }) in

@@ -1,20 +1,14 @@
 -- Tops, and what stands below each concept, one after another.
-use Rattle.std.proofs.Common.{◌≡◌, ◌∙◌, ◌⊎◌, ◌<◌, ◌≤◌, ◌+◌, sym, ap, refl, subst, ℕ, zero, suc, Bool, true, false, List, [], ◌∷◌, ◌++◌, map, length, length-append, Option, Some, None, arith, Ordering, Less, Vec, ⊎_elim, inl, inr, lt-ltb}
+use Rattle.std.proofs.Common.{◌≡◌, ◌∙◌, ◌<◌, ◌+◌, sym, ap, refl, subst, ℕ, zero, suc, List, [], ◌∷◌, ◌++◌, length, length-append, arith, Vec, ⊎_elim}
 use Rattle.std.specs.declared.alloc.Global.{Global}
-use Rattle.std.specs.Prelude.{Contains, slice_get}
-use Rattle.std.specs.Ordering.{nat_cmp}
 use Rattle.std.proofs.lemmas.Bool.{cases_lt}
 use Rattle.std.proofs.lemmas.List.{map-append}
 use Rattle.thes_base.specs.Links.{Links}
 use Rattle.thes_base.specs.Listing.{IsListing}
-use Rattle.thes_base.specs.Views.{HasBroader}
 use Rattle.thes_display.specs.declared.walk.Child.{Child}
 use Rattle.thes_display.specs.Order.{Term}
-use Rattle.thes_display.specs.Below.{at, lists, child, child_cmp}
-use Rattle.thes_display.specs.Hierarchical.{HasKey, IsTop}
+use Rattle.thes_display.specs.Below.{at, lists, child_cmp}
 use Rattle.thes_display.specs.Gathered.{AreBelow, IsChild}
-use Rattle.thes_display.proofs.WalkLemmas.{Among, among, contains_of, among_append, among_left, among_right, rises_none, rises_more}
-use Rattle.thes_display.proofs.GatherLemmas.{one_concept, key_within}
 
 at_front : (below : List (List Child)) (cs : List Child) (b : ℕ) → b < length below → at (below ++ cs ∷ []) b ≡ at below b
 at_front [] cs b l = absurd (omega arith)

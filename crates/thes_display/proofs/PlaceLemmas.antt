@@ -1,13 +1,11 @@
 -- The lines of a hierarchy in lists: which lines go through one of them.
-use Rattle.std.proofs.Common.{◌≡◌, ◌≢◌, ◌⊎◌, ◌∙◌, ◌<◌, ◌+◌, sym, ap, refl, subst, ℕ, zero, suc, Bool, true, false, List, [], ◌∷◌, ◌++◌, map, length, arith, ⊎_elim, inl, inr, Ordering, Less, Equal, true≢false}
-use Rattle.std.specs.Prelude.{Contains}
+use Rattle.std.proofs.Common.{◌≡◌, ◌⊎◌, ◌∙◌, ◌<◌, sym, ap, refl, subst, ℕ, Bool, true, false, List, [], ◌∷◌, map, inl, inr, Less, true≢false}
 use Rattle.std.specs.Ordering.{nat_cmp}
 use Rattle.std.specs.Cmp.{tied_itself, nat_cmp_total}
-use Rattle.std.specs.List.{AllByRecursion}
 use Rattle.std.specs.List.Sorted.{IsStrictlySortedBy}
 use Rattle.thes_display.specs.declared.walk.Child.{Child}
 use Rattle.thes_display.specs.declared.walk.Types.{Types}
-use Rattle.thes_display.specs.Lines.{Line, IsHomeward, IsPlaced, HasTypes, IsLine, untyped}
+use Rattle.thes_display.specs.Lines.{Line, IsHomeward, IsPlaced, HasTypes, untyped}
 use Rattle.thes_display.specs.Below.{at, child, child_cmp, IsTopOf, IsUnder, IsTypedUnder, IsLineOf, IsHierarchy}
 use Rattle.thes_display.proofs.WalkLemmas.{Among, among, contains_of, among_map, map_among, each_of, up, onto, Extends, placed}
 

@@ -8,9 +8,9 @@ use Rattle.thes_display.specs.Below.{at, IsLineOf, IsHierarchy, waiting_at, IsHi
 use Rattle.std.proofs.lemmas.List.{reverse-append, reverse-reverse, length-reverse, map-append}
 use Rattle.std.proofs.lemmas.Bool.{cases_eq}
 use Rattle.std.proofs.lemmas.List.Concat.{flat_map-append}
-use Rattle.thes_display.specs.Lines.{path, line_cmp, line_text, line_end, placed_text, types_text, text_at, IsHomeward, IsPlaced, HasTypes, untyped}
+use Rattle.thes_display.specs.Lines.{path, line_cmp, line_text, line_end, placed_text, types_text, text_at, IsHomeward, IsPlaced, untyped}
 use Rattle.thes_display.specs.Below.{child, IsTopOf, IsUnder, IsTypedUnder}
-use Rattle.thes_display.proofs.WalkLemmas.{Among, among, contains_of, among_map, map_among, among_left, among_right, among_append, IsWalk, rises_none, less_itself, up, onto, Extends, placed, placed_apart, walk_step, walk_done}
+use Rattle.thes_display.proofs.WalkLemmas.{Among, among, contains_of, among_map, map_among, among_left, among_right, among_append, IsWalk, rises_none, less_itself, up, onto, placed, placed_apart, walk_step, walk_done}
 use Rattle.thes_display.proofs.PlaceLemmas.{below_away, below_home, children_below, one_home_line, line_known}
 
 -- a line as it waits

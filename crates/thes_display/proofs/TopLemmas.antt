@@ -1,20 +1,18 @@
 -- The tops are the concepts without a home.
-use Rattle.std.proofs.Common.{◌≡◌, ◌∙◌, ◌⊎◌, ◌<◌, ◌≤◌, ◌+◌, sym, ap, refl, subst, ℕ, Bool, true, false, List, [], ◌∷◌, ◌++◌, length, get_or, Option, Some, None, arith, Ordering, Less, ⊎_elim, inl, inr, lt-ltb, true≢false}
-use Rattle.std.specs.Prelude.{Contains, slice_get, is_some, not}
+use Rattle.std.proofs.Common.{◌≡◌, ◌∙◌, ◌<◌, ◌≤◌, ◌+◌, sym, ap, refl, subst, ℕ, Bool, true, false, List, [], ◌∷◌, ◌++◌, length, Option, Some, None, arith, Less, ⊎_elim, inl, lt-ltb}
+use Rattle.std.specs.Prelude.{slice_get, is_some, not}
 use Rattle.std.specs.Ordering.{nat_cmp}
-use Rattle.std.proofs.lemmas.Bool.{cases_lt, cases_eq}
+use Rattle.std.proofs.lemmas.Bool.{cases_lt}
 use Rattle.std.proofs.lemmas.Option.{slice_get_within, slice_get-get_or}
 use Rattle.thes_base.specs.Links.{Links}
 use Rattle.thes_base.specs.Listing.{IsListing}
-use Rattle.thes_base.specs.Views.{HasBroader}
 use Rattle.thes_display.specs.declared.walk.Child.{Child}
 use Rattle.thes_display.specs.Order.{Term}
 use Rattle.thes_display.specs.Lines.{untyped}
 use Rattle.thes_display.specs.Below.{child, child_cmp}
-use Rattle.thes_display.specs.Hierarchical.{HasKey, IsTop}
-use Rattle.thes_display.specs.Gathered.{AreHomes, AreBelow, IsHomeless, IsGathered}
-use Rattle.thes_display.proofs.WalkLemmas.{Among, among, contains_of, among_append, among_left, among_right, rises_none, rises_more}
-use Rattle.thes_display.proofs.GatherLemmas.{one_concept, key_within}
+use Rattle.thes_display.specs.Gathered.{AreHomes, AreBelow, IsHomeless, IsGathered, IsRoot}
+use Rattle.thes_display.proofs.WalkLemmas.{among, contains_of, among_append, among_left, among_right, rises_none, rises_more}
+use Rattle.thes_display.proofs.GatherLemmas.{key_within}
 
 less_from : (x y : ℕ) → x < y → nat_cmp x y ≡ Less
 less_from x y l = rw lt-ltb
@@ -70,14 +68,12 @@ module _ (homes : List (Option ℕ)) where
     below_listed = a.each;
   }
     where
-      homes_at : (k : ℕ) → IsTop links terms k → (home : Option ℕ) × (slice_get homes k ≡ Some home)
+      homes_at : (k : ℕ) → IsRoot links terms k → (home : Option ℕ) × (slice_get homes k ≡ Some home)
       homes_at k top = let s = are.size in let w = key_within terms top.concept k top.key in (_, slice_get-get_or homes k None (omega (arith, s, w)))
 
-      homeless : (k : ℕ) → IsTop links terms k → ((home : Option ℕ) × (slice_get homes k ≡ Some home)) → slice_get homes k ≡ Some None
+      homeless : (k : ℕ) → IsRoot links terms k → ((home : Option ℕ) × (slice_get homes k ≡ Some home)) → slice_get homes k ≡ Some None
       homeless k top (None, e) = e
-      homeless k top (Some j, e) =
-          let x = (are.each k (Some j) e).broader in
-          absurd (top.none x.upper (subst (λ n. HasBroader links n x.upper) (one_concept terms x.lower top.concept k x.lower_key top.key) x.link))
+      homeless k top (Some j, e) = absurd (top.none j (are.each k (Some j) e).broader)
 
 -- one key more, whether it has a home or not
 pub by_home : (homes : List (Option ℕ)) (m : ℕ) (tops new : List Child) (home : Option ℕ) (b : Bool) → AreTops homes m tops → slice_get homes m ≡ Some home → is_some home ≡ not b → (b ≡ true → new ≡ tops ++ child m untyped true ∷ []) → (b ≡ false → new ≡ tops) → AreTops homes (m + 1) new

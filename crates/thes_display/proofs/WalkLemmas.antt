@@ -1,16 +1,16 @@
 -- That a walk from the tops down writes the lines in the order of their paths.
-use Rattle.std.proofs.Common.{◌≡◌, ◌⊎◌, ◌∙◌, ◌<◌, ◌+◌, sym, ap, refl, subst, ℕ, zero, suc, Bool, true, false, List, [], ◌∷◌, ◌++◌, reverse, map, length, arith, ⊎_elim, inl, inr, append_assoc, append-nil, Ordering, Less, Equal, true≢false}
-use mathlib.Core.List.{reverse_aux, reverse_aux-eq, reverse-cons}
+use Rattle.std.proofs.Common.{◌≡◌, ◌⊎◌, ◌∙◌, ◌<◌, sym, ap, refl, subst, ℕ, zero, suc, List, [], ◌∷◌, ◌++◌, reverse, map, length, arith, ⊎_elim, inl, inr, append_assoc, append-nil, Ordering, Less, Equal}
+use mathlib.Core.List.{reverse-cons}
 use Rattle.std.specs.Prelude.{Contains}
 use Rattle.std.specs.Ordering.{ordering_then, nat_cmp}
-use Rattle.std.specs.Cmp.{IsTotalOrder, tied_itself, nat_cmp_total}
+use Rattle.std.specs.Cmp.{tied_itself, nat_cmp_total}
 use Rattle.std.specs.Cmp.Lexicographic.{slice_cmp}
 use Rattle.std.specs.List.{AllByRecursion, slice_index_or}
 use Rattle.std.specs.List.Sorted.{IsStrictlySortedBy}
 use Rattle.thes_base.specs.Listing.{IsListing}
 use Rattle.thes_display.specs.declared.walk.Child.{Child}
-use Rattle.thes_display.specs.Lines.{Line, path, line_cmp, IsHomeward, IsPlaced, IsLine}
-use Rattle.thes_display.specs.Below.{at, child, child_cmp, IsTopOf, IsUnder, IsLineOf, IsHierarchy}
+use Rattle.thes_display.specs.Lines.{Line, path, line_cmp}
+use Rattle.thes_display.specs.Below.{child_cmp}
 
 -- Membership by recursion.
 

@@ -1,5 +1,5 @@
 -- What is gathered of a state before its hierarchy is walked.
-use Rattle.std.specs.Prelude.{◌≡◌, ◌↔◌, ◌⊎◌, ℕ, List, Bool, true, false, Option, None, Some}
+use Rattle.std.specs.Prelude.{◌≡◌, ℕ, List, Bool, true, false, Option, None, Some}
 use Rattle.std.specs.Prelude.{◌<◌, length, slice_get}
 use Rattle.thes_base.specs.Listing.{IsListing}
 use Rattle.thes_base.specs.Views.{HasLink}
@@ -10,7 +10,7 @@ use Rattle.thes_display.specs.Below.{at, child_cmp}
 use Rattle.thes_display.specs.Lines.{untyped}
 use Rattle.thes_display.specs.declared.walk.Child.{Child}
 use Rattle.thes_display.specs.Order.{Term}
-use Rattle.thes_display.specs.Hierarchical.{HasKey, IsHome, IsTop, IsAway, AreTypes}
+use Rattle.thes_display.specs.Hierarchical.{HasKey, IsBroader, IsHome, IsAway, AreTypes}
 
 -- each concept has one key
 pub record HaveOneKey (terms : List Term) : Type 0 where
@@ -22,9 +22,15 @@ pub record AreKeys (terms : List Term) (keys : ℕ → Option ℕ) : Type 0 wher
   pub all : (n k : ℕ) → HasKey terms n k → keys n ≡ Some k
 
 module _ (links : Links) (terms : List Term) where
-  -- the home broader of k, or none where k is a top
+  -- a concept without a broader one that has a key
+  pub record IsRoot (k : ℕ) : Type 0 where
+    pub concept : ℕ
+    pub key : HasKey terms concept k
+    pub none : (b : ℕ) → IsBroader links terms k b → ⊥
+
+  -- the home broader of k, or none where k is a root
   abbrev pub IsHomeKey : ℕ → Option ℕ → Type 0
-  IsHomeKey k None = IsTop links terms k
+  IsHomeKey k None = IsRoot k
   IsHomeKey k (Some b) = IsHome links terms k b
 
   abbrev pub IsChildAt : Bool → ℕ → ℕ → Type 0
@@ -47,7 +53,7 @@ IsTopChild c = (c.at_home ≡ true) × (c.types ≡ untyped)
 -- What stands at the top, and below each concept.
 pub record IsGathered (links : Links) (terms : List Term) (tops : List Child) (below : List (List Child)) : Type 0 where
   pub size : length below ≡ length terms
-  pub tops_listed : IsListing child_cmp (λ c. IsTopChild c × IsTop links terms c.key) tops
+  pub tops_listed : IsListing child_cmp (λ c. IsTopChild c × IsRoot links terms c.key) tops
   pub below_listed : (b : ℕ) → b < length terms → IsListing child_cmp (IsChild links terms b) (at below b)
 
 -- What a link within a scheme joins to a concept with a key has a key.

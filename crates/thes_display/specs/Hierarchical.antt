@@ -1,7 +1,8 @@
 -- The hierarchical display of a scheme in a language.
 -- The key of a concept is its place in alphabetical order by its term. Its home broader is its least broader concept by that key.
-use Rattle.std.specs.Prelude.{◌≡◌, ◌≤◌, ◌↔◌, ℕ, List, Some, slice_get, IsTrue}
+use Rattle.std.specs.Prelude.{◌≡◌, ◌≤◌, ◌↔◌, ℕ, List, true, Some, slice_get, Contains, IsTrue}
 use Rattle.thes_base.specs.declared.data.LinkKind.TheVariants.{BroaderGeneric, BroaderPartitive, BroaderInstantial}
+use Rattle.thes_base.specs.Legal.{Legal}
 use Rattle.thes_base.specs.Links.{Links}
 use Rattle.thes_base.specs.Listing.{IsListing}
 use Rattle.thes_base.specs.State.{State}
@@ -67,3 +68,22 @@ pub record IsHierarchical (s : State) (scheme : ℕ) (tag text : List ℕ) : Typ
   pub lines : List Line
   pub are_lines : IsListing line_cmp (IsLine (IsTop s.links terms) (IsHome s.links terms) (IsAway s.links terms) (AreTypes s.links terms)) lines
   pub is : text ≡ lines_text terms lines
+
+-- A scheme of a state has at most one hierarchical display in a language.
+abbrev pub HasOneHierarchical : Type 0
+HasOneHierarchical =
+    (s : State) (scheme : ℕ) (tag x y : List ℕ) → IsHierarchical s scheme tag x → IsHierarchical s scheme tag y → x ≡ y
+
+-- there is exactly one line at home of the concept n
+pub record HasOneHome (terms : List Term) (lines : List Line) (n : ℕ) : Type 0 where
+  pub line : Line
+  pub there : Contains lines line
+  pub shows : HasKey terms n line.key
+  pub at_home : line.at_home ≡ true
+  pub only : (other : Line) → Contains lines other → HasKey terms n other.key → other.at_home ≡ true → other ≡ line
+
+-- In the hierarchical display of a legal state each live concept of the scheme has exactly one line at home.
+abbrev pub EachHasOneHome : Type 0
+EachHasOneHome =
+    (base : List ℕ) (s : State) (scheme : ℕ) (tag text : List ℕ) → Legal base s → (d : IsHierarchical s scheme tag text)
+    → (n : ℕ) → IsConceptOf s.resources scheme n → HasOneHome d.terms d.lines n

@@ -1,10 +1,11 @@
 //! What stands below a concept's term: its labels and the concepts that it is linked to, as terms in order.
-ghost use Rattle.std.specs.Prelude.{◌≡◌, ◌↔◌, false, IfOk, Contains, IsTrue};
+ghost use Rattle.std.specs.Prelude.{[], ◌≡◌, ◌↔◌, false, IfOk, Contains, IsTrue};
 ghost use Rattle.std.specs.List.Sorted.{IsStrictlySortedBy};
 ghost use Rattle.std.specs.Ordering.{nat_cmp};
 ghost use Rattle.thes_base.specs.Links.{IsHierarchical};
 ghost use Rattle.thes_base.specs.Listing.{IsListing};
 ghost use Rattle.thes_base.specs.Views.{HasLink};
+ghost use Rattle.thes_core.specs.Kept.{with_histories};
 ghost use Rattle.thes_display.specs.Alphabetical.{IsUnder};
 ghost use Rattle.thes_display.specs.Chosen.{IsTermOf, IsLabelTerm, IsBelow};
 ghost use Rattle.thes_display.specs.Order.{term_cmp};
@@ -21,7 +22,7 @@ use thes_core::Core;
 pub(crate) fn has_link(core: &Core, kind: LinkKind, a: ResNo, b: ResNo) -> bool
     requires unspent { core.now.spent ≡ false }
     requires hierarchical { IsHierarchical kind }
-    ensures { IsTrue result ↔ HasLink core.now.state.links kind a b }
+    ensures { IsTrue result ↔ HasLink core.now.links kind a b }
 {
     core.has(&Link { kind, a, b })
 }
@@ -35,7 +36,7 @@ pub(crate) fn terms_of_all(
 ) -> Result<Vec<Term>, AllocError>
     requires unspent { core.now.spent ≡ false }
     requires rise { IsStrictlySortedBy nat_cmp concepts.now }
-    ensures { let is_term = IsTermOf core.now.state.labels tag.now (Contains concepts.now) in
+    ensures { let is_term = IsTermOf core.now.labels tag.now (Contains concepts.now) in
         IfOk result (λ terms. IsListing term_cmp is_term terms.items) }
 {
     let mut terms = Vec::new(alloc);
@@ -56,7 +57,7 @@ pub(crate) fn labels_in(
     tag: &Tag,
 ) -> Result<Vec<Term>, AllocError>
     requires unspent { core.now.spent ≡ false }
-    ensures { let is_label = IsLabelTerm core.now.state.labels n kind tag.now in
+    ensures { let is_label = IsLabelTerm core.now.labels n kind tag.now in
         IfOk result (λ terms. IsListing term_cmp is_label terms.items) }
 {
     let found = core.labels_of_kind(alloc, n, kind)?;
@@ -80,7 +81,7 @@ fn broader_by(
 ) -> Result<Vec<ResNo>, AllocError>
     requires unspent { core.now.spent ≡ false }
     requires hierarchical { IsHierarchical kind }
-    ensures { IfOk result (λ found. IsListing nat_cmp (HasLink core.now.state.links kind n) found.items) }
+    ensures { IfOk result (λ found. IsListing nat_cmp (HasLink core.now.links kind n) found.items) }
 {
     let broader = core.broader_of(alloc, n)?;
     let mut found = Vec::new(alloc);
@@ -101,7 +102,7 @@ fn narrower_by(
 ) -> Result<Vec<ResNo>, AllocError>
     requires unspent { core.now.spent ≡ false }
     requires hierarchical { IsHierarchical kind }
-    ensures { IfOk result (λ found. IsListing nat_cmp (IsBelow core.now.state.links kind n) found.items) }
+    ensures { IfOk result (λ found. IsListing nat_cmp (IsBelow core.now.links kind n) found.items) }
 {
     let narrower = core.narrower_of(alloc, n)?;
     let mut found = Vec::new(alloc);
@@ -122,7 +123,7 @@ pub fn under(
     symbol: Symbol,
 ) -> Result<Vec<Term>, AllocError>
     requires { core.now.spent ≡ false }
-    ensures { let is_under = IsUnder core.now.state tag.now n symbol in
+    ensures { let is_under = IsUnder (with_histories [] core.now) tag.now n symbol in
         IfOk result (λ terms. IsListing term_cmp is_under terms.items) }
 {
     match symbol {

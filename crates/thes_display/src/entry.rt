@@ -1,6 +1,8 @@
 //! Entries of the alphabetical display.
-ghost use Rattle.std.specs.Prelude.{◌≡◌, ◌++◌, false, IfOk, OnOk, IsPermutation, IsSorted, cond};
+ghost use Rattle.std.specs.Prelude.{[], ◌≡◌, ◌++◌, false, IfOk, OnOk, IsPermutation, IsSorted, cond};
 ghost use Rattle.thes_base.specs.Listing.{IsListing};
+ghost use Rattle.thes_base.specs.State.{State};
+ghost use Rattle.thes_core.specs.Kept.{Holds, with_histories};
 ghost use Rattle.thes_display.specs.Added.{IsAdded};
 ghost use Rattle.thes_display.specs.Alphabetical.{AreLinesOf, AreTexts, IsAlphabetical, IsEntry, IsHeading, heading_cmp, line_below, symbols};
 ghost use Rattle.thes_display.specs.Headings.{heading_key, IsHeadingAt};
@@ -44,7 +46,7 @@ impl Heading {
 // The headings of one concept: its term, and its alternative labels in alphabetical order.
 fn headings_at(alloc: Global, core: &Core, n: ResNo, tag: &Tag) -> Result<Vec<Heading>, AllocError>
     requires { core.now.spent ≡ false }
-    ensures { let is_heading = IsHeadingAt core.now.state tag.now n in
+    ensures { let is_heading = IsHeadingAt (with_histories [] core.now) tag.now n in
         IfOk result (λ headings. IsListing heading_key is_heading headings.items) }
 {
     let mut headings = Vec::new(alloc);
@@ -79,7 +81,7 @@ fn headings_of(
     tag: &Tag,
 ) -> Result<Vec<Heading>, AllocError>
     requires { core.now.spent ≡ false }
-    ensures { let is_heading = IsHeading core.now.state tag.now scheme in
+    ensures { let is_heading = IsHeading (with_histories [] core.now) tag.now scheme in
         IfOk result (λ headings. IsListing heading_cmp is_heading headings.items) }
 {
     let mut headings = Vec::new(alloc);
@@ -113,7 +115,7 @@ fn write_symbol(
     symbol: Symbol,
 ) -> Result<(), AllocError>
     requires { core.now.spent ≡ false }
-    ensures { let are_lines = AreLinesOf core.now.state tag.now n symbol in
+    ensures { let are_lines = AreLinesOf (with_histories [] core.now) tag.now n symbol in
         OnOk result (IsAdded are_lines text.old.items text.new.items) }
 {
     let terms = under(alloc, core, n, tag, symbol)?;
@@ -132,7 +134,7 @@ fn write_symbols(
     tag: &Tag,
 ) -> Result<(), AllocError>
     requires { core.now.spent ≡ false }
-    ensures { let are_lines = AreTexts (AreLinesOf core.now.state tag.now n) symbols in
+    ensures { let are_lines = AreTexts (AreLinesOf (with_histories [] core.now) tag.now n) symbols in
         OnOk result (IsAdded are_lines text.old.items text.new.items) }
 {
     let symbols = Symbol::all();
@@ -151,7 +153,7 @@ fn write_entry(
     tag: &Tag,
 ) -> Result<(), AllocError>
     requires { core.now.spent ≡ false }
-    ensures { let is_entry = IsEntry core.now.state tag.now heading.now in
+    ensures { let is_entry = IsEntry (with_histories [] core.now) tag.now heading.now in
         OnOk result (IsAdded is_entry text.old.items text.new.items) }
 {
     let n = heading.term.concept();
@@ -166,7 +168,7 @@ fn write_entry(
     Ok(())
 }
 
-/// Makes the text of the alphabetical display of a scheme in a language.
+/// Makes the text of the alphabetical display of a scheme in a language, of the state that the core holds.
 pub fn alphabetical_text(
     alloc: Global,
     core: &Core,
@@ -174,7 +176,8 @@ pub fn alphabetical_text(
     tag: &Tag,
 ) -> Result<Vec<u8>, AllocError>
     requires { core.now.spent ≡ false }
-    ensures { IfOk result (λ text. IsAlphabetical core.now.state scheme tag.now text.items) }
+    ensures { (s : State) → Holds core.now s →
+        IfOk result (λ text. IsAlphabetical s scheme tag.now text.items) }
 {
     let headings = headings_of(alloc, core, scheme, tag)?;
     let mut text = Vec::new(alloc);

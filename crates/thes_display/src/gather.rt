@@ -1,8 +1,11 @@
 //! What of a core a hierarchy consists of.
-ghost use Rattle.std.specs.Prelude.{◌≡◌, ◌<◌, ◌≤◌, Contains, true, OnOk, IsPermutation, IsSorted, ◌↔◌, ℕ, Some, false, length, slice_get, map, IsSome, All, IfOk, MatchOption, IsTrue};
+ghost use Rattle.std.specs.Prelude.{◌≡◌, ◌<◌, ◌≤◌, Contains, true, OnOk, IsPermutation, IsSorted, ◌↔◌, ℕ, Some, false, length, slice_get, IfOk, MatchOption, IsTrue};
 ghost use Rattle.std.specs.BTreeMap.{get};
+ghost use Rattle.std.specs.List.{filter_map};
 ghost use Rattle.std.specs.Ordering.{nat_cmp};
 ghost use Rattle.thes_base.specs.Listing.{IsListing};
+ghost use Rattle.thes_base.specs.State.{State};
+ghost use Rattle.thes_core.specs.Kept.{Holds};
 ghost use Rattle.thes_vocab.specs.Vocabulary.{IsConceptOf};
 ghost use Rattle.thes_display.specs.Below.{child_cmp, lists};
 ghost use Rattle.thes_display.specs.Lines.{untyped as no_types};
@@ -27,9 +30,11 @@ pub fn terms_of(
     tag: &Tag,
 ) -> Result<Vec<Term>, AllocError>
     requires { core.now.spent ≡ false }
-    ensures terms { IfOk result (λ terms. AreTerms core.now.state scheme tag.now terms.items) }
+    ensures terms { (s : State) → Holds core.now s →
+        IfOk result (λ terms. AreTerms s scheme tag.now terms.items) }
     ensures one_key { IfOk result (λ terms. HaveOneKey terms.items) }
-    ensures closed { IfOk result (λ terms. IsClosed core.now.state.links terms.items) }
+    ensures closed { (s : State) → Holds core.now s →
+        IfOk result (λ terms. IsClosed core.now.links terms.items) }
 {
     let terms = terms_of_all(alloc, core, core.live_of(scheme), tag)?;
     Ok(terms)
@@ -47,18 +52,19 @@ pub fn keys_of(alloc: Global, terms: &[Term]) -> Result<BTreeMap<ResNo, usize>, 
     Ok(keys)
 }
 
-// The keys of these concepts.
+// The keys of those concepts that have one.
 fn keys_at(
     alloc: Global,
     keys: &BTreeMap<ResNo, usize>,
     concepts: &[ResNo],
 ) -> Result<Vec<usize>, AllocError>
-    requires { All (λ n. IsSome (get nat_cmp keys.now n)) concepts.now }
-    ensures { IfOk result (λ found. map (λ k. Some k) found.items ≡ map (get nat_cmp keys.now) concepts.now) }
+    ensures { IfOk result (λ found. found.items ≡ filter_map (get nat_cmp keys.now) concepts.now) }
 {
     let mut found = Vec::new(alloc);
     for concept in concepts {
-        found.push(*keys.get(concept).unwrap())?;
+        if let Some(key) = keys.get(concept) {
+            found.push(*key)?;
+        }
     }
     Ok(found)
 }
@@ -88,8 +94,7 @@ fn home_of(
     requires unspent { core.now.spent ≡ false }
     requires within { key < length terms.now }
     requires keys { AreKeys terms.now (get nat_cmp keys.now) }
-    requires closed { IsClosed core.now.state.links terms.now }
-    ensures { IfOk result (λ home. IsHomeKey core.now.state.links terms.now key home) }
+    ensures { IfOk result (λ home. IsHomeKey core.now.links terms.now key home) }
 {
     let broader = core.broader_of(alloc, terms[key].concept())?;
     let found = keys_at(alloc, keys, broader.as_slice())?;
@@ -121,7 +126,7 @@ fn sort_children(children: &mut Vec<Child>) -> Result<(), AllocError>
 fn types_at(core: &Core, terms: &[Term], child: usize, key: usize) -> Types
     requires unspent { core.now.spent ≡ false }
     requires within { (child < length terms.now) × (key < length terms.now) }
-    ensures { AreTypes core.now.state.links terms.now result child key }
+    ensures { AreTypes core.now.links terms.now result child key }
 {
     let (a, b) = (terms[child].concept(), terms[key].concept());
     Types {
@@ -143,9 +148,8 @@ fn children_of(
     requires unspent { core.now.spent ≡ false }
     requires within { key < length terms.now }
     requires keys { AreKeys terms.now (get nat_cmp keys.now) }
-    requires closed { IsClosed core.now.state.links terms.now }
-    requires homes { AreHomes core.now.state.links terms.now (length terms.now) homes.now }
-    ensures { IfOk result (λ children. IsListing child_cmp (IsChild core.now.state.links terms.now key) children.items) }
+    requires homes { AreHomes core.now.links terms.now (length terms.now) homes.now }
+    ensures { IfOk result (λ children. IsListing child_cmp (IsChild core.now.links terms.now key) children.items) }
 {
     let narrower = core.narrower_of(alloc, terms[key].concept())?;
     let found = keys_at(alloc, keys, narrower.as_slice())?;
@@ -172,8 +176,7 @@ fn homes_of(
 ) -> Result<Vec<Option<usize>>, AllocError>
     requires unspent { core.now.spent ≡ false }
     requires keys { AreKeys terms.now (get nat_cmp keys.now) }
-    requires closed { IsClosed core.now.state.links terms.now }
-    ensures { IfOk result (λ homes. AreHomes core.now.state.links terms.now (length terms.now) homes.items) }
+    ensures { IfOk result (λ homes. AreHomes core.now.links terms.now (length terms.now) homes.items) }
 {
     let mut homes = Vec::new(alloc);
     for key in 0..terms.len() {
@@ -192,9 +195,8 @@ fn below_of(
 ) -> Result<Vec<Vec<Child>>, AllocError>
     requires unspent { core.now.spent ≡ false }
     requires keys { AreKeys terms.now (get nat_cmp keys.now) }
-    requires closed { IsClosed core.now.state.links terms.now }
-    requires homes { AreHomes core.now.state.links terms.now (length terms.now) homes.now }
-    ensures { IfOk result (λ below. AreBelow core.now.state.links terms.now (length terms.now) (lists below.items)) }
+    requires homes { AreHomes core.now.links terms.now (length terms.now) homes.now }
+    ensures { IfOk result (λ below. AreBelow core.now.links terms.now (length terms.now) (lists below.items)) }
 {
     let mut below = Vec::new(alloc);
     for key in 0..terms.len() {
@@ -231,7 +233,7 @@ fn tops_of(alloc: Global, homes: &[Option<usize>]) -> Result<Vec<Child>, AllocEr
     Ok(tops)
 }
 
-/// The text of the hierarchical display of a scheme in a language.
+/// Makes the text of the hierarchical display of a scheme in a language, of the state that the core holds.
 pub fn hierarchical_text(
     alloc: Global,
     core: &Core,
@@ -239,7 +241,8 @@ pub fn hierarchical_text(
     tag: &Tag,
 ) -> Result<Vec<u8>, AllocError>
     requires { core.now.spent ≡ false }
-    ensures { IfOk result (λ text. IsHierarchical core.now.state scheme tag.now text.items) }
+    ensures { (s : State) → Holds core.now s →
+        IfOk result (λ text. IsHierarchical s scheme tag.now text.items) }
 {
     let owned = terms_of(alloc, core, scheme, tag)?;
     let terms = owned.as_slice();

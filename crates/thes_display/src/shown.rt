@@ -3,6 +3,8 @@ ghost use Rattle.std.specs.Prelude.{◌≡◌, false, IfOk, IfErr, OnOk, MatchOp
 ghost use Rattle.std.specs.Io.KnownBytes.{Appends};
 ghost use Rattle.thes_base.specs.Pipe.{IsFresh, written};
 ghost use Rattle.thes_base.specs.Resources.{IsScheme};
+ghost use Rattle.thes_base.specs.State.{State};
+ghost use Rattle.thes_core.specs.Kept.{Holds};
 ghost use Rattle.thes_display.specs.Alphabetical.{IsAlphabetical};
 ghost use Rattle.thes_display.specs.Hierarchical.{IsHierarchical};
 ghost use Rattle.thes_display.specs.Shown.{IsCut, IsNoScheme, IsShown, IsStopped, KeepsCalls};
@@ -30,8 +32,8 @@ pub enum Shown {
 // Why there is no such scheme, if there is none.
 fn judge_scheme(core: &Core, scheme: ResNo) -> Option<Refusal>
     requires { core.now.spent ≡ false }
-    ensures { MatchOption result (IsScheme core.now.state.resources scheme)
-        (IsNoScheme core.now.state.resources scheme) }
+    ensures { let resources = core.now.resources in
+        MatchOption result (IsScheme resources scheme) (IsNoScheme resources scheme) }
 {
     match core.resource(scheme) {
         None => Some(Refusal::UnknownResource),
@@ -56,7 +58,8 @@ fn write_text<W: Write>(writer: &mut Pipe<W>, text: &[u8]) -> Result<(), PipeFau
     }
 }
 
-/// Writes the hierarchical display of a scheme in a language. All memory is had before the first byte is written.
+/// Writes the hierarchical display of a scheme in a language, of the state that the core holds. All memory is had before the
+/// first byte is written.
 pub fn hierarchical<W: Write>(
     alloc: Global,
     core: &Core,
@@ -66,9 +69,11 @@ pub fn hierarchical<W: Write>(
 ) -> Result<Shown, PipeFault>
     requires unspent { core.now.spent ≡ false }
     requires writer { IsFresh writer.old }
-    ensures shown { let is_text = IsHierarchical core.now.state scheme tag.now in
-        IfOk result (IsShown W.contents core.now.state.resources scheme is_text writer.old writer.new) }
-    ensures stopped { let is_text = IsHierarchical core.now.state scheme tag.now in
+    ensures shown { (s : State) → Holds core.now s →
+        let is_text = IsHierarchical s scheme tag.now in
+        IfOk result (IsShown W.contents s.resources scheme is_text writer.old writer.new) }
+    ensures stopped { (s : State) → Holds core.now s →
+        let is_text = IsHierarchical s scheme tag.now in
         IfErr result (IsStopped W.contents is_text writer.old writer.new) }
     ensures calls { KeepsCalls writer.old writer.new }
 {
@@ -80,7 +85,8 @@ pub fn hierarchical<W: Write>(
     Ok(Shown::Written)
 }
 
-/// Writes the alphabetical display of a scheme in a language. All memory is had before the first byte is written.
+/// Writes the alphabetical display of a scheme in a language, of the state that the core holds. All memory is had before the
+/// first byte is written.
 pub fn alphabetical<W: Write>(
     alloc: Global,
     core: &Core,
@@ -90,9 +96,11 @@ pub fn alphabetical<W: Write>(
 ) -> Result<Shown, PipeFault>
     requires unspent { core.now.spent ≡ false }
     requires writer { IsFresh writer.old }
-    ensures shown { let is_text = IsAlphabetical core.now.state scheme tag.now in
-        IfOk result (IsShown W.contents core.now.state.resources scheme is_text writer.old writer.new) }
-    ensures stopped { let is_text = IsAlphabetical core.now.state scheme tag.now in
+    ensures shown { (s : State) → Holds core.now s →
+        let is_text = IsAlphabetical s scheme tag.now in
+        IfOk result (IsShown W.contents s.resources scheme is_text writer.old writer.new) }
+    ensures stopped { (s : State) → Holds core.now s →
+        let is_text = IsAlphabetical s scheme tag.now in
         IfErr result (IsStopped W.contents is_text writer.old writer.new) }
     ensures calls { KeepsCalls writer.old writer.new }
 {

@@ -1,18 +1,11 @@
 //! How a file stores a display, and how it is made.
-ghost use Rattle.std.specs.Prelude.{◌≡◌, false, IfOk};
-
+use crate::store::{invalid, machine_after};
 use std::alloc::{AllocError, Global};
 use std::io;
-use thes_base::data::Limits;
 use thes_base::number::ResNo;
 use thes_base::pipe::Pipe;
-use thes_base::text::{Base, Tag};
-use thes_core::Core;
+use thes_base::text::Tag;
 use thes_display::shown::{Shown, alphabetical, hierarchical};
-use thes_exchange::core_desk::core_script;
-
-// The base of each store.
-const BASE: &str = "https://thesaurus.example/id/";
 
 /// Requests, the words of a display, and the display that is stored for them.
 #[derive(Drop)]
@@ -52,35 +45,18 @@ fn push_requests(requests: &mut String, lines: &str) -> Result<(), AllocError> {
     Ok(())
 }
 
-fn invalid() -> io::Error {
-    io::Error::from(io::ErrorKind::InvalidData)
-}
-
-// A core after these requests, of which none may be refused.
-fn core_after(alloc: Global, requests: &str) -> io::Result<Core>
-    ensures { IfOk result (λ core. core.spent ≡ false) }
-{
-    let base = Base::read(alloc, BASE).map_err(|_| invalid())?;
-    let mut core = Core::new(alloc, base, Limits::default());
-    let mut reader = Pipe::new(requests.as_bytes());
-    let mut writer = Pipe::new(Vec::new(alloc));
-    match core_script(alloc, &mut reader, &mut writer, &mut core) {
-        Ok(ended) if !ended.refused && ended.fault.is_none() && !core.is_spent() => Ok(core),
-        _ => Err(invalid()),
-    }
-}
-
 /// Makes the display of an example, or says by what name it is refused.
 pub fn show(alloc: Global, example: &Example) -> io::Result<String> {
     let mut words = example.words.split(' ');
     let kind = words.next().unwrap_or("");
     let scheme = ResNo::read(words.next().unwrap_or("")).map_err(|_| invalid())?;
     let tag = Tag::read(alloc, words.next().unwrap_or("")).map_err(|_| invalid())?;
-    let core = core_after(alloc, example.requests.as_str())?;
+    let machine = machine_after(alloc, example.requests.as_str())?;
+    let core = machine.core();
     let mut writer = Pipe::new(Vec::new(alloc));
     let shown = match kind {
-        "alphabetical" => alphabetical(alloc, &core, scheme, &tag, &mut writer),
-        "hierarchical" => hierarchical(alloc, &core, scheme, &tag, &mut writer),
+        "alphabetical" => alphabetical(alloc, core, scheme, &tag, &mut writer),
+        "hierarchical" => hierarchical(alloc, core, scheme, &tag, &mut writer),
         _ => return Err(invalid()),
     };
     match shown {

@@ -1,4 +1,4 @@
--- Where the lines of a script lead a core.
+-- Where the lines of a script lead a machine.
 use Rattle.std.proofs.Common.{◌≡◌, ◌⊎◌, ◌∙◌, inl, inr, ⊎_elim, sym, ap, subst, ℕ, List, [], ◌∷◌, true, false, true≢false, Option, Result, Ok, Err}
 use Rattle.std.specs.Prelude.{IfOk, IfErr}
 use Rattle.thes_base.specs.declared.request.Command.{Command}
@@ -6,7 +6,7 @@ use Rattle.thes_base.specs.declared.request.Answer.{Answer}
 use Rattle.thes_base.specs.declared.fault.PipeFault.{PipeFault}
 use Rattle.thes_base.specs.Machine.{Step, Run}
 use Rattle.thes_base.specs.Refusals.{Setting}
-use Rattle.thes_core.specs.Kept.{Kept}
+use Rattle.thes_machine.specs.Kept.{Kept}
 use Rattle.thes_exchange.specs.declared.answer.Reply.TheVariants as reply
 use Rattle.thes_exchange.specs.declared.serve.Outcome.{Outcome}
 use Rattle.thes_exchange.specs.declared.serve.Outcome.TheVariants.{Told, Shown}
@@ -23,7 +23,7 @@ record Steps (old new : Kept) : Type 0 where
   unspent : new.spent ≡ false
   setting : new.setting ≡ old.setting
 
--- a line leaves the core as it is, or it is a step of the machine, or it leaves the core spent
+-- a line leaves the machine as it is, or it is a step of the machine, or it leaves the machine spent
 abbrev Goes : Kept → Kept → Type 0
 Goes old new = (new ≡ old) ⊎ (Steps old new ⊎ (new.spent ≡ true))
 
@@ -41,7 +41,7 @@ goes line Skipped old new p = inl p.1
 goes line Unheld old new p = inl p
 goes line (Answered o) old new p = served line o old new p.1
 
--- a spent core stays so
+-- a spent machine stays so
 stays : (old new : Kept) → old.spent ≡ true → Goes old new → new.spent ≡ true
 stays old new h (inl e) = ap (λ (k : Kept). k.spent) e ∙ h
 stays old new h (inr (inl s)) = absurd (true≢false (sym h ∙ s.before))
@@ -53,7 +53,7 @@ all_spent [] (f ∷ fates) old new h r = absurd r
 all_spent (line ∷ more) [] old new h r = absurd r
 all_spent (line ∷ more) (f ∷ fates) old new h r = all_spent more fates r.0 new (stays old r.0 h (goes line f old r.0 r.1)) r.2
 
--- what the rest leads to, from a core that isn't spent and from a spent one
+-- what the rest leads to, from a machine that isn't spent and from a spent one
 led_on : (old mid new : Kept) → old.spent ≡ false → Goes old mid → (mid.spent ≡ false → IsLed mid new) → (mid.spent ≡ true → new.spent ≡ true) → IsLed old new
 led_on old mid new h (inl e) f g = subst (λ (k : Kept). IsLed k new) e (f (ap (λ (k : Kept). k.spent) e ∙ h))
 led_on old mid new h (inr (inl s)) f g = led_step (f s.unspent)
@@ -70,7 +70,7 @@ led (line ∷ more) [] old new h r = absurd r
 led (line ∷ more) (f ∷ fates) old new h r =
     led_on old r.0 new h (goes line f old r.0 r.1) (λ u. led more fates r.0 new u r.2) (λ s. all_spent more fates r.0 new s r.2)
 
--- a script leads a core, whether it was stopped or not
+-- a script leads a machine, whether it was stopped or not
 pub script_leads : {R W : Type 0} (remaining : R → Option (List ℕ)) (contents : W → Option (List ℕ)) (result : Result Ended PipeFault) (old new : Scene R W Kept) → old.desk.spent ≡ false
     → IfOk result (Completes remaining contents CoreServes is_unspent old new) → IfErr result (Stops remaining contents CoreServes is_unspent old new) → IsLed old.desk new.desk
 script_leads remaining contents (Ok ended) old new h f g = let l = f.lines in led _ f.fates old.desk new.desk h l.run

@@ -7,4 +7,6 @@ pub mod FeedLemmas
 pub mod LineLemmas
 pub mod ScriptLemmas
 pub mod ViewLemmas
+pub mod ListingLemmas
+pub mod ConceptLemmas
 pub mod CoreLemmas

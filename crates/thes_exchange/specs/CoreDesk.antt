@@ -1,4 +1,4 @@
--- What a core does with a request and with a query.
+-- What a machine does with a request and with a query.
 use Rattle.std.specs.Prelude.{◌≡◌, ◌⊎◌, ℕ, Bool, not, List, true, false, Result, Ok, Err, OnOk}
 use Rattle.thes_base.specs.declared.fault.Fault.{Fault}
 use Rattle.thes_base.specs.declared.fault.Fault.TheVariants.{OutOfMemory}
@@ -7,8 +7,8 @@ use Rattle.thes_base.specs.declared.request.Answer.{Answer}
 use Rattle.thes_base.specs.Headline.{IsInOrder}
 use Rattle.thes_base.specs.Machine.{Run}
 use Rattle.thes_base.specs.State.{State}
-use Rattle.thes_core.specs.Kept.{Kept}
-use Rattle.thes_core.specs.Decides.{Performs}
+use Rattle.thes_machine.specs.Kept.{Kept}
+use Rattle.thes_machine.specs.Performs.{Performs}
 use Rattle.thes_exchange.specs.declared.desk.Viewed.{Viewed}
 use Rattle.thes_exchange.specs.declared.desk.Viewed.TheVariants as viewed
 use Rattle.thes_exchange.specs.declared.request.Query.{Query}
@@ -18,7 +18,7 @@ use Rattle.thes_exchange.specs.Serving.{Performing, Showing, Serving, Serves}
 use Rattle.thes_exchange.specs.ViewOf.{IsView}
 use Rattle.thes_exchange.specs.ViewTexts.{view_text}
 
--- A step of the machine, by a core that isn't spent. The state after it is in order.
+-- A step of the machine, by a machine in memory that isn't spent. The state after it is in order.
 abbrev pub CorePerforms : Performing Kept
 CorePerforms old command result new =
     (old.spent ≡ false) × Performs old command result new
@@ -36,18 +36,18 @@ IsViewed s query (Ok (viewed.Line text)) =
 IsViewed s query (Ok (viewed.No r)) = IsView s query (views.No r)
 IsViewed s query (Err fault) = fault ≡ OutOfMemory
 
--- the core stays as it is
+-- the machine stays as it is
 abbrev pub CoreShows : Showing Kept
 CoreShows old query result new = IsViewed old.state query result × (new ≡ old)
 
 abbrev pub is_unspent : Kept → Bool
-is_unspent core = not core.spent
+is_unspent machine = not machine.spent
 
 -- a line is answered by a step of the machine, by a view of its state, or by what keeps it from being read
 abbrev pub CoreServes : Serving Kept
 CoreServes = Serves CorePerforms CoreShows
 
--- A run of the machine leads from the one state to the other, or running out of memory has left the core spent.
+-- A run of the machine leads from the one state to the other, or running out of memory has left the machine spent.
 abbrev pub IsLed : Kept → Kept → Type 0
 IsLed old new =
     (new.spent ≡ true)

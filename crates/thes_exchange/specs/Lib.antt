@@ -9,6 +9,7 @@ pub mod Serving
 pub mod Script
 pub mod Served
 pub mod ViewTexts
+pub mod Listing
 pub mod ConceptMembers
 pub mod ViewOf
 pub mod Laws

@@ -41,8 +41,12 @@ typed_data m = word_data (typed_word m.0) m.1
 abbrev pub move_data : Move → Data
 move_data m = array (item (num m.number) (item (num m.source) (item (num m.target) no_items)))
 
+-- a posting in a list, by its number, its key and its record
+abbrev pub entry_data : ℕ → List ℕ → List ℕ → Data
+entry_data n key rec = array (item (num n) (item (string key) (item (string rec) no_items)))
+
 abbrev pub row_data : History → Data
-row_data h = array (item (num h.number) (item (string h.key) (item (string h.rec) no_items)))
+row_data h = entry_data h.number h.key h.rec
 
 abbrev pub totals_data : Totals → Data
 totals_data t = object
@@ -71,8 +75,11 @@ concept_data c = object
     (member (codes "typed") (listed typed_data c.typed)
     no_members))))))))))))))))
 
+abbrev pub listing_data : List Data → Data
+listing_data entries = object (member (codes "postings") (array (items_of entries)) no_members)
+
 abbrev pub postings_data : List History → Data
-postings_data hs = object (member (codes "postings") (listed row_data hs) no_members)
+postings_data hs = listing_data (map row_data hs)
 
 abbrev pub posting_data : History → Data
 posting_data h = object

@@ -2,12 +2,14 @@
 #![tactic(auto)]
 
 pub mod answer;
+pub mod concept;
 pub mod core_desk;
 pub mod desk;
 mod feed;
 pub mod laws;
 pub mod line;
 mod lines;
+pub mod listing;
 mod members;
 mod numeral;
 pub mod request;

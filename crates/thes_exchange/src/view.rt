@@ -5,7 +5,7 @@ ghost use Rattle.serde_json.specs.Written.{has_float};
 ghost use Rattle.thes_base.specs.Postings.{place};
 ghost use Rattle.thes_core.specs.Shown.{tagged};
 ghost use Rattle.thes_exchange.specs.ConceptMembers.{labels_put, links_put, facts_put};
-ghost use Rattle.thes_exchange.specs.ViewTexts.{num, listed, number_or_null, tagged_data, mapping_data, typed_data, word_data, move_data, row_data, totals_data, concept_data, postings_data, posting_data, line_text, view_text};
+ghost use Rattle.thes_exchange.specs.ViewTexts.{num, listed, number_or_null, tagged_data, mapping_data, typed_data, word_data, move_data, entry_data, row_data, totals_data, concept_data, postings_data, posting_data, line_text, view_text};
 
 use crate::answer::refusal_line;
 use serde_json::{Map, Value, json, put};
@@ -13,7 +13,8 @@ use std::alloc::{AllocError, Global};
 use std::marker::Model;
 use thes_base::data::{History, Label, LinkKind, Move, Totals, TypedKind};
 use thes_base::fault::Refusal;
-use thes_base::number::ResNo;
+use thes_base::number::{PostNo, ResNo};
+use thes_base::text::{Key, RecordName};
 
 /// A concept with its labels, its links and the count of the postings that stand at it.
 #[derive(Drop)]
@@ -268,10 +269,21 @@ fn concept_value(alloc: Global, concept: &ConceptView) -> Result<Value, AllocErr
 }
 
 // A posting in a list, as JSON.
+pub(crate) fn entry_value(
+    alloc: Global,
+    number: PostNo,
+    key: &Key,
+    rec: &RecordName,
+) -> Result<Value, AllocError>
+    ensures { IfOk result (λ v. view v ≡ entry_data number key.now rec.now) }
+{
+    json!(in alloc; [number.get(), key.as_str(), rec.as_str()])
+}
+
 fn row_value(alloc: Global, history: &History) -> Result<Value, AllocError>
     ensures { IfOk result (λ v. view v ≡ row_data history.now) }
 {
-    json!(in alloc; [history.number.get(), history.key.as_str(), history.rec.as_str()])
+    entry_value(alloc, history.number, &history.key, &history.rec)
 }
 
 // Postings in a list, as JSON.
@@ -339,7 +351,7 @@ fn posting_value(alloc: Global, history: &History) -> Result<Value, AllocError>
 
 // The line of a value.
 #[tactic(auto, unfolding(crate::specs::ViewTexts::line_text))]
-fn value_line(alloc: Global, value: &Value) -> Result<Vec<u8>, AllocError>
+pub(crate) fn value_line(alloc: Global, value: &Value) -> Result<Vec<u8>, AllocError>
     ensures { IfOk result (λ text. has_float (view value.now) ≡ false →
         text.items ≡ line_text (view value.now)) }
 {

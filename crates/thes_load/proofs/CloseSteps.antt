@@ -16,7 +16,6 @@ use Rattle.thes_rows.specs.Cells.{Raw, RawTable, outside_cells, label_cells, hie
 use Rattle.thes_rows.proofs.Listing.{map_one, resources_one, outside_one, label_one, hier_one}
 use Rattle.thes_vocab.specs.Vocabulary.{Vocabulary}
 use Rattle.thes_vocab.specs.Loading.{AreLabelsSoFar, HaveIris}
-use Rattle.thes_graph.specs.Net.{Net}
 use Rattle.thes_tables.specs.Rules.{ResourceRule, OutsideRule, LabelRule, HierRule}
 use Rattle.thes_tables.specs.Loads.{IsNewer, IsOlder}
 use Rattle.thes_tables.proofs.Judging.{judged}
@@ -24,12 +23,14 @@ use Rattle.thes_load.specs.declared.stage.Stage.TheVariants as stage
 use Rattle.thes_load.specs.declared.meta.MetaRow.TheVariants.{Newer, Older, Base}
 use Rattle.thes_load.specs.declared.resources.ResourceLoad.{ResourceLoad}
 use Rattle.thes_load.specs.declared.names.OutsideLoad.{OutsideLoad}
-use Rattle.thes_load.specs.declared.links.LinkLoad.{LinkLoad}
+use Rattle.thes_load.specs.declared.linked.LinkedVocab.{LinkedVocab}
+use Rattle.thes_load.specs.declared.postings.PlacedPostings.{PlacedPostings}
 use Rattle.thes_load.specs.declared.postings.PostingLoad.{PostingLoad}
 use Rattle.thes_load.specs.declared.moves.MoveLoad.{MoveLoad}
 use Rattle.thes_load.specs.Naming.{HasOutside, vocabulary_of}
 use Rattle.thes_load.specs.Linking.{HasLinks}
 use Rattle.thes_load.specs.Taken.{HasPostings, HasMoves}
+use Rattle.thes_load.specs.Placed.{ArePlaced}
 use Rattle.thes_load.specs.Progress.{Grows, Extends, Closes, next_table}
 use Rattle.thes_load.proofs.ProgressLemmas.{meta_stays, resource_stays, outside_stays, link_stays}
 use Rattle.thes_load.proofs.RowSteps.{blank, meta_fault}
@@ -135,8 +136,8 @@ label_without vocab broken = (
       absurd (broken (subst HaveIris (sym has.are) passes.1.1.legal.each)),
 )
 
-pub label_good : (old new : Vocabulary) (load : LinkLoad) → AreLabelsSoFar old.resources old.labels → EachHasPreferred old.resources old.labels → new ≡ old → HasLinks new.resources load.graph [] [] → Closes (stage.Label old) (stage.Link new load)
-label_good old new load so_far named same links = (
+pub label_good : (old : Vocabulary) (new : LinkedVocab) → AreLabelsSoFar old.resources old.labels → EachHasPreferred old.resources old.labels → new.vocab ≡ old → HasLinks new.vocab.resources new.links.graph [] [] → Closes (stage.Label old) (stage.Link new)
+label_good old new so_far named same links = (
   refl,
   λ raw (t, passes, read, has, after).
       let so = subst (λ (v : Vocabulary). AreLabelsSoFar v.resources v.labels) has.are so_far in
@@ -151,36 +152,36 @@ label_good old new load so_far named same links = (
           named = subst (λ (v : Vocabulary). EachHasPreferred v.resources v.labels) has.are named;
         };
       } in
-      let names : new ≡ vocabulary_of t.base t.resource t.outside t.label = same ∙ has.are in (
+      let names : new.vocab ≡ vocabulary_of t.base t.resource t.outside t.label = same ∙ has.are in (
         record t { link = [] },
         (passes, (read, rule)),
         names,
         after.0,
-        subst (λ (rs : List Resource). HasLinks rs load.graph [] []) (ap (λ (v : Vocabulary). v.resources) names) links,
+        subst (λ (rs : List Resource). HasLinks rs new.links.graph [] []) (ap (λ (v : Vocabulary). v.resources) names) links,
         after.1,
       ),
 )
 
 -- Link and hier.
 
-pub link_good : (vocab : Vocabulary) (load : LinkLoad) → Closes (stage.Link vocab load) (stage.Hier vocab load)
-link_good vocab load = (
+pub link_good : (linked : LinkedVocab) → Closes (stage.Link linked) (stage.Hier linked)
+link_good linked = (
   refl,
   λ raw (t, passes, names, read, has, after).
       (record t { hier = [] }, (passes, (read, has.rule)), names, after.0, has, after.1),
 )
 
-pub hier_bad : (vocab : Vocabulary) (load : LinkLoad) → ((t : Tables) → HasLinks t.resource load.graph t.link t.hier → HierRule t.resource t.link t.hier → ⊥) → Closes (stage.Hier vocab load) (stage.Stopped (BadStore table.Hier) table.Posting)
-hier_bad vocab load broken = (
+pub hier_bad : (linked : LinkedVocab) → ((t : Tables) → HasLinks t.resource linked.links.graph t.link t.hier → HierRule t.resource t.link t.hier → ⊥) → Closes (stage.Hier linked) (stage.Stopped (BadStore table.Hier) table.Posting)
+hier_bad linked broken = (
   refl,
   λ raw (t, passes, names, read, has, after) more (e0, e1, e2, e3, e4, e5, grows).
       (judged more t).hier (link_stays raw more t e0 e1 e2 e3 e4 passes)
       (λ rows (is, rule). broken t has (subst (HierRule t.resource t.link) (map_one hier_cells hier_one rows t.hier (same_Some _ _ (sym is ∙ e5 ∙ read))) rule)),
 )
 
-pub hier_good : (vocab : Vocabulary) (load : LinkLoad) (new : PostingLoad) → ((t : Tables) → HasLinks t.resource load.graph t.link t.hier → HierRule t.resource t.link t.hier)
-    → ((rs : List Resource) → HasPostings rs new.keys.keys new.firsts.items new.ats.items []) → Closes (stage.Hier vocab load) (stage.Posting vocab load.graph new)
-hier_good vocab load new rule none = (
+pub hier_good : (linked : LinkedVocab) (new : PostingLoad) → ((t : Tables) → HasLinks t.resource linked.links.graph t.link t.hier → HierRule t.resource t.link t.hier)
+    → ((rs : List Resource) → HasPostings rs new.keys.keys new.firsts.items new.ats.items new.tally []) → Closes (stage.Hier linked) (stage.Posting linked new)
+hier_good linked new rule none = (
   refl,
   λ raw (t, passes, names, read, has, after).
       (record t { posting = [] }, (passes, (read, rule t has)), names, has, after.0, none t.resource, after.1),
@@ -188,11 +189,11 @@ hier_good vocab load new rule none = (
 
 -- Posting.
 
-pub posting_good : (vocab : Vocabulary) (graph : Net) (load : PostingLoad) (moves : MoveLoad) (ats : Vec ℕ Global)
-    → ((rs : List Resource) (rows : List PostingRow) → HasPostings rs load.keys.keys load.firsts.items load.ats.items rows
-    → HasMoves rs rows moves.taken moves.places.items [] × (ats.items ≡ map (λ (row : PostingRow). row.place) rows))
-    → Closes (stage.Posting vocab graph load) (stage.Move vocab graph ats moves)
-posting_good vocab graph load moves ats close = (
+pub posting_good : (linked : LinkedVocab) (load : PostingLoad) (moves : MoveLoad) (placed : PlacedPostings)
+    → ((rs : List Resource) (rows : List PostingRow) → HasPostings rs load.keys.keys load.firsts.items load.ats.items load.tally rows
+    → HasMoves rs rows moves.taken moves.places.items [] × ArePlaced placed rows)
+    → Closes (stage.Posting linked load) (stage.Move linked placed moves)
+posting_good linked load moves placed close = (
   refl,
   λ raw (t, passes, names, links, read, has, after).
       let (start, are) = close t.resource t.posting has in

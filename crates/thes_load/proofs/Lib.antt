@@ -1,4 +1,5 @@
 pub mod Pushing
+pub mod Summing
 pub mod PostingTaking
 pub mod MoveTaking
 pub mod Six
@@ -11,4 +12,5 @@ pub mod ProgressLemmas
 pub mod RowSteps
 pub mod CloseSteps
 pub mod TableOrder
+pub mod UnqueriedSteps
 pub mod EndSteps

@@ -1,5 +1,5 @@
 -- One more row of posting.
-use Rattle.std.proofs.Common.{◌≡◌, ◌⊎◌, ◌<◌, ◌^◌, lit<, ℕ, ◌+◌, length, List, [], ◌∷◌, ◌++◌, map, refl, sym, ap, ◌∙◌, arith, inl, inr, Bool, true, false, cond, ◌||◌, not}
+use Rattle.std.proofs.Common.{subst, ◌≡◌, ◌⊎◌, ◌<◌, ◌^◌, lit<, ℕ, ◌+◌, length, List, [], ◌∷◌, ◌++◌, map, refl, sym, ap, ◌∙◌, arith, inl, inr, Bool, true, false, cond, ◌||◌, not}
 use Rattle.std.specs.Prelude.{Some}
 use Rattle.std.proofs.lemmas.List.{map-append}
 use Rattle.std.proofs.lemmas.Cmp.{nat_list_cmp_total}
@@ -16,7 +16,10 @@ use Rattle.thes_rows.proofs.Sets.{clash, in_any, any_in}
 use Rattle.thes_tables.specs.Rules.{PostingRule}
 use Rattle.thes_tables.proofs.Lists.{in_numbered, numbered_in, in_map, map_in}
 use Rattle.thes_load.specs.Forms.{HasPostingForm}
+use Rattle.thes_post.specs.Sums.{Sums, IsTold}
+use Rattle.thes_load.specs.Counted.{AreSumsOf}
 use Rattle.thes_load.specs.Taken.{has_key, HasPostings, IsNextPosting}
+use Rattle.thes_load.proofs.Summing.{sums_push}
 use Rattle.thes_load.proofs.Pushing.{numbered_next, in_next, numbered_still, each_push, order_push, few_push, length_map}
 
 abbrev key_of : PostingRow → List ℕ
@@ -39,7 +42,7 @@ either : (a b : Bool) → cond a true b ≡ (a || b)
 either true b = refl
 either false b = refl
 
-module _ (rs : List Resource) (keys : List (List ℕ)) (firsts ats : List ℕ) (rows : List PostingRow) (p : PostingRow) (has : HasPostings rs keys firsts ats rows) where
+module _ (rs : List Resource) (keys : List (List ℕ)) (firsts ats : List ℕ) (sums : Sums) (rows : List PostingRow) (p : PostingRow) (has : HasPostings rs keys firsts ats sums rows) where
   count : length firsts ≡ length rows
   count = ap length has.firsts_are ∙ length_map (λ (x : PostingRow). x.first) rows
 
@@ -75,8 +78,9 @@ module _ (rs : List Resource) (keys : List (List ℕ)) (firsts ats : List ℕ) (
       both (inr (at, is)) (inr (bt, js)) = at ∙ sym bt
 
   pub next_taken : (new : List (List ℕ)) → IsNextPosting rs (length firsts) p → HasPostingForm p → has_key keys p.key ≡ false → ((q : List ℕ) → has_key new q ≡ cond (eq_by_cmp (slice_cmp nat_cmp) p.key q) true (has_key keys q))
-      → HasPostings rs new (firsts ++ p.first ∷ []) (ats ++ p.place ∷ []) (rows ++ p ∷ [])
-  next_taken new next form free updates =
+      → (told : Sums) → IsTold p.place p.withdrawn sums told
+      → HasPostings rs new (firsts ++ p.first ∷ []) (ats ++ p.place ∷ []) told (rows ++ p ∷ [])
+  next_taken new next form free updates told is =
       let last : p.number ≡ length rows + 1 = next.number ∙ ap (λ k. k + 1) count in
       record {
         rule = record {
@@ -91,11 +95,12 @@ module _ (rs : List Resource) (keys : List (List ℕ)) (firsts ats : List ℕ) (
             ∙ sym (any_append q p.key (map key_of rows)) ∙ ap (λ l. has_key l q) (sym (map-append key_of rows (p ∷ [])));
         firsts_are = ap (λ (l : List ℕ). l ++ p.first ∷ []) has.firsts_are ∙ sym (map-append (λ (x : PostingRow). x.first) rows (p ∷ []));
         ats_are = ap (λ (l : List ℕ). l ++ p.place ∷ []) has.ats_are ∙ sym (map-append (λ (x : PostingRow). x.place) rows (p ∷ []));
+        sums_are = sums_push rows p sums told has.sums_are is;
       }
 
 -- no posting yet
-pub postings_none : (rs : List Resource) (keys : List (List ℕ)) (firsts ats : List ℕ) → keys ≡ [] → firsts ≡ [] → ats ≡ [] → HasPostings rs keys firsts ats []
-postings_none rs keys firsts ats no_keys no_firsts no_ats = record {
+pub postings_none : (rs : List Resource) (keys : List (List ℕ)) (firsts ats : List ℕ) (sums : Sums) → keys ≡ [] → firsts ≡ [] → ats ≡ [] → sums ≡ record { counts = []; accepted = 0; withdrawn = 0; moves = 0 } → HasPostings rs keys firsts ats sums []
+postings_none rs keys firsts ats sums no_keys no_firsts no_ats no_sums = record {
   rule = record {
     few = (let z : 0 < 2 ^ 32 = lit< tt in z);
     numbers = λ n row e. let b = numbered_bound [] n row e in absurd (omega (arith, b));
@@ -107,4 +112,5 @@ postings_none rs keys firsts ats no_keys no_firsts no_ats = record {
   keys_are = λ q. ap (λ (ks : List (List ℕ)). has_key ks q) no_keys;
   firsts_are = no_firsts;
   ats_are = no_ats;
+  sums_are = subst (AreSumsOf []) (sym no_sums) (record { standing = λ n. refl; accepted = refl; withdrawn = refl; moves = refl });
 }

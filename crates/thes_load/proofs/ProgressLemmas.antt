@@ -8,7 +8,6 @@ use Rattle.thes_rows.specs.declared.cells.Cell.{Cell}
 use Rattle.thes_rows.specs.Tables.{Tables}
 use Rattle.thes_rows.specs.Cells.{Raw, RawTable, resource_rows, outside_cells, label_cells, link_cells, hier_cells, posting_cells, move_cells}
 use Rattle.thes_vocab.specs.Vocabulary.{Vocabulary}
-use Rattle.thes_graph.specs.Net.{Net}
 use Rattle.thes_tables.specs.Rules.{ResourceRule, OutsideRule, LabelRule, LinkRule, HierRule, PostingRule, MoveRule}
 use Rattle.thes_tables.specs.Loads.{IsTable, IsMeta}
 use Rattle.thes_tables.specs.Laws.{HasNone, MetaPasses, ResourcePasses, OutsidePasses, LabelPasses, LinkPasses, HierPasses, PostingPasses}
@@ -17,7 +16,7 @@ use Rattle.thes_load.specs.declared.stage.Stage.TheVariants as stage
 use Rattle.thes_load.specs.Reading.{IsFaulty, Reads}
 use Rattle.thes_load.specs.Progress.{Grows, pushed, HasRead, HasNames, NoneAfterOutside, NoneAfterLabel, NoneAfterLink, NoneAfterHier, NoneAfterPosting}
 use Rattle.thes_load.specs.declared.names.OutsideLoad.{OutsideLoad}
-use Rattle.thes_load.specs.declared.links.LinkLoad.{LinkLoad}
+use Rattle.thes_load.specs.declared.linked.LinkedVocab.{LinkedVocab}
 use Rattle.thes_load.specs.declared.postings.PostingLoad.{PostingLoad}
 use Rattle.thes_load.specs.Naming.{HasOutside, HasLabels}
 use Rattle.thes_load.specs.Linking.{HasLinks}
@@ -102,13 +101,13 @@ pub label_taken : (raw : Raw) (t : Tables) (cells : List Cell) (new : Vocabulary
 label_taken raw t cells new passes read (x, e, has) after = (record t { label = t.label ++ x ∷ [] }, passes, (ap (option_map (λ (rows : List (List Cell)). rows ++ cells ∷ [])) read ∙ ap (λ (rows : List (List Cell)). Some rows) (sym e)), has, after)
 
 -- Link: a row that is taken.
-pub link_taken : (raw : Raw) (t : Tables) (cells : List Cell) (vocab : Vocabulary) (new : LinkLoad) → LabelPasses raw t → HasNames vocab t → raw.link ≡ Some (map link_cells t.link) → Reads (map link_cells) (λ rows. HasLinks t.resource new.graph rows []) (LinkRule t.resource) t.link cells true → NoneAfterLink raw → HasRead (stage.Link vocab new) (pushed table.Link cells raw)
-link_taken raw t cells vocab new passes names read (x, e, has) after = (record t { link = t.link ++ x ∷ [] }, passes, names, (ap (option_map (λ (rows : List (List Cell)). rows ++ cells ∷ [])) read ∙ ap (λ (rows : List (List Cell)). Some rows) (sym e)), has, after)
+pub link_taken : (raw : Raw) (t : Tables) (cells : List Cell) (new : LinkedVocab) → LabelPasses raw t → HasNames new.vocab t → raw.link ≡ Some (map link_cells t.link) → Reads (map link_cells) (λ rows. HasLinks t.resource new.links.graph rows []) (LinkRule t.resource) t.link cells true → NoneAfterLink raw → HasRead (stage.Link new) (pushed table.Link cells raw)
+link_taken raw t cells new passes names read (x, e, has) after = (record t { link = t.link ++ x ∷ [] }, passes, names, (ap (option_map (λ (rows : List (List Cell)). rows ++ cells ∷ [])) read ∙ ap (λ (rows : List (List Cell)). Some rows) (sym e)), has, after)
 
 -- Hier: a row that is taken.
-pub hier_taken : (raw : Raw) (t : Tables) (cells : List Cell) (vocab : Vocabulary) (new : LinkLoad) → LinkPasses raw t → HasNames vocab t → raw.hier ≡ Some (map hier_cells t.hier) → Reads (map hier_cells) (HasLinks t.resource new.graph t.link) (HierRule t.resource t.link) t.hier cells true → NoneAfterHier raw → HasRead (stage.Hier vocab new) (pushed table.Hier cells raw)
-hier_taken raw t cells vocab new passes names read (x, e, has) after = (record t { hier = t.hier ++ x ∷ [] }, passes, names, (ap (option_map (λ (rows : List (List Cell)). rows ++ cells ∷ [])) read ∙ ap (λ (rows : List (List Cell)). Some rows) (sym e)), has, after)
+pub hier_taken : (raw : Raw) (t : Tables) (cells : List Cell) (new : LinkedVocab) → LinkPasses raw t → HasNames new.vocab t → raw.hier ≡ Some (map hier_cells t.hier) → Reads (map hier_cells) (HasLinks t.resource new.links.graph t.link) (HierRule t.resource t.link) t.hier cells true → NoneAfterHier raw → HasRead (stage.Hier new) (pushed table.Hier cells raw)
+hier_taken raw t cells new passes names read (x, e, has) after = (record t { hier = t.hier ++ x ∷ [] }, passes, names, (ap (option_map (λ (rows : List (List Cell)). rows ++ cells ∷ [])) read ∙ ap (λ (rows : List (List Cell)). Some rows) (sym e)), has, after)
 
 -- Posting: a row that is taken.
-pub posting_taken : (raw : Raw) (t : Tables) (cells : List Cell) (vocab : Vocabulary) (graph : Net) (new : PostingLoad) → HierPasses raw t → HasNames vocab t → HasLinks t.resource graph t.link t.hier → raw.posting ≡ Some (map posting_cells t.posting) → Reads (map posting_cells) (HasPostings t.resource new.keys.keys new.firsts.items new.ats.items) (PostingRule t.resource) t.posting cells true → NoneAfterPosting raw → HasRead (stage.Posting vocab graph new) (pushed table.Posting cells raw)
-posting_taken raw t cells vocab graph new passes names links read (x, e, has) after = (record t { posting = t.posting ++ x ∷ [] }, passes, names, links, (ap (option_map (λ (rows : List (List Cell)). rows ++ cells ∷ [])) read ∙ ap (λ (rows : List (List Cell)). Some rows) (sym e)), has, after)
+pub posting_taken : (raw : Raw) (t : Tables) (cells : List Cell) (linked : LinkedVocab) (new : PostingLoad) → HierPasses raw t → HasNames linked.vocab t → HasLinks t.resource linked.links.graph t.link t.hier → raw.posting ≡ Some (map posting_cells t.posting) → Reads (map posting_cells) (HasPostings t.resource new.keys.keys new.firsts.items new.ats.items new.tally) (PostingRule t.resource) t.posting cells true → NoneAfterPosting raw → HasRead (stage.Posting linked new) (pushed table.Posting cells raw)
+posting_taken raw t cells linked new passes names links read (x, e, has) after = (record t { posting = t.posting ++ x ∷ [] }, passes, names, links, (ap (option_map (λ (rows : List (List Cell)). rows ++ cells ∷ [])) read ∙ ap (λ (rows : List (List Cell)). Some rows) (sym e)), has, after)

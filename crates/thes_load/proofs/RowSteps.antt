@@ -18,7 +18,6 @@ use Rattle.thes_rows.specs.Tables.{Tables}
 use Rattle.thes_rows.specs.Cells.{Raw, RawTable, meta_cells, resource_rows, outside_cells, label_cells, link_cells, hier_cells, posting_cells, move_cells}
 use Rattle.thes_rows.proofs.Listing.{head_one}
 use Rattle.thes_vocab.specs.Vocabulary.{Vocabulary}
-use Rattle.thes_graph.specs.Net.{Net}
 use Rattle.thes_tables.specs.Rules.{ResourceRule, OutsideRule, LabelRule, LinkRule, HierRule, PostingRule, MoveRule}
 use Rattle.thes_tables.specs.Loads.{Loads}
 use Rattle.thes_tables.proofs.Judging.{judged}
@@ -26,7 +25,8 @@ use Rattle.thes_load.specs.declared.meta.MetaRow.{MetaRow}
 use Rattle.thes_load.specs.declared.stage.Stage.TheVariants as stage
 use Rattle.thes_load.specs.declared.resources.ResourceLoad.{ResourceLoad}
 use Rattle.thes_load.specs.declared.names.OutsideLoad.{OutsideLoad}
-use Rattle.thes_load.specs.declared.links.LinkLoad.{LinkLoad}
+use Rattle.thes_load.specs.declared.linked.LinkedVocab.{LinkedVocab}
+use Rattle.thes_load.specs.declared.postings.PlacedPostings.{PlacedPostings}
 use Rattle.thes_load.specs.declared.postings.PostingLoad.{PostingLoad}
 use Rattle.thes_load.specs.declared.moves.MoveLoad.{MoveLoad}
 use Rattle.thes_load.specs.Reading.{Reads}
@@ -105,52 +105,53 @@ label_row old new cells false reads = λ raw (t, passes, read, has, after). labe
 same_resources : (vocab : Vocabulary) (rs : List Resource) (t : Tables) → rs ≡ vocab.resources → HasNames vocab t → rs ≡ t.resource
 same_resources vocab rs t e names = e ∙ ap (λ (v : Vocabulary). v.resources) names
 
-module _ (vocab : Vocabulary) (rs : List Resource) (is : rs ≡ vocab.resources) (cells : List Cell) where
-  pub link_row : (old new : LinkLoad) (good : Bool)
-      → ((rows : List Link) → HasLinks rs old.graph rows [] → Reads (map link_cells) (λ more. HasLinks rs new.graph more []) (LinkRule rs) rows cells good)
-      → ReadsRow (stage.Link vocab old) (stage.Link vocab new) cells good
-  link_row old new good reads = by good reads
+module _ (rs : List Resource) (cells : List Cell) where
+  pub link_row : (old new : LinkedVocab) (good : Bool) → rs ≡ old.vocab.resources → new.vocab ≡ old.vocab
+      → ((rows : List Link) → HasLinks rs old.links.graph rows [] → Reads (map link_cells) (λ more. HasLinks rs new.links.graph more []) (LinkRule rs) rows cells good)
+      → ReadsRow (stage.Link old) (stage.Link new) cells good
+  link_row old new good is same reads = by good reads
     where
-      of_table : (g : Bool) (r : (rows : List Link) → HasLinks rs old.graph rows [] → Reads (map link_cells) (λ more. HasLinks rs new.graph more []) (LinkRule rs) rows cells g) (t : Tables) → HasNames vocab t → HasLinks t.resource old.graph t.link [] → Reads (map link_cells) (λ more. HasLinks t.resource new.graph more []) (LinkRule t.resource) t.link cells g
-      of_table g r t names has = subst (λ (l : List Resource). (rows : List Link) → HasLinks l old.graph rows [] → Reads (map link_cells) (λ more. HasLinks l new.graph more []) (LinkRule l) rows cells g) (same_resources vocab rs t is names) r t.link has
+      of_table : (g : Bool) (r : (rows : List Link) → HasLinks rs old.links.graph rows [] → Reads (map link_cells) (λ more. HasLinks rs new.links.graph more []) (LinkRule rs) rows cells g) (t : Tables) → HasNames old.vocab t → HasLinks t.resource old.links.graph t.link [] → Reads (map link_cells) (λ more. HasLinks t.resource new.links.graph more []) (LinkRule t.resource) t.link cells g
+      of_table g r t names has = subst (λ (l : List Resource). (rows : List Link) → HasLinks l old.links.graph rows [] → Reads (map link_cells) (λ more. HasLinks l new.links.graph more []) (LinkRule l) rows cells g) (same_resources old.vocab rs t is names) r t.link has
 
-      by : (g : Bool) → ((rows : List Link) → HasLinks rs old.graph rows [] → Reads (map link_cells) (λ more. HasLinks rs new.graph more []) (LinkRule rs) rows cells g) → ReadsRow (stage.Link vocab old) (stage.Link vocab new) cells g
-      by true r = (refl, λ raw (t, passes, names, read, has, after). link_taken raw t cells vocab new passes names read (of_table true r t names has) after)
+      by : (g : Bool) → ((rows : List Link) → HasLinks rs old.links.graph rows [] → Reads (map link_cells) (λ more. HasLinks rs new.links.graph more []) (LinkRule rs) rows cells g) → ReadsRow (stage.Link old) (stage.Link new) cells g
+      by true r = (refl, λ raw (t, passes, names, read, has, after). link_taken raw t cells new passes (same ∙ names) read (of_table true r t names has) after)
       by false r = λ raw (t, passes, names, read, has, after). link_fault raw t cells passes read (of_table false r t names has)
 
-  pub hier_row : (old new : LinkLoad) (good : Bool)
-      → ((links : List Link) (rows : List HierRow) → HasLinks rs old.graph links rows → Reads (map hier_cells) (HasLinks rs new.graph links) (HierRule rs links) rows cells good)
-      → ReadsRow (stage.Hier vocab old) (stage.Hier vocab new) cells good
-  hier_row old new good reads = by good reads
+  pub hier_row : (old new : LinkedVocab) (good : Bool) → rs ≡ old.vocab.resources → new.vocab ≡ old.vocab
+      → ((links : List Link) (rows : List HierRow) → HasLinks rs old.links.graph links rows → Reads (map hier_cells) (HasLinks rs new.links.graph links) (HierRule rs links) rows cells good)
+      → ReadsRow (stage.Hier old) (stage.Hier new) cells good
+  hier_row old new good is same reads = by good reads
     where
-      of_table : (g : Bool) (r : (links : List Link) (rows : List HierRow) → HasLinks rs old.graph links rows → Reads (map hier_cells) (HasLinks rs new.graph links) (HierRule rs links) rows cells g) (t : Tables) → HasNames vocab t → HasLinks t.resource old.graph t.link t.hier → Reads (map hier_cells) (HasLinks t.resource new.graph t.link) (HierRule t.resource t.link) t.hier cells g
-      of_table g r t names has = subst (λ (l : List Resource). (links : List Link) (rows : List HierRow) → HasLinks l old.graph links rows → Reads (map hier_cells) (HasLinks l new.graph links) (HierRule l links) rows cells g) (same_resources vocab rs t is names) r t.link t.hier has
+      of_table : (g : Bool) (r : (links : List Link) (rows : List HierRow) → HasLinks rs old.links.graph links rows → Reads (map hier_cells) (HasLinks rs new.links.graph links) (HierRule rs links) rows cells g) (t : Tables) → HasNames old.vocab t → HasLinks t.resource old.links.graph t.link t.hier → Reads (map hier_cells) (HasLinks t.resource new.links.graph t.link) (HierRule t.resource t.link) t.hier cells g
+      of_table g r t names has = subst (λ (l : List Resource). (links : List Link) (rows : List HierRow) → HasLinks l old.links.graph links rows → Reads (map hier_cells) (HasLinks l new.links.graph links) (HierRule l links) rows cells g) (same_resources old.vocab rs t is names) r t.link t.hier has
 
-      by : (g : Bool) → ((links : List Link) (rows : List HierRow) → HasLinks rs old.graph links rows → Reads (map hier_cells) (HasLinks rs new.graph links) (HierRule rs links) rows cells g) → ReadsRow (stage.Hier vocab old) (stage.Hier vocab new) cells g
-      by true r = (refl, λ raw (t, passes, names, read, has, after). hier_taken raw t cells vocab new passes names read (of_table true r t names has) after)
+      by : (g : Bool) → ((links : List Link) (rows : List HierRow) → HasLinks rs old.links.graph links rows → Reads (map hier_cells) (HasLinks rs new.links.graph links) (HierRule rs links) rows cells g) → ReadsRow (stage.Hier old) (stage.Hier new) cells g
+      by true r = (refl, λ raw (t, passes, names, read, has, after). hier_taken raw t cells new passes (same ∙ names) read (of_table true r t names has) after)
       by false r = λ raw (t, passes, names, read, has, after). hier_fault raw t cells passes read (of_table false r t names has)
 
-  pub posting_row : (graph : Net) (old new : PostingLoad) (good : Bool)
-      → ((rows : List PostingRow) → HasPostings rs old.keys.keys old.firsts.items old.ats.items rows → Reads (map posting_cells) (HasPostings rs new.keys.keys new.firsts.items new.ats.items) (PostingRule rs) rows cells good)
-      → ReadsRow (stage.Posting vocab graph old) (stage.Posting vocab graph new) cells good
-  posting_row graph old new good reads = by good reads
+module _ (linked : LinkedVocab) (rs : List Resource) (is : rs ≡ linked.vocab.resources) (cells : List Cell) where
+  pub posting_row : (old new : PostingLoad) (good : Bool)
+      → ((rows : List PostingRow) → HasPostings rs old.keys.keys old.firsts.items old.ats.items old.tally rows → Reads (map posting_cells) (HasPostings rs new.keys.keys new.firsts.items new.ats.items new.tally) (PostingRule rs) rows cells good)
+      → ReadsRow (stage.Posting linked old) (stage.Posting linked new) cells good
+  posting_row old new good reads = by good reads
     where
-      of_table : (g : Bool) (r : (rows : List PostingRow) → HasPostings rs old.keys.keys old.firsts.items old.ats.items rows → Reads (map posting_cells) (HasPostings rs new.keys.keys new.firsts.items new.ats.items) (PostingRule rs) rows cells g) (t : Tables) → HasNames vocab t → HasPostings t.resource old.keys.keys old.firsts.items old.ats.items t.posting → Reads (map posting_cells) (HasPostings t.resource new.keys.keys new.firsts.items new.ats.items) (PostingRule t.resource) t.posting cells g
-      of_table g r t names has = subst (λ (l : List Resource). (rows : List PostingRow) → HasPostings l old.keys.keys old.firsts.items old.ats.items rows → Reads (map posting_cells) (HasPostings l new.keys.keys new.firsts.items new.ats.items) (PostingRule l) rows cells g) (same_resources vocab rs t is names) r t.posting has
+      of_table : (g : Bool) (r : (rows : List PostingRow) → HasPostings rs old.keys.keys old.firsts.items old.ats.items old.tally rows → Reads (map posting_cells) (HasPostings rs new.keys.keys new.firsts.items new.ats.items new.tally) (PostingRule rs) rows cells g) (t : Tables) → HasNames linked.vocab t → HasPostings t.resource old.keys.keys old.firsts.items old.ats.items old.tally t.posting → Reads (map posting_cells) (HasPostings t.resource new.keys.keys new.firsts.items new.ats.items new.tally) (PostingRule t.resource) t.posting cells g
+      of_table g r t names has = subst (λ (l : List Resource). (rows : List PostingRow) → HasPostings l old.keys.keys old.firsts.items old.ats.items old.tally rows → Reads (map posting_cells) (HasPostings l new.keys.keys new.firsts.items new.ats.items new.tally) (PostingRule l) rows cells g) (same_resources linked.vocab rs t is names) r t.posting has
 
-      by : (g : Bool) → ((rows : List PostingRow) → HasPostings rs old.keys.keys old.firsts.items old.ats.items rows → Reads (map posting_cells) (HasPostings rs new.keys.keys new.firsts.items new.ats.items) (PostingRule rs) rows cells g) → ReadsRow (stage.Posting vocab graph old) (stage.Posting vocab graph new) cells g
-      by true r = (refl, λ raw (t, passes, names, links, read, has, after). posting_taken raw t cells vocab graph new passes names links read (of_table true r t names has) after)
+      by : (g : Bool) → ((rows : List PostingRow) → HasPostings rs old.keys.keys old.firsts.items old.ats.items old.tally rows → Reads (map posting_cells) (HasPostings rs new.keys.keys new.firsts.items new.ats.items new.tally) (PostingRule rs) rows cells g) → ReadsRow (stage.Posting linked old) (stage.Posting linked new) cells g
+      by true r = (refl, λ raw (t, passes, names, links, read, has, after). posting_taken raw t cells linked new passes names links read (of_table true r t names has) after)
       by false r = λ raw (t, passes, names, links, read, has, after). posting_fault raw t cells passes read (of_table false r t names has)
 
-  pub move_row : (graph : Net) (ats : Vec ℕ Global) (old new : MoveLoad) (good : Bool)
+  pub move_row : (placed : PlacedPostings) (old new : MoveLoad) (good : Bool)
       → ((postings : List PostingRow) (rows : List MoveRow) → PostingRule rs postings → HasMoves rs postings old.taken old.places.items rows → Reads (map move_cells) (HasMoves rs postings new.taken new.places.items) (MoveRule rs postings) rows cells good)
-      → ReadsRow (stage.Move vocab graph ats old) (stage.Move vocab graph ats new) cells good
-  move_row graph ats old new good reads = by good reads
+      → ReadsRow (stage.Move linked placed old) (stage.Move linked placed new) cells good
+  move_row placed old new good reads = by good reads
     where
-      of_table : (g : Bool) (r : (postings : List PostingRow) (rows : List MoveRow) → PostingRule rs postings → HasMoves rs postings old.taken old.places.items rows → Reads (map move_cells) (HasMoves rs postings new.taken new.places.items) (MoveRule rs postings) rows cells g) (t : Tables) → HasNames vocab t → PostingRule t.resource t.posting → HasMoves t.resource t.posting old.taken old.places.items t.move → Reads (map move_cells) (HasMoves t.resource t.posting new.taken new.places.items) (MoveRule t.resource t.posting) t.move cells g
-      of_table g r t names rule has = subst (λ (l : List Resource). (postings : List PostingRow) (rows : List MoveRow) → PostingRule l postings → HasMoves l postings old.taken old.places.items rows → Reads (map move_cells) (HasMoves l postings new.taken new.places.items) (MoveRule l postings) rows cells g) (same_resources vocab rs t is names) r t.posting t.move rule has
+      of_table : (g : Bool) (r : (postings : List PostingRow) (rows : List MoveRow) → PostingRule rs postings → HasMoves rs postings old.taken old.places.items rows → Reads (map move_cells) (HasMoves rs postings new.taken new.places.items) (MoveRule rs postings) rows cells g) (t : Tables) → HasNames linked.vocab t → PostingRule t.resource t.posting → HasMoves t.resource t.posting old.taken old.places.items t.move → Reads (map move_cells) (HasMoves t.resource t.posting new.taken new.places.items) (MoveRule t.resource t.posting) t.move cells g
+      of_table g r t names rule has = subst (λ (l : List Resource). (postings : List PostingRow) (rows : List MoveRow) → PostingRule l postings → HasMoves l postings old.taken old.places.items rows → Reads (map move_cells) (HasMoves l postings new.taken new.places.items) (MoveRule l postings) rows cells g) (same_resources linked.vocab rs t is names) r t.posting t.move rule has
 
-      by : (g : Bool) → ((postings : List PostingRow) (rows : List MoveRow) → PostingRule rs postings → HasMoves rs postings old.taken old.places.items rows → Reads (map move_cells) (HasMoves rs postings new.taken new.places.items) (MoveRule rs postings) rows cells g) → ReadsRow (stage.Move vocab graph ats old) (stage.Move vocab graph ats new) cells g
+      by : (g : Bool) → ((postings : List PostingRow) (rows : List MoveRow) → PostingRule rs postings → HasMoves rs postings old.taken old.places.items rows → Reads (map move_cells) (HasMoves rs postings new.taken new.places.items) (MoveRule rs postings) rows cells g) → ReadsRow (stage.Move linked placed old) (stage.Move linked placed new) cells g
       by true r = (
         refl,
         λ raw (t, passes, names, links, are, read, has).

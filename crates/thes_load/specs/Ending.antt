@@ -1,15 +1,18 @@
--- What a loader answers at its end.
+-- What is answered at the end of all rows.
 use Rattle.std.specs.Prelude.{Result, Ok, Err}
 use Rattle.thes_base.specs.declared.fault.Fault.{Fault}
 use Rattle.thes_rows.specs.Tables.{Tables}
 use Rattle.thes_rows.specs.Cells.{Raw}
+use Rattle.thes_post.specs.Sums.{AreSums}
+use Rattle.thes_tables.specs.Rules.{state_of}
 use Rattle.thes_tables.specs.Loads.{Loads}
-use Rattle.thes_load.specs.declared.loader.LoadedParts.{LoadedParts}
+use Rattle.thes_load.specs.declared.handed.LoadedParts.{LoadedParts}
 use Rattle.thes_load.specs.Progress.{HasNames}
 use Rattle.thes_load.specs.Linking.{HasLinks}
 
--- The rows load, and the vocabulary and the links are those that they tell; or the fault is the verdict on them.
+-- The rows load, and the vocabulary, the links and the sums are those that they tell; or the fault is the verdict on them.
 abbrev pub Ends : Raw → Result LoadedParts Fault → Type 0
 Ends raw (Ok parts) =
-    (t : Tables) × Loads raw (Ok t) × HasNames parts.vocab t × HasLinks t.resource parts.graph t.link t.hier
+    (t : Tables) × Loads raw (Ok t) × HasNames parts.linked.vocab t × HasLinks t.resource parts.linked.links.graph t.link t.hier
+    × AreSums (state_of t).histories parts.book
 Ends raw (Err fault) = Loads raw (Err fault)

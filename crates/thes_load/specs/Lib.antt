@@ -1,5 +1,7 @@
 pub mod Forms
 pub mod Spelled
+pub mod Counted
+pub mod Placed
 pub mod Taken
 pub mod Fitting
 pub mod Linking

@@ -4,7 +4,6 @@ use Rattle.thes_base.specs.declared.fault.Fault.TheVariants.{BadStore}
 use Rattle.thes_base.specs.declared.fault.Table.{Table}
 use Rattle.thes_base.specs.declared.fault.Table.TheVariants as table
 use Rattle.thes_rows.specs.declared.cells.Cell.{Cell}
-use Rattle.thes_rows.specs.declared.rows.PostingRow.{PostingRow}
 use Rattle.thes_rows.specs.Tables.{Tables}
 use Rattle.thes_rows.specs.Cells.{Raw, RawTable, resource_rows, outside_cells, label_cells, link_cells, hier_cells, posting_cells, move_cells}
 use Rattle.thes_vocab.specs.Vocabulary.{Vocabulary}
@@ -16,6 +15,7 @@ use Rattle.thes_load.specs.declared.stage.Stage.TheVariants as stage
 use Rattle.thes_load.specs.Version.{SpellsMeta}
 use Rattle.thes_load.specs.Naming.{HasOutside, HasLabels, vocabulary_of}
 use Rattle.thes_load.specs.Linking.{HasLinks}
+use Rattle.thes_load.specs.Placed.{ArePlaced}
 use Rattle.thes_load.specs.Taken.{HasPostings, HasMoves}
 
 -- the place of a table in the order in which they are read
@@ -113,19 +113,19 @@ HasRead (stage.Outside load) raw =
 HasRead (stage.Label vocab) raw =
     (t : Tables) × OutsidePasses raw t × (raw.label ≡ Some (map label_cells t.label))
     × HasLabels t.base t.resource t.outside vocab t.label × NoneAfterLabel raw
-HasRead (stage.Link vocab load) raw =
-    (t : Tables) × LabelPasses raw t × HasNames vocab t × (raw.link ≡ Some (map link_cells t.link))
-    × HasLinks t.resource load.graph t.link [] × NoneAfterLink raw
-HasRead (stage.Hier vocab load) raw =
-    (t : Tables) × LinkPasses raw t × HasNames vocab t × (raw.hier ≡ Some (map hier_cells t.hier))
-    × HasLinks t.resource load.graph t.link t.hier × NoneAfterHier raw
-HasRead (stage.Posting vocab graph load) raw =
-    (t : Tables) × HierPasses raw t × HasNames vocab t × HasLinks t.resource graph t.link t.hier
+HasRead (stage.Link linked) raw =
+    (t : Tables) × LabelPasses raw t × HasNames linked.vocab t × (raw.link ≡ Some (map link_cells t.link))
+    × HasLinks t.resource linked.links.graph t.link [] × NoneAfterLink raw
+HasRead (stage.Hier linked) raw =
+    (t : Tables) × LinkPasses raw t × HasNames linked.vocab t × (raw.hier ≡ Some (map hier_cells t.hier))
+    × HasLinks t.resource linked.links.graph t.link t.hier × NoneAfterHier raw
+HasRead (stage.Posting linked load) raw =
+    (t : Tables) × HierPasses raw t × HasNames linked.vocab t × HasLinks t.resource linked.links.graph t.link t.hier
     × (raw.posting ≡ Some (map posting_cells t.posting))
-    × HasPostings t.resource load.keys.keys load.firsts.items load.ats.items t.posting × NoneAfterPosting raw
-HasRead (stage.Move vocab graph ats load) raw =
-    (t : Tables) × PostingPasses raw t × HasNames vocab t × HasLinks t.resource graph t.link t.hier
-    × (ats.items ≡ map (λ (row : PostingRow). row.place) t.posting) × (raw.move ≡ Some (map move_cells t.move))
+    × HasPostings t.resource load.keys.keys load.firsts.items load.ats.items load.tally t.posting × NoneAfterPosting raw
+HasRead (stage.Move linked placed load) raw =
+    (t : Tables) × PostingPasses raw t × HasNames linked.vocab t × HasLinks t.resource linked.links.graph t.link t.hier
+    × ArePlaced placed t.posting × (raw.move ≡ Some (map move_cells t.move))
     × HasMoves t.resource t.posting load.taken load.places.items t.move
 HasRead (stage.Stopped fault at) raw = (more : Raw) → Extends at raw more → Loads more (Err fault)
 
@@ -135,11 +135,23 @@ stage_table (stage.Meta row) = table.Meta
 stage_table (stage.Resource base load) = table.Resource
 stage_table (stage.Outside load) = table.Outside
 stage_table (stage.Label vocab) = table.Label
-stage_table (stage.Link vocab load) = table.Link
-stage_table (stage.Hier vocab load) = table.Hier
-stage_table (stage.Posting vocab graph load) = table.Posting
-stage_table (stage.Move vocab graph ats load) = table.Move
+stage_table (stage.Link linked) = table.Link
+stage_table (stage.Hier linked) = table.Hier
+stage_table (stage.Posting linked load) = table.Posting
+stage_table (stage.Move linked placed load) = table.Move
 stage_table (stage.Stopped fault at) = at
+
+-- whether a fault was found
+abbrev pub is_stopped : Stage → Bool
+is_stopped (stage.Stopped fault at) = true
+is_stopped (stage.Meta row) = false
+is_stopped (stage.Resource base load) = false
+is_stopped (stage.Outside load) = false
+is_stopped (stage.Label vocab) = false
+is_stopped (stage.Link linked) = false
+is_stopped (stage.Hier linked) = false
+is_stopped (stage.Posting linked load) = false
+is_stopped (stage.Move linked placed load) = false
 
 -- A row of the table that is read is taken; or it is the fault.
 abbrev pub ReadsRow : Stage → Stage → List Cell → Bool → Type 0
@@ -182,6 +194,22 @@ no_rows =
       posting = Some [];
       move = Some [];
     }
+
+-- the table can't be queried
+abbrev pub unqueried : Table → Raw → Raw
+unqueried table.Meta raw = record raw { meta = None }
+unqueried table.Resource raw = record raw { resource = None }
+unqueried table.Outside raw = record raw { outside = None }
+unqueried table.Label raw = record raw { label = None }
+unqueried table.Link raw = record raw { link = None }
+unqueried table.Hier raw = record raw { hier = None }
+unqueried table.Posting raw = record raw { posting = None }
+unqueried table.Move raw = record raw { move = None }
+
+-- It turns out that a table can't be queried.
+abbrev pub HasUnqueried : Stage → Stage → Table → Type 0
+HasUnqueried old new table =
+    (stage_table new ≡ table) × ((raw : Raw) → HasRead old raw → HasRead new (unqueried table raw))
 
 -- One more row of a table is read.
 abbrev pub HasRow : Stage → Stage → Table → List Cell → Type 0

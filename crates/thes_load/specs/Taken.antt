@@ -8,7 +8,9 @@ use Rattle.thes_base.specs.Resources.{numbered, IsConcept, is_live_concept}
 use Rattle.thes_base.specs.Postings.{place, IsWellFormed}
 use Rattle.thes_rows.specs.declared.rows.PostingRow.{PostingRow}
 use Rattle.thes_rows.specs.declared.rows.MoveRow.{MoveRow}
+use Rattle.thes_post.specs.Sums.{Sums}
 use Rattle.thes_tables.specs.Rules.{EachRow, AreInOrder, PostingRule, history_of}
+use Rattle.thes_load.specs.Counted.{AreSumsOf}
 
 -- One more row is taken; or no rows that begin with these meet the rule.
 abbrev pub Takes : {A : Type 0} → (List A → Type 0) → (List A → Type 0) → List A → A → Bool → Type 0
@@ -26,12 +28,13 @@ KeyIsTaken old new key fresh =
     (fresh ≡ not (has_key old key))
     × ((q : List ℕ) → has_key new q ≡ cond (eq_by_cmp (slice_cmp nat_cmp) key q) true (has_key old q))
 
--- the rows meet the rule, and the keys, the first concepts and the places are theirs
-pub record HasPostings (resources : List Resource) (keys : List (List ℕ)) (firsts ats : List ℕ) (rows : List PostingRow) : Type 0 where
+-- the rows meet the rule, and the keys, the first concepts, the places and the sums are theirs
+pub record HasPostings (resources : List Resource) (keys : List (List ℕ)) (firsts ats : List ℕ) (sums : Sums) (rows : List PostingRow) : Type 0 where
   pub rule : PostingRule resources rows
   pub keys_are : (q : List ℕ) → has_key keys q ≡ has_key (map (λ (row : PostingRow). row.key) rows) q
   pub firsts_are : firsts ≡ map (λ (row : PostingRow). row.first) rows
   pub ats_are : ats ≡ map (λ (row : PostingRow). row.place) rows
+  pub sums_are : AreSumsOf rows sums
 
 -- a row that goes on, but for its key
 pub record IsNextPosting (resources : List Resource) (taken : ℕ) (row : PostingRow) : Type 0 where

@@ -3,7 +3,7 @@ ghost use Rattle.std.specs.Prelude.{IfOk};
 ghost use Rattle.thes_load.specs.declared.stage.Stage.TheVariants as stage;
 ghost use Rattle.thes_load.specs.Progress.{Closes};
 
-use crate::links::LinkLoad;
+use crate::linked::LinkedVocab;
 use crate::meta::MetaRow;
 use crate::names::OutsideLoad;
 use crate::postings::PostingLoad;
@@ -12,8 +12,7 @@ use crate::stage::Stage;
 use std::alloc::{AllocError, Global};
 use thes_base::fault::{Fault, Table};
 use thes_base::text::Base;
-use thes_graph::graph::Graph;
-use thes_vocab::{Vocab, VocabLoad};
+use thes_vocab::VocabLoad;
 
 /// Ends the rows of meta.
 pub fn close_meta(alloc: Global, row: Option<MetaRow>) -> Stage
@@ -58,8 +57,8 @@ pub fn close_label(alloc: Global, vocab: VocabLoad) -> Result<Stage, AllocError>
     if vocab.has_all_iris() {
         match vocab.close() {
             Some(vocab) => {
-                let load = LinkLoad::new(alloc, vocab.resources())?;
-                Ok(Stage::Link(vocab, load))
+                let linked = LinkedVocab::new(alloc, vocab)?;
+                Ok(Stage::Link(linked))
             }
             None => Ok(Stage::Stopped(Fault::BadStore(Table::Label), Table::Link)),
         }
@@ -69,20 +68,20 @@ pub fn close_label(alloc: Global, vocab: VocabLoad) -> Result<Stage, AllocError>
 }
 
 /// Ends the rows of hier.
-pub fn close_hier(alloc: Global, vocab: Vocab, load: LinkLoad) -> Result<Stage, AllocError>
-    ensures { IfOk result (Closes (stage.Hier vocab load)) }
+pub fn close_hier(alloc: Global, linked: LinkedVocab) -> Result<Stage, AllocError>
+    ensures { IfOk result (Closes (stage.Hier linked)) }
 {
-    if load.close(alloc)? {
-        Ok(Stage::Posting(vocab, load.graph, PostingLoad::new(alloc)))
+    if linked.links.close(alloc)? {
+        Ok(Stage::Posting(linked, PostingLoad::new(alloc)))
     } else {
         Ok(Stage::Stopped(Fault::BadStore(Table::Hier), Table::Posting))
     }
 }
 
 /// Ends the rows of posting.
-pub fn close_posting(vocab: Vocab, graph: Graph, load: PostingLoad) -> Stage
-    ensures { Closes (stage.Posting vocab graph load) result }
+pub fn close_posting(linked: LinkedVocab, load: PostingLoad) -> Stage
+    ensures { Closes (stage.Posting linked load) result }
 {
-    let (moves, ats) = load.close();
-    Stage::Move(vocab, graph, ats, moves)
+    let (moves, placed) = load.close();
+    Stage::Move(linked, placed, moves)
 }

@@ -4,8 +4,9 @@
 pub mod cells;
 pub mod closing;
 pub mod ends;
+pub mod handed;
+pub mod linked;
 pub mod links;
-pub mod loader;
 pub mod meta;
 pub mod moves;
 pub mod names;

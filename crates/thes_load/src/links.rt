@@ -48,7 +48,8 @@ impl LinkLoad {
     /// Takes the next row of link, or answers false if it breaks the rule.
     pub fn take(&mut self, resources: &[Resource], link: &Link) -> Result<bool, AllocError>
         requires { HasLinkForm link.now }
-        ensures { IfOk result (λ good. (rows : List Link) → HasLinks resources.now self.old.graph rows []
+        ensures same { self.new.graph.outside ≡ self.old.graph.outside }
+        ensures takes { IfOk result (λ good. (rows : List Link) → HasLinks resources.now self.old.graph rows []
             → Takes (λ more. HasLinks resources.now self.new.graph more []) (LinkRule resources.now) rows link.now good) }
     {
         let good = add_legal(&mut self.graph, resources, link)?;
@@ -57,7 +58,8 @@ impl LinkLoad {
 
     /// Takes the next row of hier, or answers false if it breaks the rule.
     pub fn take_hier(&mut self, resources: &[Resource], row: &HierRow) -> Result<bool, AllocError>
-        ensures { IfOk result (λ good. (links : List Link) (rows : List HierRow) → HasLinks resources.now self.old.graph links rows
+        ensures same { self.new.graph.outside ≡ self.old.graph.outside }
+        ensures takes { IfOk result (λ good. (links : List Link) (rows : List HierRow) → HasLinks resources.now self.old.graph links rows
             → Takes (HasLinks resources.now self.new.graph links) (HierRule resources.now links) rows row.now good) }
     {
         let good = add_legal(&mut self.graph, resources, &link_of(row))?;
@@ -67,7 +69,8 @@ impl LinkLoad {
     /// Reads the next row of link, or answers false if it breaks the rule or is none.
     pub fn read(&mut self, resources: &[Resource], cells: &[Cell]) -> Result<bool, AllocError>
         requires { length resources.now < 2 ^ 32 }
-        ensures { IfOk result (λ good. (rows : List Link) → HasLinks resources.now self.old.graph rows []
+        ensures same { self.new.graph.outside ≡ self.old.graph.outside }
+        ensures reads { IfOk result (λ good. (rows : List Link) → HasLinks resources.now self.old.graph rows []
             → Reads (map link_cells) (λ more. HasLinks resources.now self.new.graph more [])
             (LinkRule resources.now) rows cells.now good) }
     {
@@ -83,7 +86,8 @@ impl LinkLoad {
     /// Reads the next row of hier, or answers false if it breaks the rule or is none.
     pub fn read_hier(&mut self, resources: &[Resource], cells: &[Cell]) -> Result<bool, AllocError>
         requires { length resources.now < 2 ^ 32 }
-        ensures { IfOk result (λ good. (links : List Link) (rows : List HierRow) → HasLinks resources.now self.old.graph links rows
+        ensures same { self.new.graph.outside ≡ self.old.graph.outside }
+        ensures reads { IfOk result (λ good. (links : List Link) (rows : List HierRow) → HasLinks resources.now self.old.graph links rows
             → Reads (map hier_cells) (HasLinks resources.now self.new.graph links)
             (HierRule resources.now links) rows cells.now good) }
     {
@@ -110,7 +114,8 @@ impl LinkLoad {
 
 // Adds a link that is legal and not held yet, or answers false.
 fn add_legal(graph: &mut Graph, resources: &[Resource], link: &Link) -> Result<bool, AllocError>
-    ensures { IfOk result (λ good. AreMarked resources.now graph.old
+    ensures same { graph.new.outside ≡ graph.old.outside }
+    ensures adds { IfOk result (λ good. AreMarked resources.now graph.old
         → IsAdded resources.now graph.old graph.new link.now good) }
 {
     if is_fit(resources, link) {

@@ -1,23 +1,21 @@
 //! What is kept while the rows of one table are read.
-ghost use Rattle.std.specs.Prelude.{◌≡◌, ◌≤◌, IfOk};
-ghost use Rattle.thes_load.specs.Progress.{stage_table, next_table, table_no, ReadsRow, Closes, Reaches};
+ghost use Rattle.std.specs.Prelude.{◌≡◌, ◌↔◌, ◌<◌, ◌≤◌, IsTrue, IfOk};
+ghost use Rattle.thes_load.specs.Progress.{stage_table, is_stopped, next_table, table_no, ReadsRow, Closes, Reaches};
 
 use crate::closing::{
     close_hier, close_label, close_meta, close_outside, close_posting, close_resource,
 };
-use crate::links::LinkLoad;
+use crate::linked::LinkedVocab;
 use crate::meta::{MetaRow, meta_in};
 use crate::moves::MoveLoad;
 use crate::names::{OutsideLoad, read_label};
-use crate::postings::PostingLoad;
+use crate::postings::{PlacedPostings, PostingLoad};
 use crate::resources::ResourceLoad;
 use std::alloc::{AllocError, Global};
 use thes_base::fault::{Fault, Table};
-use thes_base::number::ResNo;
 use thes_base::text::Base;
-use thes_graph::graph::Graph;
 use thes_rows::cells::Cell;
-use thes_vocab::{Vocab, VocabLoad};
+use thes_vocab::VocabLoad;
 
 /// What is kept while the rows of one table are read, or the fault that was found, and the table that is read then.
 #[derive(Drop)]
@@ -26,16 +24,16 @@ pub enum Stage {
     Resource(Base, ResourceLoad),
     Outside(OutsideLoad),
     Label(VocabLoad),
-    Link(Vocab, LinkLoad),
-    Hier(Vocab, LinkLoad),
-    Posting(Vocab, Graph, PostingLoad),
-    Move(Vocab, Graph, Vec<ResNo>, MoveLoad),
+    Link(LinkedVocab),
+    Hier(LinkedVocab),
+    Posting(LinkedVocab, PostingLoad),
+    Move(LinkedVocab, PlacedPostings, MoveLoad),
     Stopped(Fault, Table),
 }
 
 impl Stage {
-    // The table that is read.
-    fn at(&self) -> Table
+    /// Tells the table that is read.
+    pub fn at(&self) -> Table
         ensures { result ≡ stage_table self.now }
     {
         match self {
@@ -43,11 +41,28 @@ impl Stage {
             Stage::Resource(_, _) => Table::Resource,
             Stage::Outside(_) => Table::Outside,
             Stage::Label(_) => Table::Label,
-            Stage::Link(_, _) => Table::Link,
-            Stage::Hier(_, _) => Table::Hier,
-            Stage::Posting(_, _, _) => Table::Posting,
-            Stage::Move(_, _, _, _) => Table::Move,
+            Stage::Link(_) => Table::Link,
+            Stage::Hier(_) => Table::Hier,
+            Stage::Posting(_, _) => Table::Posting,
+            Stage::Move(_, _, _) => Table::Move,
             Stage::Stopped(_, at) => *at,
+        }
+    }
+
+    /// Tells whether the rows of this table have ended.
+    pub fn is_past(&self, table: Table) -> bool
+        ensures { IsTrue result ↔ (table_no table < table_no (stage_table self.now)) }
+    {
+        number(table) < number(self.at())
+    }
+
+    /// Tells whether a fault was found.
+    pub fn is_stopped(&self) -> bool
+        ensures { result ≡ is_stopped self.now }
+    {
+        match self {
+            Stage::Stopped(_, _) => true,
+            _ => false,
         }
     }
 
@@ -69,10 +84,10 @@ impl Stage {
             Stage::Resource(_, load) => load.read(cells),
             Stage::Outside(load) => load.read(alloc, cells),
             Stage::Label(vocab) => read_label(vocab, alloc, cells),
-            Stage::Link(vocab, load) => load.read(vocab.resources(), cells),
-            Stage::Hier(vocab, load) => load.read_hier(vocab.resources(), cells),
-            Stage::Posting(vocab, _, load) => load.read(alloc, vocab.resources(), cells),
-            Stage::Move(vocab, _, _, load) => Ok(load.read(vocab.resources(), cells)),
+            Stage::Link(linked) => linked.read_link(cells),
+            Stage::Hier(linked) => linked.read_hier(cells),
+            Stage::Posting(linked, load) => load.read(alloc, linked.vocab.resources(), cells),
+            Stage::Move(linked, _, load) => Ok(load.read(linked.vocab.resources(), cells)),
             Stage::Stopped(_, _) => Ok(true),
         }
     }
@@ -86,10 +101,10 @@ impl Stage {
             Stage::Resource(base, load) => close_resource(alloc, base, load),
             Stage::Outside(load) => Ok(close_outside(load)),
             Stage::Label(vocab) => close_label(alloc, vocab),
-            Stage::Link(vocab, load) => Ok(Stage::Hier(vocab, load)),
-            Stage::Hier(vocab, load) => close_hier(alloc, vocab, load),
-            Stage::Posting(vocab, graph, load) => Ok(close_posting(vocab, graph, load)),
-            Stage::Move(vocab, graph, ats, load) => Ok(Stage::Move(vocab, graph, ats, load)),
+            Stage::Link(linked) => Ok(Stage::Hier(linked)),
+            Stage::Hier(linked) => close_hier(alloc, linked),
+            Stage::Posting(linked, load) => Ok(close_posting(linked, load)),
+            Stage::Move(linked, placed, load) => Ok(Stage::Move(linked, placed, load)),
             Stage::Stopped(fault, at) => Ok(Stage::Stopped(fault, next(at))),
         }
     }

@@ -7,9 +7,9 @@ use thes_base::data::Limits;
 use thes_base::fault::{Fault, PipeFault};
 use thes_base::pipe::Pipe;
 use thes_base::text::Base;
-use thes_core::Core;
 use thes_exchange::core_desk::core_script;
 use thes_exchange::script::Ended;
+use thes_machine::Machine;
 
 static REQUESTS: &str = r#"{"do":"scheme","tag":"en","text":"Animals"}
 {"do":"concept","scheme":1,"tag":"en","text":"Cats"}
@@ -81,10 +81,10 @@ fn answer<W: Write>(alloc: Global, requests: &str, answers: W) -> (W, Result<End
     let Ok(base) = Base::read(alloc, "https://thesaurus.example/id/") else {
         return (answers, Err(PipeFault::Fault(Fault::OutOfMemory)));
     };
-    let mut core = Core::new(alloc, base, Limits::default());
+    let mut machine = Machine::new(alloc, base, Limits::default());
     let mut reader = Pipe::new(requests.as_bytes());
     let mut writer = Pipe::new(answers);
-    let ended = core_script(alloc, &mut reader, &mut writer, &mut core);
+    let ended = core_script(alloc, &mut reader, &mut writer, &mut machine);
     (writer.into_device(), ended)
 }
 

@@ -9,7 +9,7 @@ use Rattle.thes_base.specs.Refusals.{EachOnce, EachListed, PostingPasses, unless
 use Rattle.thes_base.proofs.RowLemmas.{passed_unless}
 use Rattle.std.proofs.lemmas.Bool.{cases_Bool, not-true}
 use Rattle.std.proofs.lemmas.Option.{same_Some}
-use Rattle.thes_post.proofs.RisingLemmas.{each_more, each_at}
+use Rattle.thes_post.proofs.EachLemmas.{each_more, each_at}
 
 -- A mark that is set where one of a list fails a test.
 module _ (hs : List History) (test : History → Bool) (ns : List ℕ) (i item : ℕ) (h : History) (mark fails : Bool) (inside : i < length ns) (is : item ≡ get_or ns i item) (at : numbered hs item ≡ Some h) (told : test h ≡ not fails) where

@@ -1,7 +1,4 @@
-pub mod HistoryLemmas
-pub mod IndexLemmas
+pub mod EachLemmas
 pub mod JudgeLemmas
-pub mod KeyLemmas
 pub mod OnceLemmas
-pub mod RisingLemmas
-pub mod StandingLemmas
+pub mod SumLemmas

@@ -1,14 +1,28 @@
 -- Lists in which each number stands once.
-use Rattle.std.proofs.Common.{◌≡◌, ◌≢◌, ◌<◌, ◌≤◌, ℕ, zero, suc, ◌+◌, length, List, [], ◌∷◌, refl, sym, ap, ◌∙◌, arith, ⊎_elim, Bool, true, false, cond, ◌||◌, eqb, eqb-true, get_or}
+use Rattle.std.proofs.Common.{◌≡◌, ◌≢◌, ◌<◌, ◌≤◌, ℕ, zero, suc, ◌+◌, length, List, [], ◌∷◌, refl, sym, ap, ◌∙◌, arith, ⊎_elim, Bool, true, false, cond, ◌||◌, eqb, eqb-true, ne_eqb, get_or}
 use borrow.Author.Tests.{eq-eqb}
 use Rattle.std.specs.Prelude.{count_by}
+use Rattle.std.specs.List.{list_any}
 use Rattle.std.specs.List.Sorted.{IsPermutation, IsNonDecreasing}
 use Rattle.std.proofs.lemmas.List.Sums.{sum_by-cons}
 use Rattle.std.proofs.lemmas.List.Sorted.{sum_by-IsPermutation}
 use Rattle.std.proofs.lemmas.Bool.{cases_Bool}
 use Rattle.thes_base.specs.Refusals.{EachOnce}
 use Rattle.thes_post.specs.Rising.{RisesFrom}
-use Rattle.thes_post.proofs.RisingLemmas.{as_number, has, has_below}
+
+abbrev pub as_number : Bool → ℕ
+as_number b = cond b 1 0
+
+-- the list has the number
+abbrev pub has : List ℕ → ℕ → Bool
+has ns n = list_any (λ m. eqb m n) ns
+
+-- a rising list has no number below its least
+pub has_below : (least n : ℕ) (ns : List ℕ) → n < least → RisesFrom least ns → has ns n ≡ false
+has_below least n [] l r = refl
+has_below least n (m ∷ ns) l r =
+    let q = r.0 in
+    ap (λ b. b || has ns n) (ne_eqb m n (omega arith)) ∙ has_below (m + 1) n ns (omega arith) r.1
 
 abbrev pub times : ℕ → List ℕ → ℕ
 times n ns = count_by (λ m. eqb m n) ns

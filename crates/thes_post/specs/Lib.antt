@@ -1,5 +1,2 @@
-pub mod Indexed
-pub mod Known
-pub mod Moved
 pub mod Rising
-pub mod Standing
+pub mod Sums

@@ -1,7 +1,6 @@
-//! The book of postings: their histories, where each stands, and how many stand at each concept.
+//! The sums of postings, and lists of their numbers.
 #![tactic(auto)]
 
 pub mod book;
-mod histories;
-mod rising;
-mod way;
+pub mod rising;
+pub mod tally;

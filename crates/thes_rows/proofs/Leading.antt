@@ -35,14 +35,14 @@ use Rattle.thes_rows.specs.declared.change.Change.{Change}
 use Rattle.thes_rows.specs.declared.change.Change.TheVariants as change
 use Rattle.thes_rows.specs.Tables.{Tables, IsRowsOf, IsIn, Lists, IsLabelOf, AreIris, AreMoves, Ascends, Rises, posting_row}
 use Rattle.thes_rows.specs.Rows.{changed, all_changed, FitAll, without_row, with_posting, withdrawn_row, placed_row, moved_row}
-use Rattle.thes_rows.specs.Changes.{changes_of, changes_made, changes_relabelled, new_moves, move_row, add_link, drop_link, coming, links_changed}
+use Rattle.thes_rows.specs.Changes.{changes_of, changes_made, changes_relabelled, new_moves, move_row, add_link, drop_link, coming, without_all, links_going}
 use Rattle.thes_rows.specs.Leads.{Leads}
 use Rattle.std.proofs.lemmas.List.{append-nil}
 use Rattle.std.proofs.lemmas.Bool.{cases_Bool}
 use Rattle.thes_base.proofs.SetMembers.{inserted_cases, removed_cases}
-use Rattle.thes_rows.proofs.Sets.{in_append, clash, absent, inserted_union, coming_same, coming_absent, Absent, row_new, listed_push, listed_drop, listed_all}
+use Rattle.thes_rows.proofs.Sets.{in_append, clash, absent, inserted, inserted_union, coming_same, coming_absent, Absent, row_new, listed_push, listed_drop, listed_all}
 use Rattle.thes_rows.proofs.Steps.{all_append, fit_append}
-use Rattle.thes_rows.proofs.LinkRows.{LinkRows, links_of, relinked, added_only, dropped_only, link_in, link_out, link_fits, drop_fits, turned_only, turned_rows, turned_fit}
+use Rattle.thes_rows.proofs.LinkRows.{LinkRows, links_of, relinked, added_only, dropped_only, link_in, link_out, link_fits, drop_fits, turning, turning_only, turning_rows, turning_fit, comes, comes_absent, comes_same}
 use Rattle.thes_rows.proofs.MoveRows.{bounded, rises_new, rises_along, moves_more, moves_posted, moves_set, map_set, map_numbered, with_at, rows_moved, placed_all, NumberedFrom, numbered_from, rows_placed}
 
 -- Rows of outside.
@@ -260,91 +260,93 @@ module _ (base : List ℕ) (s : State) (legal : Legal base s) where
         go None e = record { rows = λ t is. is; fit = λ t is. tt }
         go (Some old) e = let has = preferred_found s.labels owner tag old e in with_labels (renamed_changes old keep) _ (renamed_rows old keep) (renamed_done old keep) (λ t are. renamed_listed old has keep t.label are) (renamed_fits old has keep)
 
-  pub leads_deprecated : (concept : ℕ) → Leads base (change.Retire concept ∷ links_changed s.links (without_node concept s.links)) s (deprecated concept s)
-  leads_deprecated concept = record {
-    rows = λ t is.
-        let u : Tables = retired t in
-        relinked_rows (record s { resources = marked_dead concept None s.resources }) u _ (without_node concept s.links) (dead_rows concept None t is) (turned_only s.links (without_node concept s.links) u) (turned_rows s.links (without_node concept s.links) u (links_of (dead_rows concept None t is)));
-    fit = λ t is. (tt, turned_fit s.links (without_node concept s.links) (retired t) (links_of (dead_rows concept None t is)));
-  }
-    where
-      retired : Tables → Tables
-      retired t = record t { resource = marked_dead concept None t.resource }
+  -- the links go and come by lists
+  module _ (concept : ℕ) (go come : List Link) (absent_all : Absent links_total links.links_exact come (without_all go s.links)) (same : inserted links_total links.links_exact come (without_all go s.links) ≡ without_node concept s.links) where
+    pub leads_deprecated : Leads base (change.Retire concept ∷ turning go come) s (deprecated concept s)
+    leads_deprecated = record {
+      rows = λ t is.
+          let u : Tables = retired t in
+          relinked_rows (record s { resources = marked_dead concept None s.resources }) u _ (without_node concept s.links) (dead_rows concept None t is) (turning_only s.links (without_node concept s.links) go come absent_all same u) (turning_rows s.links (without_node concept s.links) go come absent_all same u (links_of (dead_rows concept None t is)));
+      fit = λ t is. (tt, turning_fit s.links (without_node concept s.links) go come absent_all same (retired t) (links_of (dead_rows concept None t is)));
+    }
+      where
+        retired : Tables → Tables
+        retired t = record t { resource = marked_dead concept None t.resource }
 
   abbrev first_move : ℕ
   first_move = move_count s.histories + 1
 
-  pub leads_merged : (source target : ℕ) → Leads base (changes_of (request.Merge source target) s) s (merged source target s)
-  leads_merged source target = record {
-    rows = λ t is. subst (IsRowsOf base (merged source target s)) (sym (done t)) (moved_rows t is);
-    fit = λ t is.
-        fit_append head tail t
-        (fit_append (change.Replace source target ∷ adds) turns t (tt, fit_labels (coming s.labels taken) s.labels (dead t) is.label (coming_absent labels_total labels_exact taken s.labels))
-        (subst (FitAll turns) (sym (labels_added_all (coming s.labels taken) (dead t))) (turned_fit s.links links_after (labelled t) (links_of (labelled_rows t is)))))
-        (subst (FitAll tail) (sym (head_done t)) (tt, fit_moves (move_count s.histories) rows (record (linked t) { posting = map (moved_row source target) (linked t).posting }) (bounded s.resources s.histories legal.postings (linked t).move (linked_rows t is).move) (rises_new (stands_at source) target first_move (move_count s.histories) s.histories (omega arith))));
-  }
-    where
-      taken : List Label
-      taken = set.items (taken_labels source target s.labels)
+  -- the labels come by a list, and the links go and come by lists
+  module _ (source target : ℕ) (taken : List Label) (taken_absent : Absent labels_total labels_exact taken s.labels) (taken_same : inserted labels_total labels_exact taken s.labels ≡ set.union s.labels (taken_labels source target s.labels))
+      (go come : List Link) (absent_all : Absent links_total links.links_exact come (without_all go s.links)) (same : inserted links_total links.links_exact come (without_all go s.links) ≡ contracted (is_outside s.resources) source target s.links) where
+    pub leads_merged : Leads base (change.Replace source target ∷ map change.AddLabel taken ++ turning go come ++ change.MoveAll source target ∷ map change.AddMove (new_moves (stands_at source) target first_move s.histories)) s (merged source target s)
+    leads_merged = record {
+      rows = λ t is. subst (IsRowsOf base (merged source target s)) (sym (done t)) (moved_rows t is);
+      fit = λ t is.
+          fit_append head tail t
+          (fit_append (change.Replace source target ∷ adds) turns t (tt, fit_labels taken s.labels (dead t) is.label taken_absent)
+          (subst (FitAll turns) (sym (labels_added_all taken (dead t))) (turning_fit s.links links_after go come absent_all same (labelled t) (links_of (labelled_rows t is)))))
+          (subst (FitAll tail) (sym (head_done t)) (tt, fit_moves (move_count s.histories) rows (record (linked t) { posting = map (moved_row source target) (linked t).posting }) (bounded s.resources s.histories legal.postings (linked t).move (linked_rows t is).move) (rises_new (stands_at source) target first_move (move_count s.histories) s.histories (omega arith))));
+    }
+      where
+        links_after : Links
+        links_after = contracted (is_outside s.resources) source target s.links
 
-      links_after : Links
-      links_after = contracted (is_outside s.resources) source target s.links
+        adds : List Change
+        adds = map change.AddLabel taken
 
-      adds : List Change
-      adds = map change.AddLabel (coming s.labels taken)
+        turns : List Change
+        turns = turning go come
 
-      turns : List Change
-      turns = links_changed s.links links_after
+        head : List Change
+        head = change.Replace source target ∷ adds ++ turns
 
-      head : List Change
-      head = change.Replace source target ∷ adds ++ turns
+        rows : List MoveRow
+        rows = new_moves (stands_at source) target first_move s.histories
 
-      rows : List MoveRow
-      rows = new_moves (stands_at source) target first_move s.histories
+        tail : List Change
+        tail = change.MoveAll source target ∷ map change.AddMove rows
 
-      tail : List Change
-      tail = change.MoveAll source target ∷ map change.AddMove rows
+        dead : Tables → Tables
+        dead t = record t { resource = marked_dead source (Some target) t.resource }
 
-      dead : Tables → Tables
-      dead t = record t { resource = marked_dead source (Some target) t.resource }
+        labelled : Tables → Tables
+        labelled t = record (dead t) { label = t.label ++ taken }
 
-      labelled : Tables → Tables
-      labelled t = record (dead t) { label = t.label ++ coming s.labels taken }
+        linked : Tables → Tables
+        linked t = all_changed turns (labelled t)
 
-      linked : Tables → Tables
-      linked t = all_changed turns (labelled t)
+        state_labelled : State
+        state_labelled = record s { resources = marked_dead source (Some target) s.resources; labels = set.union s.labels (taken_labels source target s.labels) }
 
-      state_labelled : State
-      state_labelled = record s { resources = marked_dead source (Some target) s.resources; labels = set.union s.labels (taken_labels source target s.labels) }
+        labelled_rows : (t : Tables) → IsRowsOf base s t → IsRowsOf base state_labelled (labelled t)
+        labelled_rows t is = let d = dead_rows source (Some target) t is in record {
+          base_is = d.base_is;
+          resource = d.resource;
+          outside = d.outside;
+          label = subst (λ x. Lists (IsLabelOf x) (t.label ++ taken)) taken_same
+              (listed_all labels_total labels_exact taken s.labels t.label is.label taken_absent);
+          link = d.link;
+          hier = d.hier;
+          posting = d.posting;
+          move = d.move;
+        }
 
-      labelled_rows : (t : Tables) → IsRowsOf base s t → IsRowsOf base state_labelled (labelled t)
-      labelled_rows t is = let d = dead_rows source (Some target) t is in record {
-        base_is = d.base_is;
-        resource = d.resource;
-        outside = d.outside;
-        label = subst (λ x. Lists (IsLabelOf x) (t.label ++ coming s.labels taken)) (coming_same labels_total labels_exact taken s.labels ∙ inserted_union labels_total labels_exact s.labels (taken_labels source target s.labels))
-            (listed_all labels_total labels_exact (coming s.labels taken) s.labels t.label is.label (coming_absent labels_total labels_exact taken s.labels));
-        link = d.link;
-        hier = d.hier;
-        posting = d.posting;
-        move = d.move;
-      }
+        linked_rows : (t : Tables) → IsRowsOf base s t → IsRowsOf base (record state_labelled { links = links_after }) (linked t)
+        linked_rows t is = relinked_rows state_labelled (labelled t) (linked t) links_after (labelled_rows t is) (turning_only s.links links_after go come absent_all same (labelled t)) (turning_rows s.links links_after go come absent_all same (labelled t) (links_of (labelled_rows t is)))
 
-      linked_rows : (t : Tables) → IsRowsOf base s t → IsRowsOf base (record state_labelled { links = links_after }) (linked t)
-      linked_rows t is = relinked_rows state_labelled (labelled t) (linked t) links_after (labelled_rows t is) (turned_only s.links links_after (labelled t)) (turned_rows s.links links_after (labelled t) (links_of (labelled_rows t is)))
+        moved_rows : (t : Tables) → IsRowsOf base s t → IsRowsOf base (merged source target s) (record (linked t) { posting = map (moved_row source target) (linked t).posting; move = (linked t).move ++ rows })
+        moved_rows t is =
+            let l = linked_rows t is in
+            with_histories base (record state_labelled { links = links_after }) (linked t) l (merged source target s).histories (map (moved_row source target) (linked t).posting) ((linked t).move ++ rows)
+            (ap (map (moved_row source target)) l.posting ∙ rows_moved source target first_move s.histories)
+            (moves_more s.resources s.histories legal.postings (stands_at source) target (linked t).move l.move)
 
-      moved_rows : (t : Tables) → IsRowsOf base s t → IsRowsOf base (merged source target s) (record (linked t) { posting = map (moved_row source target) (linked t).posting; move = (linked t).move ++ rows })
-      moved_rows t is =
-          let l = linked_rows t is in
-          with_histories base (record state_labelled { links = links_after }) (linked t) l (merged source target s).histories (map (moved_row source target) (linked t).posting) ((linked t).move ++ rows)
-          (ap (map (moved_row source target)) l.posting ∙ rows_moved source target first_move s.histories)
-          (moves_more s.resources s.histories legal.postings (stands_at source) target (linked t).move l.move)
+        head_done : (t : Tables) → all_changed head t ≡ linked t
+        head_done t = all_append adds turns (dead t) ∙ ap (all_changed turns) (labels_added_all taken (dead t))
 
-      head_done : (t : Tables) → all_changed head t ≡ linked t
-      head_done t = all_append adds turns (dead t) ∙ ap (all_changed turns) (labels_added_all (coming s.labels taken) (dead t))
-
-      done : (t : Tables) → all_changed (head ++ tail) t ≡ record (linked t) { posting = map (moved_row source target) (linked t).posting; move = (linked t).move ++ rows }
-      done t = all_append head tail t ∙ ap (all_changed tail) (head_done t) ∙ moves_added_all rows (record (linked t) { posting = map (moved_row source target) (linked t).posting })
+        done : (t : Tables) → all_changed (head ++ tail) t ≡ record (linked t) { posting = map (moved_row source target) (linked t).posting; move = (linked t).move ++ rows }
+        done t = all_append head tail t ∙ ap (all_changed tail) (head_done t) ∙ moves_added_all rows (record (linked t) { posting = map (moved_row source target) (linked t).posting })
 
   numbers : NumberedFrom 1 s.histories
   numbers = numbered_from 1 s.histories (λ i h e. let n = (legal.postings.sound (suc i) h e).number in omega (arith, n))
@@ -439,8 +441,15 @@ leads setting s (request.DropLabel owner l) legal fresh row = leads_drop setting
 leads setting s (request.Relabel owner tag text keep) legal fresh row = leads_relabelled setting.base s legal owner tag text keep
 leads setting s (request.Link kind a b) legal fresh row = leads_link setting.base s legal (norm (is_outside s.resources) (link kind a b)) (passed_if (passed_unless (passed_if (passed_unless (passed_unless (passed_unless row).1).1).1).1).1).0
 leads setting s (request.Unlink kind a b) legal fresh row = leads_unlink setting.base s legal (norm (is_outside s.resources) (link kind a b))
-leads setting s (request.Deprecate concept) legal fresh row = leads_deprecated setting.base s legal concept
-leads setting s (request.Merge source target) legal fresh row = leads_merged setting.base s legal source target
+leads setting s (request.Deprecate concept) legal fresh row =
+    let new = without_node concept s.links in
+    leads_deprecated setting.base s legal concept (links_going s.links new) (comes s.links new) (comes_absent s.links new) (comes_same s.links new)
+leads setting s (request.Merge source target) legal fresh row =
+    let taken = taken_labels source target s.labels in
+    let new = contracted (is_outside s.resources) source target s.links in
+    leads_merged setting.base s legal source target (coming s.labels (set.items taken)) (coming_absent labels_total labels_exact (set.items taken) s.labels)
+    (coming_same labels_total labels_exact (set.items taken) s.labels ∙ inserted_union labels_total labels_exact s.labels taken)
+    (links_going s.links new) (comes s.links new) (comes_absent s.links new) (comes_same s.links new)
 leads setting s (request.Split source tag text postings) legal fresh row = leads_split setting.base s legal source tag text postings
 leads setting s (request.Post key rec concept) legal fresh row = leads_posted setting.base s legal key rec concept fresh
 leads setting s (request.Withdraw posting) legal fresh row = let known = passed_unless row in leads_withdrawn setting.base s legal posting known.0.0 known.0.1

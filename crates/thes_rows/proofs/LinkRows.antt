@@ -14,6 +14,7 @@ use Rattle.thes_base.proofs.LinkSets.{links_total, links_exact}
 use Rattle.thes_rows.specs.declared.rows.HierRow.{HierRow}
 use Rattle.thes_rows.specs.declared.rows.HierType.{HierType}
 use Rattle.thes_rows.specs.declared.rows.HierType.TheVariants as ht
+use Rattle.thes_rows.specs.declared.change.Change.{Change}
 use Rattle.thes_rows.specs.declared.change.Change.TheVariants as change
 use Rattle.thes_rows.specs.Tables.{Tables, IsRowsOf, Lists, IsHierOf, IsLinkOf, hier_kind, hier_link, hier_type}
 use Rattle.thes_rows.specs.Rows.{changed, all_changed, FitAll, Fits}
@@ -200,29 +201,37 @@ dropped_fit : (ls : List Link) (t : Tables) → FitAll (map drop_link ls) t
 dropped_fit [] t = tt
 dropped_fit (l ∷ ls) t = (drop_fits l t, dropped_fit ls (changed (drop_link l) t))
 
--- The links that go and those that come.
-module _ (old new : Links) (t : Tables) where
+-- The links that go and those that come, by their lists.
+
+abbrev pub turning : List Link → List Link → List Change
+turning go come = map drop_link go ++ map add_link come
+
+module _ (old new : Links) (go come : List Link) (absent_all : Absent links_total links_exact come (without_all go old)) (same : inserted links_total links_exact come (without_all go old) ≡ new) (t : Tables) where
+  abbrev gone : Tables
+  gone = all_changed (map drop_link go) t
+
+  parted : all_changed (turning go come) t ≡ all_changed (map add_link come) gone
+  parted = all_append (map drop_link go) (map add_link come) t
+
+  pub turning_only : all_changed (turning go come) t ≡ relinked t (all_changed (turning go come) t)
+  turning_only = subst (λ u. u ≡ relinked t u) (sym parted) (all_added_only come gone ∙ ap (λ u. relinked u (all_changed (map add_link come) gone)) (all_dropped_only go t))
+
+  pub turning_rows : LinkRows old t → LinkRows new (all_changed (turning go come) t)
+  turning_rows are = subst (LinkRows new) (sym parted) (subst (λ x. LinkRows x (all_changed (map add_link come) gone)) same (added_rows come (without_all go old) gone absent_all (dropped_rows go old t are)))
+
+  pub turning_fit : LinkRows old t → FitAll (turning go come) t
+  turning_fit are = fit_append (map drop_link go) (map add_link come) t (dropped_fit go t) (added_fit come (without_all go old) gone absent_all (dropped_rows go old t are))
+
+-- The links of a set that another lacks go, and those of the other come.
+module _ (old new : Links) where
   abbrev left : Links
   left = without_all (links_going old new) old
 
-  abbrev comes : List Link
+  abbrev pub comes : List Link
   comes = coming left (set.items new)
 
-  abbrev gone : Tables
-  gone = all_changed (map drop_link (links_going old new)) t
+  pub comes_absent : Absent links_total links_exact comes left
+  comes_absent = coming_absent links_total links_exact (set.items new) left
 
-  absent_all : Absent links_total links_exact comes left
-  absent_all = coming_absent links_total links_exact (set.items new) left
-
-  parted : all_changed (links_changed old new) t ≡ all_changed (map add_link comes) gone
-  parted = all_append (map drop_link (links_going old new)) (map add_link comes) t
-
-  pub turned_only : all_changed (links_changed old new) t ≡ relinked t (all_changed (links_changed old new) t)
-  turned_only = subst (λ u. u ≡ relinked t u) (sym parted) (all_added_only comes gone ∙ ap (λ u. relinked u (all_changed (map add_link comes) gone)) (all_dropped_only (links_going old new) t))
-
-  pub turned_rows : LinkRows old t → LinkRows new (all_changed (links_changed old new) t)
-  turned_rows are = subst (LinkRows new) (sym parted) (subst (λ x. LinkRows x (all_changed (map add_link comes) gone)) (coming_same links_total links_exact (set.items new) left ∙ turned links_total links_exact old new)
-      (added_rows comes left gone absent_all (dropped_rows (links_going old new) old t are)))
-
-  pub turned_fit : LinkRows old t → FitAll (links_changed old new) t
-  turned_fit are = fit_append (map drop_link (links_going old new)) (map add_link comes) t (dropped_fit (links_going old new) t) (added_fit comes left gone absent_all (dropped_rows (links_going old new) old t are))
+  pub comes_same : inserted links_total links_exact comes left ≡ new
+  comes_same = coming_same links_total links_exact (set.items new) left ∙ turned links_total links_exact old new

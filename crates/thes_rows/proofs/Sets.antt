@@ -192,6 +192,35 @@ module _ {K : Type 0} {R : K → K → Ordering} (o : IsTotalOrder R) (exact : I
   Absent [] s = Unit {0}
   Absent (k ∷ ks) s = (set.contains s k ≡ false) × Absent ks (set.insert s k)
 
+  -- those that come are new, and each stands once: so each is absent where it comes
+  pub absent_of : (ks : List K) (s : FinSet R) → ((q : K) → IsIn q ks → set.contains s q ≡ true → ⊥) → Once ks → Absent ks s
+  absent_of [] s new once = tt
+  absent_of (k ∷ ks) s new once = (
+    absent s k (new k (inl refl)),
+    absent_of ks (set.insert s k) (λ q h m. elim (inserted_cases o exact s k q m) [ inl e ↦ once.0 (let Q : K → Type 0 = λ x. IsIn x ks in subst Q e h) | inr old ↦ new q (inr h) old ]) once.1,
+  )
+
+  -- the lists tell what goes and what comes
+  pub turned_by : (s t : FinSet R) (go come : List K) → Lists (λ q. (set.contains s q ≡ true) × (set.contains t q ≡ true → ⊥)) go → Lists (λ q. (set.contains t q ≡ true) × (set.contains s q ≡ true → ⊥)) come
+      → inserted come (without_all go s) ≡ t
+  turned_by s t go come goes comes = set.same_set o exact _ _ (λ q. both_ways _ _
+      (λ h. elim (all_cases come _ q h) [
+        | inl new ↦ (comes.sound q new).0
+        | inr old ↦
+            let both = gone_cases go s q old in
+            elim (cases_Bool (set.contains t q)) [
+              | inl there ↦ there
+              | inr out ↦ absurd (both.0 (goes.complete q (both.1, λ there. clash (set.contains t q) there out)))
+            ]
+      ])
+      (λ h. elim (cases_Bool (set.contains s q)) [
+        | inl old ↦ all_kept come _ q (gone_kept go s q (λ m. (goes.sound q m).1 h) old)
+        | inr out ↦ all_new come _ q (comes.complete q (h, λ old. clash (set.contains s q) old out))
+      ]))
+
+  pub absent_by : (s t : FinSet R) (go come : List K) → Lists (λ q. (set.contains t q ≡ true) × (set.contains s q ≡ true → ⊥)) come → Absent come (without_all go s)
+  absent_by s t go come comes = absent_of come (without_all go s) (λ q h m. (comes.sound q h).1 (gone_cases go s q m).1) comes.once
+
   pub coming_absent : (ks : List K) (s : FinSet R) → Absent (coming s ks) s
   coming_absent [] s = tt
   coming_absent (k ∷ ks) s = elim (cases_Bool (set.contains s k)) [

@@ -2,17 +2,22 @@
 //! arguments name the files; how a file is written stands in docs/ARCHITECTURE.md, "Stored scripts".
 #![tactic(auto)]
 
-mod script;
+mod desk;
+mod halting;
+mod list;
+mod lookups;
+mod store;
 mod stored;
+mod ways;
 
-use crate::script::{Outcome, run};
 use crate::stored::Stored;
+use crate::ways::run;
 use std::alloc::Global;
 use std::{env, fs, io};
 
 // Says where the answers are others than the stored ones, by the first line that differs.
-fn tell<R: Print>(rt: &R, stored: &Stored, outcome: &Outcome) -> io::Result<()> {
-    let mut answers = outcome.answers.as_str().lines();
+fn tell<R: Print>(rt: &R, stored: &Stored, answers: &str) -> io::Result<()> {
+    let mut answers = answers.lines();
     for wanted in stored.answers.as_str().lines() {
         let answer = answers.next().unwrap_or("");
         if answer != wanted {
@@ -20,11 +25,7 @@ fn tell<R: Print>(rt: &R, stored: &Stored, outcome: &Outcome) -> io::Result<()> 
             return Ok(());
         }
     }
-    println!(rt;
-        "  {}: {}",
-        stored.name,
-        answers.next().unwrap_or("it did not end as stored")
-    )
+    println!(rt; "  {}: {}", stored.name, answers.next().unwrap_or(""))
 }
 
 // Runs the scripts of a file, and counts those that are answered as stored.
@@ -35,18 +36,20 @@ fn run_file<R: Print>(rt: &R, alloc: Global, name: &str, text: &str) -> io::Resu
     println!(rt; "{name}")?;
     for part in parts {
         let stored = Stored::read(alloc, start, part)?;
-        let outcome = run(alloc, &stored)?;
+        let answers = run(alloc, &stored)?;
         scripts = scripts.saturating_add(1);
-        if !outcome.is_as(&stored) {
+        if answers != stored.answers {
             differing = differing.saturating_add(1);
-            tell(rt, &stored, &outcome)?;
+            tell(rt, &stored, answers.as_str())?;
         }
     }
     println!(rt; "  {scripts} scripts, {differing} answered otherwise than stored")
 }
 
 fn main(rt: HostRuntime) -> io::Result<()> {
-    for name in env::args(&rt)?.skip(1) {
+    let mut names = env::args(&rt)?;
+    let _program = names.next();
+    for name in names {
         let text = fs::read_to_string(&rt, name.as_str())?;
         run_file(&rt, rt.alloc(), name.as_str(), text.as_str())?;
     }

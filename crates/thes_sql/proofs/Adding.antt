@@ -3,6 +3,7 @@ use Rattle.std.proofs.Common.{arith, ◌≡◌, inl, inr, ℕ, ℤ, ◌+ℤ◌, 
 use Rattle.std.proofs.Common.{◌/◌, length, map, filter, fold, slice_get, Bool, cond, false, Option, None}
 use Rattle.std.proofs.Common.{Some, Ok, refl, sym, ap, subst, ◌∙◌}
 use Rattle.std.proofs.lemmas.Int.{ints}
+use Rattle.std.specs.Prelude.{IsUtf8}
 use Rattle.sqlite.specs.declared.types.Value.{Value}
 use Rattle.sqlite.specs.declared.types.Value.TheVariants.{Null, Int}
 use Rattle.sqlite.specs.Order.{Row}
@@ -39,10 +40,12 @@ use Rattle.thes_sql.specs.Schema.{resource, outside, label, link, hier, posting,
 use Rattle.thes_sql.specs.Stored.{Keeps, Rising, AreKeyed, AreHidden, AreNumbered, hidden_row, values, numbered_from}
 use Rattle.thes_sql.specs.Stored.{stored_resource, stored_outside, stored_posting, stored_move, label_values}
 use Rattle.thes_sql.specs.Stored.{link_values, hier_values, value_of}
+use Rattle.thes_sql.specs.Stored.{IsSpelledOutside, IsSpelledLabel, IsSpelledPosting}
 use Rattle.thes_sql.proofs.Texts.{Means}
 use Rattle.thes_sql.proofs.Texts as text
 use Rattle.thes_sql.proofs.Writing.{IsQuietTable, inserted, cast_int, cast_null}
 use Rattle.thes_sql.proofs.Keyed.{keyed_push}
+use Rattle.thes_sql.proofs.Elements.{all_push}
 use Rattle.thes_sql.proofs.Statements.{Rewrites, retold}
 use Rattle.thes_sql.proofs.Holding.{keeps_resource, keeps_outside, keeps_label, keeps_link, keeps_hier, keeps_posting}
 use Rattle.thes_sql.proofs.Holding.{keeps_move}
@@ -225,15 +228,16 @@ cast_outside : (row : ℕ × List ℕ) → cast_row (record outside { tree = 2 }
 cast_outside row = rw (cast_null, cast_int (pos row.0)) refl
 
 pub adds_outside : (old new : State) (t : Tables) (row : ℕ × List ℕ) (count : ℕ) → Keeps old.now t → 0 < row.0
-    → ((other : ℕ × List ℕ) → IsIn other t.outside → other.0 < row.0)
+    → ((other : ℕ × List ℕ) → IsIn other t.outside → other.0 < row.0) → IsUtf8 row.1
     → Executes text.add_outside_text (values (outside_cells row)) old new (Ok count)
     → Keeps new.now (record t { outside = t.outside ++ row ∷ [] })
-adds_outside old new t row count kept least below h =
+adds_outside old new t row count kept least below spelled h =
     keeps_outside old new t kept (t.outside ++ row ∷ [])
     (adds_keyed (λ (row : ℕ × List ℕ). row.0) stored_outside (λ row. refl) 2 (record outside { tree = 2 })
     text.add_outside_text text.add_outside_terms 3 (values (outside_cells row)) row refl refl (λ olds news. refl)
     text.add_outside_is refl (λ rows. ap (with_rowid Chosen rows) (cast_outside row)) old new t.outside count
     kept.schema kept.hold.outside least (λ y k. below y (in_has t.outside y k)) h)
+    (all_push IsSpelledOutside t.outside row kept.hold.spelled.1.0 spelled)
 
 pub cast_posting : (p : PostingRow) → cast_row (record posting { tree = 10 }) (stored_posting p) ≡ stored_posting p
 cast_posting p = rw (
@@ -245,10 +249,10 @@ cast_posting p = rw (
 ) refl
 
 pub adds_posting : (old new : State) (t : Tables) (p : PostingRow) (count : ℕ) → Keeps old.now t
-    → p.number ≡ length t.posting + 1
+    → p.number ≡ length t.posting + 1 → IsSpelledPosting p
     → Executes text.add_posting_text (values (posting_cells p)) old new (Ok count)
     → Keeps new.now (record t { posting = t.posting ++ p ∷ [] })
-adds_posting old new t p count kept next h =
+adds_posting old new t p count kept next spelled h =
     keeps_posting old new t kept (t.posting ++ p ∷ [])
     (adds_keyed (λ (row : PostingRow). row.number) stored_posting (λ row. refl) 6 (record posting { tree = 10 })
     text.add_posting_text text.add_posting_terms 7 (values (posting_cells p)) p refl refl (λ olds news. refl)
@@ -256,6 +260,7 @@ adds_posting old new t p count kept next h =
     kept.schema kept.hold.posting (omega (arith, next))
     (λ y k. let b = postings_below 1 t.posting y kept.hold.numbered k in omega (arith, b, next)) h)
     (postings_push 1 t.posting p kept.hold.numbered (omega (arith, next)))
+    (all_push IsSpelledPosting t.posting p kept.hold.spelled.1.1.1 spelled)
 
 cast_move : (m : MoveRow) → cast_row (record move { tree = 12 }) (stored_move m) ≡ stored_move m
 cast_move m = rw (
@@ -279,14 +284,15 @@ adds_move old new t m count kept least below h =
 
 -- The tables without.
 
-pub adds_label : (old new : State) (t : Tables) (l : Label) (count : ℕ) → Keeps old.now t
+pub adds_label : (old new : State) (t : Tables) (l : Label) (count : ℕ) → Keeps old.now t → IsSpelledLabel l
     → Executes text.add_label_text (label_values l) old new (Ok count)
     → Keeps new.now (record t { label = t.label ++ l ∷ [] })
-adds_label old new t l count kept h = keeps_label old new t kept (t.label ++ l ∷ [])
+adds_label old new t l count kept spelled h = keeps_label old new t kept (t.label ++ l ∷ [])
     (adds_hidden label_values 3 (record label { tree = 4 }) text.add_label_text text.add_label_terms 5 l refl refl
     (λ olds news. refl) text.add_label_is refl
     (λ rows. rw (cast_null, cast_int (pos l.owner), cast_int (pos (label_kind_no l.kind))) refl) old new t.label
     count kept.schema kept.hold.label h)
+    (all_push IsSpelledLabel t.label l kept.hold.spelled.1.1.0 spelled)
 
 pub adds_link : (old new : State) (t : Tables) (l : Link) (count : ℕ) → Keeps old.now t
     → Executes text.add_link_text (link_values l) old new (Ok count)

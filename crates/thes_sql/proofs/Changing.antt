@@ -2,6 +2,7 @@
 use Rattle.std.proofs.Common.{◌≡◌, ℕ, pos, List, [], ◌∷◌, ◌<◌, ◌==◌, map, filter, slice_get, Bool, not, ◌&&◌}
 use Rattle.std.proofs.Common.{if◌then◌else◌, Some, None, Option, Ok, Err, Result, OnOk, refl, sym, subst}
 use Rattle.std.specs.List.{list_all}
+use Rattle.std.specs.Prelude.{IsUtf8}
 use Rattle.std.specs.Ordering.{eq_by_cmp}
 use Rattle.sqlite.specs.declared.types.Value.TheVariants.{Null, Int}
 use Rattle.sqlite.specs.Order.{Row}
@@ -29,6 +30,7 @@ use Rattle.thes_rows.specs.Rows.{without_hier}
 use Rattle.thes_sql.specs.Schema.{resource, label, link, hier, posting, store_schema}
 use Rattle.thes_sql.specs.Stored.{Keeps, AreKeyed, AreHidden, hidden_row, stored_resource}
 use Rattle.thes_sql.specs.Stored.{stored_posting, label_values, link_values, hier_values, values, numbered_from}
+use Rattle.thes_sql.specs.Stored.{IsSpelledLabel, IsSpelledPosting}
 use Rattle.thes_sql.specs.Does.{Does}
 use Rattle.thes_sql.proofs.Texts.{plain_query, whole, Means}
 use Rattle.thes_sql.proofs.Texts as text
@@ -37,6 +39,7 @@ use Rattle.thes_sql.proofs.Statements.{Rewrites, retold, updates, deletes}
 use Rattle.thes_sql.proofs.Holding.{keeps_resource, keeps_label, keeps_link, keeps_hier, keeps_posting}
 use Rattle.thes_sql.proofs.Adding.{cast_resource, cast_posting, hidden_drop, adds_resource, adds_outside, adds_label}
 use Rattle.thes_sql.proofs.Adding.{adds_link, adds_hier, adds_posting, adds_move}
+use Rattle.thes_sql.proofs.Elements.{all_left, all_turned}
 use Rattle.thes_sql.proofs.Testing.{by_resource, by_number, by_place, by_label, by_link, by_hier}
 use Rattle.thes_sql.proofs.Places.{dead_is, posting_is, still_numbered}
 
@@ -61,12 +64,13 @@ pub makes_resource : (n : ℕ) (r : Resource) → Makes text.add_resource_text (
     (change.AddResource n r)
 makes_resource n r old new t count kept fits h = adds_resource old new t n r count kept fits h
 
-pub makes_outside : (n : ℕ) (iri : List ℕ) → 0 < n → Makes text.add_outside_text (values (outside_cells (n, iri)))
+pub makes_outside : (n : ℕ) (iri : List ℕ) → 0 < n → IsUtf8 iri → Makes text.add_outside_text (values (outside_cells (n, iri)))
     (change.AddOutside n iri)
-makes_outside n iri least old new t count kept fits h = adds_outside old new t (n, iri) count kept least fits h
+makes_outside n iri least spelled old new t count kept fits h =
+    adds_outside old new t (n, iri) count kept least fits spelled h
 
-pub makes_label : (l : Label) → Makes text.add_label_text (label_values l) (change.AddLabel l)
-makes_label l old new t count kept fits h = adds_label old new t l count kept h
+pub makes_label : (l : Label) → IsSpelledLabel l → Makes text.add_label_text (label_values l) (change.AddLabel l)
+makes_label l spelled old new t count kept fits h = adds_label old new t l count kept spelled h
 
 pub makes_link : (l : Link) → Makes text.add_link_text (link_values l) (change.AddLink l)
 makes_link l old new t count kept fits h = adds_link old new t l count kept h
@@ -74,8 +78,9 @@ makes_link l old new t count kept fits h = adds_link old new t l count kept h
 pub makes_hier : (row : HierRow) → Makes text.add_hier_text (hier_values row) (change.AddHier row)
 makes_hier row old new t count kept fits h = adds_hier old new t row count kept h
 
-pub makes_posting : (p : PostingRow) → Makes text.add_posting_text (values (posting_cells p)) (change.AddPosting p)
-makes_posting p old new t count kept fits h = adds_posting old new t p count kept fits.0 h
+pub makes_posting : (p : PostingRow) → IsSpelledPosting p
+    → Makes text.add_posting_text (values (posting_cells p)) (change.AddPosting p)
+makes_posting p spelled old new t count kept fits h = adds_posting old new t p count kept fits.0 spelled h
 
 pub makes_move : (m : MoveRow) → 0 < m.number → Makes text.add_move_text (values (move_cells m)) (change.AddMove m)
 makes_move m least old new t count kept fits h = adds_move old new t m count kept least fits h
@@ -118,16 +123,18 @@ turns : (sql : List ℕ) (params : Row) (filters project : List Term)
     (p : PostingRow → Bool) (test : (x : PostingRow) → list_all
     (holds (params ∷ stored_posting x ∷ [])) filters ≡ p x)
     (f : PostingRow → PostingRow) (keeps : (x : PostingRow) → (f x).number ≡ x.number)
+    (told : (x : PostingRow) → IsSpelledPosting x → IsSpelledPosting (f x))
     → ((x : PostingRow) → output (plain_query 10 filters project [])
     (params ∷ stored_posting x ∷ []) ≡ ([], Int (pos x.number) ∷ stored_posting (f x)))
     → (old new : State) (t : Tables) (count : ℕ) → Keeps old.now t → Executes sql params old new (Ok count)
     → Keeps new.now (record t { posting = map (λ x. if p x then f x else x) t.posting })
-turns sql params filters project is p test f keeps shows old new t count kept h =
+turns sql params filters project is p test f keeps told shows old new t count kept h =
     keeps_posting old new t kept (map (λ x. if p x then f x else x) t.posting)
     (updates (λ (x : PostingRow). x.number) stored_posting (λ x. refl) 6 (record posting { tree = 10 }) refl
     (λ olds news. refl) sql params filters p test project is f keeps shows
     (λ x. cast_posting (f x)) old new t.posting count kept.schema kept.hold.posting h)
     (still_numbered f p keeps 1 t.posting kept.hold.numbered)
+    (all_turned IsSpelledPosting p f told t.posting kept.hold.spelled.1.1.1)
 
 pub makes_withdrawn : (n : ℕ) → Makes text.withdraw_text (Int (pos n) ∷ []) (change.Withdraw n)
 makes_withdrawn n old new t count kept fits h =
@@ -135,7 +142,7 @@ makes_withdrawn n old new t count kept fits h =
     (sym (posting_is withdrawn_row n t.posting kept.hold.numbered))
     (turns text.withdraw_text (Int (pos n) ∷ []) text.withdraw_query.filter text.withdraw_query.project
     text.withdraw_is (λ x. x.number == n) (by_number [] n) withdrawn_row (λ x. refl)
-    (λ x. refl) old new t count kept h)
+    (λ x s. s) (λ x. refl) old new t count kept h)
 
 pub makes_placed : (n place : ℕ) → Makes text.set_place_text (Int (pos n) ∷ Int (pos place) ∷ [])
     (change.SetPlace n place)
@@ -144,14 +151,15 @@ makes_placed n place old new t count kept fits h =
     (sym (posting_is (placed_row place) n t.posting kept.hold.numbered))
     (turns text.set_place_text (Int (pos n) ∷ Int (pos place) ∷ []) text.set_place_query.filter
     text.set_place_query.project text.set_place_is (λ x. x.number == n) (by_number (Int (pos place) ∷ []) n)
-    (placed_row place) (λ x. refl) (λ x. refl) old new t count kept h)
+    (placed_row place) (λ x. refl) (λ x s. s) (λ x. refl) old new t count kept h)
 
 pub makes_moved : (source target : ℕ) → Makes text.move_all_text (Int (pos source) ∷ Int (pos target) ∷ [])
     (change.MoveAll source target)
 makes_moved source target old new t count kept fits h =
     turns text.move_all_text (Int (pos source) ∷ Int (pos target) ∷ []) text.move_all_query.filter
     text.move_all_query.project text.move_all_is (λ x. not x.withdrawn && x.place == source)
-    (by_place (Int (pos target) ∷ []) source) (placed_row target) (λ x. refl) (λ x. refl) old new t count kept h
+    (by_place (Int (pos target) ∷ []) source) (placed_row target) (λ x. refl) (λ x s. s)
+    (λ x. refl) old new t count kept h
 
 -- Rows without numbers go.
 
@@ -173,6 +181,7 @@ makes_label_gone l old new t count kept fits h = keeps_label old new t kept (wit
     (drops label_values 3 (record label { tree = 4 }) refl (λ olds news. refl) text.drop_label_text l
     text.drop_label_query.filter (λ x. eq_by_cmp label_cmp x l) (by_label l) text.drop_label_is old new t.label count
     kept.schema kept.hold.label h)
+    (all_left IsSpelledLabel (λ y. not (eq_by_cmp label_cmp y l)) t.label kept.hold.spelled.1.1.0)
 
 pub makes_link_gone : (l : Link) → Makes text.drop_link_text (link_values l) (change.DropLink l)
 makes_link_gone l old new t count kept fits h = keeps_link old new t kept (without_row link_cmp l t.link)

@@ -1,5 +1,6 @@
 -- What makes a new store of empty tables.
 use Rattle.std.proofs.Common.{arith, ◌≡◌, ◌∙◌, ℕ, pos, List, [], Ok, Err, Result, OnOk, refl, ap}
+use Rattle.std.specs.Prelude.{IsUtf8}
 use Rattle.sqlite.specs.declared.types.Value.{Value}
 use Rattle.sqlite.specs.Order.{Row}
 use Rattle.sqlite.specs.Tree.{put_row}
@@ -26,9 +27,9 @@ no_keyed stored num tree none = record { rises = tt; rows = none }
 no_hidden : {A : Type 0} (of : A → List Value) (tree : List Row) → tree ≡ [] → AreHidden of [] tree
 no_hidden of tree none = record { given = []; same = refl; held = record { rises = tt; rows = none } }
 
-pub adds_meta : (base : List ℕ) (old new : State) (count : ℕ) → IsEmpty store_schema old.now
+pub adds_meta : (base : List ℕ) → IsUtf8 base → (old new : State) (count : ℕ) → IsEmpty store_schema old.now
     → Executes text.add_meta_text (values (meta_cells base)) old new (Ok count) → Keeps new.now (no_rows base)
-adds_meta base old new count empty h =
+adds_meta base spelled old new count empty h =
     let w = puts 0 meta text.add_meta_text text.add_meta_terms 4 (values (meta_cells base)) (stored_meta base)
     (λ rows. stored_meta base) refl refl (λ olds news. refl) text.add_meta_is refl
     (λ rows. ap (with_rowid Chosen rows) (cast_meta base)) old new count empty.0 h in
@@ -44,15 +45,16 @@ adds_meta base old new count empty h =
         hier = no_hidden _ _ (w.others.1.1.1.1.1.0 (λ q. omega (arith, q)) ∙ e.1.1.1.1.1.0);
         posting = no_keyed _ _ _ (w.others.1.1.1.1.1.1.0 (λ q. omega (arith, q)) ∙ e.1.1.1.1.1.1.0);
         numbered = tt;
+        spelled = (spelled, (tt, (tt, tt)));
         move = no_keyed _ _ _ (w.others.1.1.1.1.1.1.1.0 (λ q. omega (arith, q)) ∙ e.1.1.1.1.1.1.1.0);
       };
     }
 
-pub does_meta : (base : List ℕ) (old new : State) (r : Result ℕ Error)
+pub does_meta : (base : List ℕ) → IsUtf8 base → (old new : State) (r : Result ℕ Error)
     → ExecutesInside 0 text.add_meta_text (values (meta_cells base)) old new r
     → OnOk r (Turns (IsEmpty store_schema) (λ db. Keeps db (no_rows base)) old new)
-does_meta base old new (Err e) h = tt
-does_meta base old new (Ok count) h = record {
-  made = λ empty. adds_meta base old new count empty h.0;
+does_meta base spelled old new (Err e) h = tt
+does_meta base spelled old new (Ok count) h = record {
+  made = λ empty. adds_meta base spelled old new count empty h.0;
   inside = h.1.mode;
 }

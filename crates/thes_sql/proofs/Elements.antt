@@ -1,6 +1,6 @@
 -- Lists by membership, and tables: rows in the order of their numbers.
 use Rattle.std.proofs.Common.{arith, ◌≡◌, inl, inr, ℕ, ℤ, pos, ◌==◌, List, [], ◌∷◌, map, filter, Bool, true}
-use Rattle.std.proofs.Common.{false, not, cond, refl, sym, ap, subst, ◌∙◌, Less, is_eq}
+use Rattle.std.proofs.Common.{false, not, cond, ◌++◌, if◌then◌else◌, refl, sym, ap, subst, ◌∙◌, Less, is_eq}
 use Rattle.std.specs.List.{AllByRecursion}
 use Rattle.std.specs.List.Sorted.{IsPermutation}
 use Rattle.std.proofs.lemmas.Bool.{not-true}
@@ -52,6 +52,31 @@ filter_has {A} p (z ∷ xs) x h = go (filter_has p xs x) (p z) refl h
     go more true e (inl same) = (inl same, ap p same ∙ e)
     go more true e (inr k) = let r = more k in (inr r.0, r.1)
     go more false e k = let r = more k in (inr r.0, r.1)
+
+-- What holds of all rows holds of all after one came, after some went, and after some turned.
+
+pub all_push : {A : Type 0} (P : A → Type 0) (xs : List A) (x : A) → AllByRecursion P xs → P x
+    → AllByRecursion P (xs ++ x ∷ [])
+all_push P [] x all one = (one, tt)
+all_push P (y ∷ ys) x all one = (all.0, all_push P ys x all.1 one)
+
+pub all_left : {A : Type 0} (P : A → Type 0) (p : A → Bool) (xs : List A) → AllByRecursion P xs
+    → AllByRecursion P (filter p xs)
+all_left P p [] all = tt
+all_left {A} P p (x ∷ xs) all = go (all_left P p xs all.1) (p x)
+  where
+    go : AllByRecursion P (filter p xs) → (b : Bool) → AllByRecursion P (cond b (x ∷ filter p xs) (filter p xs))
+    go rest true = (all.0, rest)
+    go rest false = rest
+
+pub all_turned : {A : Type 0} (P : A → Type 0) (p : A → Bool) (f : A → A) → ((x : A) → P x → P (f x)) → (xs : List A)
+    → AllByRecursion P xs → AllByRecursion P (map (λ x. if p x then f x else x) xs)
+all_turned P p f told [] all = tt
+all_turned {A} P p f told (x ∷ xs) all = (go (p x), all_turned P p f told xs all.1)
+  where
+    go : (b : Bool) → P (if b then f x else x)
+    go true = told x all.0
+    go false = all.0
 
 pub has_filter : {A : Type 0} (p : A → Bool) (xs : List A) (x : A) → Has xs x → p x ≡ true → Has (filter p xs) x
 has_filter p [] x h t = absurd h

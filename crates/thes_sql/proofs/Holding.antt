@@ -1,5 +1,6 @@
 -- A store after one of its tables was rewritten.
 use Rattle.std.proofs.Common.{arith, ◌≡◌, ◌≢◌, ℕ, List, [], ◌∷◌, sym, subst}
+use Rattle.std.specs.List.{AllByRecursion}
 use Rattle.sqlite.specs.Order.{Row}
 use Rattle.sqlite.specs.Tree.{Trees}
 use Rattle.sqlite.specs.State.{State}
@@ -13,20 +14,12 @@ use Rattle.thes_rows.specs.declared.rows.PostingRow.{PostingRow}
 use Rattle.thes_rows.specs.declared.rows.MoveRow.{MoveRow}
 use Rattle.thes_rows.specs.Tables.{Tables}
 use Rattle.thes_sql.specs.Stored.{Hold, Keeps, AreHidden, AreNumbered, HoldResources, HoldOutside, HoldPostings}
-use Rattle.thes_sql.specs.Stored.{HoldMoves, label_values, link_values, hier_values, stored_meta}
+use Rattle.thes_sql.specs.Stored.{HoldMoves, label_values, link_values, hier_values, stored_meta, AreSpelled}
+use Rattle.thes_sql.specs.Stored.{IsSpelledOutside, IsSpelledLabel, IsSpelledPosting}
+use Rattle.thes_sql.specs.Reads.{tree_of}
 use Rattle.thes_sql.proofs.Statements.{Rewrites, Untouched}
 
--- the tree of a table, and what it holds
-abbrev pub tree_of : Table → ℕ
-tree_of table.Meta = 0
-tree_of table.Resource = 1
-tree_of table.Outside = 2
-tree_of table.Label = 4
-tree_of table.Link = 6
-tree_of table.Hier = 8
-tree_of table.Posting = 10
-tree_of table.Move = 12
-
+-- what the tree of a table holds
 abbrev pub Holds : Table → Tables → List Row → Type 0
 Holds table.Meta t tree = tree ≡ stored_meta t.base ∷ []
 Holds table.Resource t tree = HoldResources t.resource tree
@@ -48,8 +41,8 @@ held_at db t h table.Posting = h.posting
 held_at db t h table.Move = h.move
 
 pub hold_all : (db : Trees) (t : Tables) → ((p : Table) → Holds p t (db (tree_of p))) → AreNumbered 1 t.posting
-    → Hold db t
-hold_all db t each numbered = record {
+    → AreSpelled t → Hold db t
+hold_all db t each numbered spelled = record {
   meta = each table.Meta;
   resource = each table.Resource;
   outside = each table.Outside;
@@ -59,6 +52,7 @@ hold_all db t each numbered = record {
   posting = each table.Posting;
   numbered = numbered;
   move = each table.Move;
+  spelled = spelled;
 }
 
 pub untouched : (tree : ℕ) (old new : Trees) → Untouched tree old new → (p : Table) → tree_of p ≢ tree
@@ -80,28 +74,31 @@ module _ (old new : State) (t : Tables) (kept : Keeps old.now t) where
         (held_at old.now.trees t kept.hold p)
 
     kept_with : (u : Tables) → ((p : Table) → Holds p u (new.now.trees (tree_of p))) → AreNumbered 1 u.posting
-        → Keeps new.now u
-    kept_with u each numbered = record { schema = w.schema; hold = hold_all new.now.trees u each numbered }
+        → AreSpelled u → Keeps new.now u
+    kept_with u each numbered spelled =
+        record { schema = w.schema; hold = hold_all new.now.trees u each numbered spelled }
 
   pub keeps_resource : (rows : List Resource) → Rewrites 1 (HoldResources rows) old new
       → Keeps new.now (record t { resource = rows })
-  keeps_resource rows w = kept_with w (record t { resource = rows }) each kept.hold.numbered
+  keeps_resource rows w = kept_with w (record t { resource = rows }) each kept.hold.numbered kept.hold.spelled
     where
       each : (p : Table) → Holds p (record t { resource = rows }) (new.now.trees (tree_of p))
       each table.Resource = w.rows
       each p = other w p (λ e. omega (arith, e))
 
   pub keeps_outside : (rows : List (ℕ × List ℕ)) → Rewrites 2 (HoldOutside rows) old new
-      → Keeps new.now (record t { outside = rows })
-  keeps_outside rows w = kept_with w (record t { outside = rows }) each kept.hold.numbered
+      → AllByRecursion IsSpelledOutside rows → Keeps new.now (record t { outside = rows })
+  keeps_outside rows w told = kept_with w (record t { outside = rows }) each kept.hold.numbered
+      (kept.hold.spelled.0, (told, kept.hold.spelled.1.1))
     where
       each : (p : Table) → Holds p (record t { outside = rows }) (new.now.trees (tree_of p))
       each table.Outside = w.rows
       each p = other w p (λ e. omega (arith, e))
 
   pub keeps_label : (rows : List Label) → Rewrites 4 (AreHidden label_values rows) old new
-      → Keeps new.now (record t { label = rows })
-  keeps_label rows w = kept_with w (record t { label = rows }) each kept.hold.numbered
+      → AllByRecursion IsSpelledLabel rows → Keeps new.now (record t { label = rows })
+  keeps_label rows w told = kept_with w (record t { label = rows }) each kept.hold.numbered
+      (kept.hold.spelled.0, (kept.hold.spelled.1.0, (told, kept.hold.spelled.1.1.1)))
     where
       each : (p : Table) → Holds p (record t { label = rows }) (new.now.trees (tree_of p))
       each table.Label = w.rows
@@ -109,7 +106,7 @@ module _ (old new : State) (t : Tables) (kept : Keeps old.now t) where
 
   pub keeps_link : (rows : List Link) → Rewrites 6 (AreHidden link_values rows) old new
       → Keeps new.now (record t { link = rows })
-  keeps_link rows w = kept_with w (record t { link = rows }) each kept.hold.numbered
+  keeps_link rows w = kept_with w (record t { link = rows }) each kept.hold.numbered kept.hold.spelled
     where
       each : (p : Table) → Holds p (record t { link = rows }) (new.now.trees (tree_of p))
       each table.Link = w.rows
@@ -117,15 +114,16 @@ module _ (old new : State) (t : Tables) (kept : Keeps old.now t) where
 
   pub keeps_hier : (rows : List HierRow) → Rewrites 8 (AreHidden hier_values rows) old new
       → Keeps new.now (record t { hier = rows })
-  keeps_hier rows w = kept_with w (record t { hier = rows }) each kept.hold.numbered
+  keeps_hier rows w = kept_with w (record t { hier = rows }) each kept.hold.numbered kept.hold.spelled
     where
       each : (p : Table) → Holds p (record t { hier = rows }) (new.now.trees (tree_of p))
       each table.Hier = w.rows
       each p = other w p (λ e. omega (arith, e))
 
   pub keeps_posting : (rows : List PostingRow) → Rewrites 10 (HoldPostings rows) old new → AreNumbered 1 rows
-      → Keeps new.now (record t { posting = rows })
-  keeps_posting rows w num = kept_with w (record t { posting = rows }) each num
+      → AllByRecursion IsSpelledPosting rows → Keeps new.now (record t { posting = rows })
+  keeps_posting rows w num told = kept_with w (record t { posting = rows }) each num
+      (kept.hold.spelled.0, (kept.hold.spelled.1.0, (kept.hold.spelled.1.1.0, told)))
     where
       each : (p : Table) → Holds p (record t { posting = rows }) (new.now.trees (tree_of p))
       each table.Posting = w.rows
@@ -133,7 +131,7 @@ module _ (old new : State) (t : Tables) (kept : Keeps old.now t) where
 
   pub keeps_move : (rows : List MoveRow) → Rewrites 12 (HoldMoves rows) old new
       → Keeps new.now (record t { move = rows })
-  keeps_move rows w = kept_with w (record t { move = rows }) each kept.hold.numbered
+  keeps_move rows w = kept_with w (record t { move = rows }) each kept.hold.numbered kept.hold.spelled
     where
       each : (p : Table) → Holds p (record t { move = rows }) (new.now.trees (tree_of p))
       each table.Move = w.rows

@@ -1,9 +1,17 @@
 -- A read leaves the tables.
-use Rattle.std.proofs.Common.{◌≡◌, ◌⊎◌, inl, inr, ℕ, List, Ok, Err, Result, IfOk, IfErr, false, IsTrue, sym, subst, ◌∙◌}
+use Rattle.std.proofs.Common.{◌≡◌, ◌⊎◌, inl, inr, ℕ, List, Ok, Err, Result, IfOk, IfErr, false, IsTrue, sym, ap}
+use Rattle.std.proofs.Common.{◌≢◌, subst, ◌∙◌, arith, append-nil}
 use Rattle.sqlite.specs.Order.{Row}
+use Rattle.sqlite.specs.Effect.{Database, RefusesQuery, RefusesToRead}
+use Rattle.sqlite.specs.Command.TheVariants.{Select}
+use Rattle.sqlite_schema.specs.declared.program.Program.{Program}
+use Rattle.sqlite_resolve.specs.declared.error.CompileError.{CompileError}
+use Rattle.sqlite.specs.declared.error.Error.TheVariants.{SqlInputError}
+use Rattle.sqlite_trees.specs.declared.error.StoreError.{StoreError}
+use Rattle.sqlite_trees.specs.declared.error.StoreError.TheVariants as cause
 use Rattle.sqlite.specs.Listing.{understood}
 use Rattle.sqlite.specs.State.{State, HasCleanDisk, Shown, ShowsRows, FailsToQuery, FailsToShow, IsNotRun, IsUnchanged}
-use Rattle.sqlite.specs.State.{IsRolledBack, Survives, CommitsShowing}
+use Rattle.sqlite.specs.State.{IsNoStatement, store_error, IsRolledBack, Survives, CommitsShowing}
 use Rattle.sqlite.specs.Held.{Held, state}
 use Rattle.sqlite.specs.declared.error.Error.{Error}
 use Rattle.sqlite_schema.specs.declared.command.Returning.{Returning}
@@ -11,11 +19,9 @@ use Rattle.sqlite_resolve.specs.declared.compiled.Compiled.{Compiled}
 use Rattle.sqlite_trees.specs.declared.store.Store.{Ghosts}
 use Rattle.std.proofs.Common.{Option, None, Some}
 use Rattle.sqlite.proofs.StateLemmas.{survives_weaker}
-use Rattle.sqlite.proofs.Callers.{IsPlain, never_commits}
-use Rattle.thes_rows.specs.Tables.{Tables}
+use Rattle.sqlite.proofs.Callers.{IsPlain, command_of, never_commits}
 use Rattle.thes_sql.specs.Schema.{store_schema}
-use Rattle.thes_sql.specs.Stored.{Keeps}
-use Rattle.thes_sql.specs.Reads.{LeavesAlone}
+use Rattle.thes_sql.specs.Reads.{LeavesTables, LeavesAlone}
 
 shows_open : (old new : State) (sql : List ℕ) (c : Compiled) (params : Row) (rows : List Row) (o : Option Returning)
     → ShowsRows old new sql c params rows o → IsTrue old.is_open
@@ -74,18 +80,81 @@ pub leaves_alone : {S : Type 0} (g : Ghosts S) (sql : List ℕ) (params : Row) (
     → Survives (state g old) (state g new) (CommitsShowing sql params (state g old))
     → LeavesAlone g old new
 leaves_alone g sql params old new r items plain mode ok err s = record {
-  mode = mode;
-  was = λ clean still_open. was_open sql params (state g old) (state g new) items r (ok clean) (err clean)
-      still_open;
-  clean = s.clean;
-  same = λ t kept clean still_open settled. left (state g old) (state g new) still_open settled
-      (still sql params (state g old) (state g new) (here t kept) items r (ok clean) (err clean));
-  crash = λ t kept. survives_weaker (state g old) (state g new) _ _
-      (λ _ db. never_commits sql params (state g old) db (here t kept)) s;
+  tables = record {
+    mode = mode;
+    was = λ clean still_open. was_open sql params (state g old) (state g new) items r (ok clean) (err clean)
+        still_open;
+    clean = s.clean;
+    same = λ has clean still_open settled. left (state g old) (state g new) still_open settled
+        (still sql params (state g old) (state g new) (here has) items r (ok clean) (err clean));
+  };
+  crash = λ has. survives_weaker (state g old) (state g new) _ _
+      (λ _ db. never_commits sql params (state g old) db (here has)) s;
 }
   where
-    here : (t : Tables) → Keeps (state g old).now t → IsPlain (understood (state g old).now.schema sql)
-    here t kept = subst (λ schema. IsPlain (understood schema sql)) (sym kept.schema) plain
+    here : (state g old).now.schema ≡ store_schema → IsPlain (understood (state g old).now.schema sql)
+    here has = subst (λ schema. IsPlain (understood schema sql)) (sym has) plain
+
+-- A query that the schema of a store understands doesn't fail as a text that isn't understood.
+module _ (sql : List ℕ) (params : Row) (old new : State) (q : Program) (names : List (List ℕ))
+    (has : old.now.schema ≡ store_schema) (is : command_of (understood store_schema sql) ≡ Select q names)
+    (plain : IsPlain (understood store_schema sql)) (e : Error) (fault : CompileError) where
+  here : command_of (understood old.now.schema sql) ≡ Select q names
+  here = ap (λ schema. command_of (understood schema sql)) has ∙ is
+
+  bare : IsPlain (understood old.now.schema sql)
+  bare = subst (λ schema. IsPlain (understood schema sql)) (sym has) plain
+
+  no_statement : IsNoStatement old sql params e → e ≢ SqlInputError fault
+  no_statement (inl h) same = let k = sym here ∙ ap command_of h.1 in cc
+  no_statement (inr h) same = elim h.2 [
+    | inl a ↦ let k = sym a.1 ∙ same in cc
+    | inr more ↦ elim more [ inl b ↦ let k = sym b.1 ∙ same in cc | inr c ↦ let k = sym c.1 ∙ same in cc ]
+  ]
+
+  no_cause : (cause : StoreError) → e ≡ store_error cause → e ≢ SqlInputError fault
+  no_cause cause.OutOfMemory told same = let k = sym told ∙ same in cc
+  no_cause cause.Io told same = let k = sym told ∙ same in cc
+  no_cause cause.Corrupt told same = let k = sym told ∙ same in cc
+  no_cause cause.Full told same = let k = sym told ∙ same in cc
+  no_cause cause.Broken told same = let k = sym told ∙ same in cc
+  no_cause cause.Unstorable told same = let k = sym told ∙ same in cc
+
+  no_refusal : (db : Database) → RefusesQuery old.step_limit db q params e → e ≢ SqlInputError fault
+  no_refusal db (inl h) same = let k = sym h.0 ∙ same in cc
+  no_refusal db (inr (inl h)) same = let k = sym h.0 ∙ same in cc
+  no_refusal db (inr (inr h)) same = let k = sym h.0 ∙ same in cc
+
+  pub is_understood : FailsToQuery sql params old new e → e ≢ SqlInputError fault
+  unfolding FailsToQuery IsNotRun
+  is_understood (inl (inl refused)) same = no_statement refused.0 same
+  is_understood (inl (inr fails)) same = no_cause fails.0 fails.1 same
+  is_understood (inr h) same =
+      let simple = subst IsPlain h.1.is bare in
+      let it = rw (simple.0, simple.1, append-nil params) at h.2 in
+      no_refusal it.0 (subst (λ k. RefusesToRead old.step_limit k it.0 params e)
+      (sym (ap command_of h.1.is) ∙ here) it.2) same
+
+-- after one read comes another
+pub leaves_twice : {S : Type 0} (g : Ghosts S) (old mid new : Held S) → LeavesTables g old mid → LeavesTables g mid new
+    → LeavesTables g old new
+leaves_twice g old mid new first second =
+    let clean_mid : HasCleanDisk (state g new) → HasCleanDisk (state g mid) = λ clean. omega (arith, second.clean, clean) in
+    record {
+      mode = λ idle. second.mode (first.mode idle);
+      was = λ clean opened. first.was (clean_mid clean) (second.was clean opened);
+      clean = omega (arith, first.clean, second.clean);
+      same = λ has clean opened settled.
+          let one = first.same has (clean_mid clean) (second.was clean opened) settled in
+          let two = second.same (ap (λ (db : Database). db.schema) one.0 ∙ has) clean opened
+          (one.0 ∙ settled ∙ sym one.1) in
+          (two.0 ∙ one.0, two.1 ∙ one.1);
+    }
+
+-- what is known of the failure, where the call failed
+pub if_failed : {V : Type 0} (r : Result V Error) {P Q : Error → Type 0} → ((e : Error) → P e → Q e) → IfErr r P → IfErr r Q
+if_failed (Ok v) f h = tt
+if_failed (Err e) f h = f e h
 
 -- what was found of the rows, where the call found any
 pub if_shown : {V : Type 0} (r : Result V Error) {P Q : V → Type 0} → ((v : V) → P v → Q v) → IfOk r P → IfOk r Q

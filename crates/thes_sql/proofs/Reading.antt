@@ -8,14 +8,14 @@ use Rattle.std.specs.List.Sorted.{IsPermutation}
 use Rattle.std.specs.Ordering.{nat_cmp, eq_by_cmp}
 use Rattle.std.specs.Cmp.Lexicographic.{slice_cmp}
 use Rattle.sqlite.specs.declared.types.Value.TheVariants.{Null, Int, Text as Words}
-use Rattle.sqlite.specs.Order.{Row}
+use Rattle.sqlite.specs.Order.{Row, column, value_cmp}
 use Rattle.sqlite.specs.Term.{Term, lit, col, holds}
 use Rattle.sqlite.specs.Query.{Query, IsAnswer, output, output_cmp, page, Output}
 use Rattle.sqlite_sql.proofs.QueryLemmas.{output_cmp_total}
 use Rattle.sqlite_keyed.proofs.SortLemmas.{sorted_unique}
 use Rattle.sqlite_keyed.proofs.ListLemmas.{map-map}
 use Rattle.sqlite_catalog.proofs.ListFacts.{filter_all}
-use Rattle.sqlite_trees.specs.Tree.{IsAscending}
+use Rattle.sqlite_trees.specs.Tree.{IsAscending, IsTable, rowid}
 use Rattle.sqlite.specs.Program.{overlay}
 use Rattle.sqlite.specs.Command.TheVariants.{Select}
 use Rattle.sqlite.specs.Listing.{understood, reads_listing}
@@ -37,11 +37,11 @@ use Rattle.thes_sql.specs.Schema.{store_schema}
 use Rattle.thes_sql.specs.Stored.{Keeps, Rising, AreKeyed, AreHidden, hidden_row, numbered_from, values, stored_meta}
 use Rattle.thes_sql.specs.Stored.{stored_resource, stored_outside, stored_posting, stored_move}
 use Rattle.thes_sql.specs.Reads.{rows_of, text_of, keyed_as, numbered_as, standing_at, moves_of}
+use Rattle.thes_sql.specs.Reads.{tree_of, places_of, shown_rows, IsReadable}
 use Rattle.thes_sql.proofs.Texts.{plain_query, whole, same}
 use Rattle.thes_sql.proofs.Keyed.{lower, rising_filter}
 use Rattle.thes_sql.proofs.Statements.{picked, no_lets}
 use Rattle.thes_sql.proofs.Testing.{by_number, by_place, same_ints, same_words}
-use Rattle.thes_sql.proofs.Holding.{tree_of}
 
 -- a query of one table, by the numbers of its rows
 abbrev pub in_order : ℕ → List Term → List Term → Query
@@ -193,6 +193,77 @@ table_shown table.Posting old new t out kept h = reads_all (λ (row : PostingRow
 table_shown table.Move old new t out kept h = reads_all (λ (row : MoveRow). row.number) stored_move move_cells 12
     (columns_of table.Move) (λ row. refl) (text_of table.Move) (asks_table table.Move) old new t.move out kept.schema
     kept.hold.move h
+
+-- The same, whatever the table holds.
+
+module _ (tree : ℕ) (project : List Term) (of : Row → Row)
+    (shows : (row : Row) → output (in_order tree [] project) ([] ∷ row ∷ []) ≡ (rowid row ∷ [], of row)) where
+  abbrev table_query : Query
+  table_query = in_order tree [] project
+
+  abbrev row_out : Row → Output
+  row_out row = (rowid row ∷ [], of row)
+
+  row_outs : (rows : List Row) → map (output table_query) (map (λ row. [] ∷ row ∷ []) rows) ≡ map row_out rows
+  row_outs [] = refl
+  row_outs (row ∷ rows) = λ i. shows row i ∷ row_outs rows i
+
+  rows_later : (row : Row) (rows : List Row) → AllByRecursion (λ r. value_cmp (rowid row) (rowid r) ≡ Less) rows
+      → AllByRecursion (λ b. output_cmp table_query (row_out row) b ≡ Less) (map row_out rows)
+  rows_later row [] all = tt
+  rows_later row (r ∷ rows) all = (let lt = all.0 in rw lt refl, rows_later row rows all.1)
+
+  rows_strict : (rows : List Row) → IsTable rows
+      → IsAscending (λ a b. output_cmp table_query a b ≡ Less) (map row_out rows)
+  rows_strict [] up = tt
+  rows_strict (row ∷ rows) up = (rows_later row rows up.0, rows_strict rows up.1)
+
+  pub rows_read : (text : List ℕ) → Asks text table_query → (old new : State) (out : List Row)
+      → old.now.schema ≡ store_schema → IsTable (old.now.trees tree) → Shown text [] old new out
+      → out ≡ map of (old.now.trees tree)
+  rows_read text is old new out has up h =
+      let rows = old.now.trees tree in
+      let read = reads_as text [] old new store_schema has (Select (whole table_query) is.0) is.1 is.3 is.2 out h in
+      let a : IsAnswer table_query (overlay old.now.trees []) [] out = read.answer Null in
+      let outputs : a.kept ≡ map row_out rows = a.distinct ∙ ap (map (output table_query)) (a.grouped
+      ∙ ap (flat_map (λ r. cond (list_all (holds ([] ∷ r ∷ [])) []) (([] ∷ r ∷ []) ∷ []) []))
+      (no_lets old.now.trees tree) ∙ each rows) ∙ row_outs rows in
+      let ordered : a.ordered ≡ map row_out rows =
+      sorted_unique (output_cmp table_query) (output_cmp_total table_query) _ a.ordered (rows_strict rows up)
+      (subst (λ k. IsPermutation k a.ordered) outputs a.same) a.sorted in
+      a.shown ∙ ap (λ os. page table_query [] (map (λ (o : Output). o.1) os)) ordered
+      ∙ map-map (λ (o : Output). o.1) row_out rows
+    where
+      each : (rs : List Row) → flat_map (λ (r : Row). ([] ∷ r ∷ []) ∷ []) rs ≡ map (λ r. [] ∷ r ∷ []) rs
+      each [] = refl
+      each (r ∷ rs) = ap (λ l. ([] ∷ r ∷ []) ∷ l) (each rs)
+
+pub whatever_shown : (p : Table) (old new : State) (out : List Row) → IsReadable old.now
+    → Shown (text_of p) [] old new out → out ≡ shown_rows p old.now.trees
+whatever_shown table.Meta old new out is h = rows_read 0 (columns_of table.Meta) (λ row. map (column row)
+    (places_of table.Meta)) (λ row. refl) (text_of table.Meta) (asks_table table.Meta) old new out is.schema
+    (is.ordered table.Meta) h
+whatever_shown table.Resource old new out is h = rows_read 1 (columns_of table.Resource) (λ row. map (column row)
+    (places_of table.Resource)) (λ row. refl) (text_of table.Resource) (asks_table table.Resource) old new out
+    is.schema (is.ordered table.Resource) h
+whatever_shown table.Outside old new out is h = rows_read 2 (columns_of table.Outside) (λ row. map (column row)
+    (places_of table.Outside)) (λ row. refl) (text_of table.Outside) (asks_table table.Outside) old new out is.schema
+    (is.ordered table.Outside) h
+whatever_shown table.Label old new out is h = rows_read 4 (columns_of table.Label) (λ row. map (column row)
+    (places_of table.Label)) (λ row. refl) (text_of table.Label) (asks_table table.Label) old new out is.schema
+    (is.ordered table.Label) h
+whatever_shown table.Link old new out is h = rows_read 6 (columns_of table.Link) (λ row. map (column row)
+    (places_of table.Link)) (λ row. refl) (text_of table.Link) (asks_table table.Link) old new out is.schema
+    (is.ordered table.Link) h
+whatever_shown table.Hier old new out is h = rows_read 8 (columns_of table.Hier) (λ row. map (column row)
+    (places_of table.Hier)) (λ row. refl) (text_of table.Hier) (asks_table table.Hier) old new out is.schema
+    (is.ordered table.Hier) h
+whatever_shown table.Posting old new out is h = rows_read 10 (columns_of table.Posting) (λ row. map (column row)
+    (places_of table.Posting)) (λ row. refl) (text_of table.Posting) (asks_table table.Posting) old new out is.schema
+    (is.ordered table.Posting) h
+whatever_shown table.Move old new out is h = rows_read 12 (columns_of table.Move) (λ row. map (column row)
+    (places_of table.Move)) (λ row. refl) (text_of table.Move) (asks_table table.Move) old new out is.schema
+    (is.ordered table.Move) h
 
 -- Look-ups.
 

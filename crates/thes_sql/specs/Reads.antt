@@ -1,10 +1,17 @@
 -- What reads show, and what they leave.
-use Rattle.std.specs.Prelude.{◌≡◌, ◌≤◌, ◌==◌, ◌&&◌, ℕ, List, [], ◌∷◌, map, filter, codes, not, false, IsTrue, Result, IfOk}
+use Rattle.std.specs.Prelude.{◌≡◌, ◌≢◌, ◌≤◌, ◌==◌, ◌&&◌, ℕ, List, [], ◌∷◌, map, filter, codes, not, false, IsTrue, Result}
+use Rattle.std.specs.Prelude.{IfOk, IfErr}
 use Rattle.std.specs.Ordering.{nat_cmp, eq_by_cmp}
 use Rattle.std.specs.Cmp.Lexicographic.{slice_cmp}
-use Rattle.sqlite.specs.Order.{Row}
+use Rattle.sqlite.specs.Order.{Row, column}
+use Rattle.sqlite.specs.Tree.{Trees}
+use Rattle.sqlite.specs.Effect.{Database}
 use Rattle.sqlite.specs.State.{HasCleanDisk, Survives}
 use Rattle.sqlite.specs.Held.{Held, state}
+use Rattle.sqlite.specs.declared.error.Error.{Error}
+use Rattle.sqlite.specs.declared.error.Error.TheVariants.{SqlInputError}
+use Rattle.sqlite_resolve.specs.declared.error.CompileError.{CompileError}
+use Rattle.sqlite_trees.specs.Tree.{IsTable}
 use Rattle.sqlite_trees.specs.View.{doubt}
 use Rattle.sqlite_trees.specs.declared.store.Store.{Ghosts}
 use Rattle.thes_base.specs.declared.fault.Table.{Table}
@@ -15,7 +22,38 @@ use Rattle.thes_rows.specs.declared.rows.MoveRow.{MoveRow}
 use Rattle.thes_rows.specs.Tables.{Tables}
 use Rattle.thes_rows.specs.Cells.{meta_cells, resource_rows, outside_cells, label_cells, link_cells, hier_cells}
 use Rattle.thes_rows.specs.Cells.{posting_cells, move_cells}
+use Rattle.thes_sql.specs.Schema.{store_schema}
 use Rattle.thes_sql.specs.Stored.{Keeps, values}
+
+-- the tree of a table, and where its rows have the table's columns
+abbrev pub tree_of : Table → ℕ
+tree_of table.Meta = 0
+tree_of table.Resource = 1
+tree_of table.Outside = 2
+tree_of table.Label = 4
+tree_of table.Link = 6
+tree_of table.Hier = 8
+tree_of table.Posting = 10
+tree_of table.Move = 12
+
+abbrev pub places_of : Table → List ℕ
+places_of table.Meta = 0 ∷ 2 ∷ 3 ∷ []
+places_of table.Resource = 0 ∷ 2 ∷ 3 ∷ 4 ∷ 5 ∷ []
+places_of table.Outside = 0 ∷ 2 ∷ []
+places_of table.Label = 1 ∷ 2 ∷ 3 ∷ 4 ∷ []
+places_of table.Link = 1 ∷ 2 ∷ 3 ∷ []
+places_of table.Hier = 1 ∷ 2 ∷ 3 ∷ []
+places_of table.Posting = 0 ∷ 2 ∷ 3 ∷ 4 ∷ 5 ∷ 6 ∷ []
+places_of table.Move = 0 ∷ 2 ∷ 3 ∷ 4 ∷ []
+
+-- the rows of a table in these trees, whatever they hold
+abbrev pub shown_rows : Table → Trees → List Row
+shown_rows p db = map (λ (row : Row). map (column row) (places_of p)) (db (tree_of p))
+
+-- The database has the schema of a store, and each tree has its rows in the order of their numbers.
+pub record IsReadable (db : Database) : Type 0 where
+  pub schema : db.schema ≡ store_schema
+  pub ordered : (p : Table) → IsTable (db.trees (tree_of p))
 
 -- what a table holds, row by row
 abbrev pub rows_of : Table → Tables → List (List Cell)
@@ -60,12 +98,28 @@ Shows g wanted old new r rows =
     HasCleanDisk (state g new) → IfOk r (λ out. (t : Tables) → Keeps (state g old).now t
     → rows out ≡ map values (wanted t))
 
--- A read leaves the database as it is; where it is given up, it leaves it as it was committed.
-pub record LeavesAlone {S : Type 0} (g : Ghosts S) (old new : Held S) : Type 0 where
+-- The rows that are read are just those of the table, whatever it holds, in order.
+abbrev pub ShowsTable : {S V E : Type 0} → Ghosts S → Table → Held S → Held S → Result V E → (V → List Row) → Type 0
+ShowsTable g p old new r rows =
+    HasCleanDisk (state g new) → IsReadable (state g old).now
+    → IfOk r (λ out. rows out ≡ shown_rows p (state g old).now.trees)
+
+-- In the schema of a store the text is understood.
+abbrev pub Understands : {S V : Type 0} → Ghosts S → Held S → Held S → Result V Error → Type 0
+Understands g old new r =
+    HasCleanDisk (state g new) → (state g old).now.schema ≡ store_schema
+    → IfErr r (λ e. (fault : CompileError) → e ≢ SqlInputError fault)
+
+-- A database that has the schema of a store is left as it is, or as it was committed.
+pub record LeavesTables {S : Type 0} (g : Ghosts S) (old new : Held S) : Type 0 where
   pub mode : old.in_transaction ≡ false → new.in_transaction ≡ false
   pub was : HasCleanDisk (state g new) → IsTrue (state g new).is_open → IsTrue (state g old).is_open
   pub clean : doubt (state g old).is_clean ≤ doubt (state g new).is_clean
-  pub same : (t : Tables) → Keeps (state g old).now t → HasCleanDisk (state g new) → IsTrue (state g new).is_open
+  pub same : (state g old).now.schema ≡ store_schema → HasCleanDisk (state g new) → IsTrue (state g new).is_open
       → (state g old).now ≡ (state g old).committed
       → ((state g new).now ≡ (state g old).now) × ((state g new).committed ≡ (state g old).committed)
-  pub crash : (t : Tables) → Keeps (state g old).now t → Survives (state g old) (state g new) (λ _. ⊥)
+
+-- So it is, and a crash leaves what it left before.
+pub record LeavesAlone {S : Type 0} (g : Ghosts S) (old new : Held S) : Type 0 where
+  pub tables : LeavesTables g old new
+  pub crash : (state g old).now.schema ≡ store_schema → Survives (state g old) (state g new) (λ _. ⊥)

@@ -1,5 +1,6 @@
 -- The tables as the database's trees hold them.
-use Rattle.std.specs.Prelude.{◌≡◌, ◌<◌, ◌+◌, ℕ, pos, List, [], ◌∷◌, map, ⊤}
+use Rattle.std.specs.Prelude.{◌≡◌, ◌<◌, ◌+◌, ℕ, pos, List, [], ◌∷◌, map, ⊤, IsUtf8}
+use Rattle.std.specs.List.{AllByRecursion}
 use Rattle.sqlite.specs.declared.types.Value.{Value}
 use Rattle.sqlite.specs.declared.types.Value.TheVariants.{Null, Int, Text as Words, Blob}
 use Rattle.sqlite.specs.Order.{Row}
@@ -99,6 +100,21 @@ HoldPostings rows tree = AreKeyed stored_posting (λ (row : PostingRow). row.num
 abbrev pub HoldMoves : List MoveRow → List Row → Type 0
 HoldMoves rows tree = AreKeyed stored_move (λ (row : MoveRow). row.number) rows tree
 
+-- each text of the tables is UTF-8
+abbrev pub IsSpelledOutside : ℕ × List ℕ → Type 0
+IsSpelledOutside row = IsUtf8 row.1
+
+abbrev pub IsSpelledLabel : Label → Type 0
+IsSpelledLabel l = IsUtf8 l.tag × IsUtf8 l.text
+
+abbrev pub IsSpelledPosting : PostingRow → Type 0
+IsSpelledPosting row = IsUtf8 row.key × IsUtf8 row.rec
+
+abbrev pub AreSpelled : Tables → Type 0
+AreSpelled t =
+    IsUtf8 t.base × (AllByRecursion IsSpelledOutside t.outside × (AllByRecursion IsSpelledLabel t.label
+    × AllByRecursion IsSpelledPosting t.posting))
+
 -- the trees hold these tables
 pub record Hold (db : Trees) (t : Tables) : Type 0 where
   pub meta : db 0 ≡ stored_meta t.base ∷ []
@@ -110,6 +126,7 @@ pub record Hold (db : Trees) (t : Tables) : Type 0 where
   pub posting : HoldPostings t.posting (db 10)
   pub numbered : AreNumbered 1 t.posting
   pub move : HoldMoves t.move (db 12)
+  pub spelled : AreSpelled t
 
 -- the database has the schema, and holds these tables
 pub record Keeps (db : Database) (t : Tables) : Type 0 where

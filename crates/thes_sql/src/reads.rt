@@ -1,7 +1,7 @@
 //! What is read from the tables.
 ghost use Rattle.std.specs.Prelude.{◌≡◌};
 ghost use Rattle.thes_sql.specs.Reads.{rows_of, text_of, keyed_as, numbered_as, standing_at, moves_of};
-ghost use Rattle.thes_sql.specs.Reads.{Shows, LeavesAlone};
+ghost use Rattle.thes_sql.specs.Reads.{Shows, ShowsTable, Understands, LeavesAlone};
 
 use sqlite::{Alter, Connection, Error, Row, params};
 use thes_base::fault::Table;
@@ -28,6 +28,8 @@ fn table_text(table: Table) -> &'static str
 /// Reads a table: rows with a number in the order of their numbers, the others as they came.
 pub fn table_rows<S: Alter>(conn: &mut Connection<S>, table: Table) -> Result<Vec<Row>, Error>
     ensures shows { Shows S.Store (rows_of table) conn.old conn.new result (λ rows. rows.items) }
+    ensures whatever { ShowsTable S.Store table conn.old conn.new result (λ rows. rows.items) }
+    ensures understood { Understands S.Store conn.old conn.new result }
     ensures leaves { LeavesAlone S.Store conn.old conn.new }
 {
     conn.query_all(table_text(table), &[])

@@ -1,8 +1,8 @@
 //! What statements are given of rows.
-ghost use Rattle.std.specs.Prelude.{◌≡◌, ◌<◌};
+ghost use Rattle.std.specs.Prelude.{◌≡◌, ◌<◌, IsUtf8};
 ghost use Rattle.thes_rows.specs.Cells.{resource_cells, outside_cells};
 ghost use Rattle.thes_rows.specs.Cells.{label_cells, link_cells, hier_cells, posting_cells, move_cells};
-ghost use Rattle.thes_sql.specs.Stored.{values};
+ghost use Rattle.thes_sql.specs.Stored.{values, IsSpelledLabel, IsSpelledPosting};
 ghost use Rattle.sqlite.specs.Values.{bound};
 
 use sqlite::params;
@@ -38,14 +38,16 @@ pub(crate) fn resource_values(n: ResNo, resource: &Resource) -> [ValueRef<'stati
 
 // The values of a row of outside.
 pub(crate) fn outside_values(n: ResNo, iri: &Iri) -> [ValueRef<'_>; 2]
-    ensures { bound result ≡ values (outside_cells (n, iri.now)) }
+    ensures cells { bound result ≡ values (outside_cells (n, iri.now)) }
+    ensures spelled { IsUtf8 iri.now }
 {
     *params![n.get(), iri.as_str()]
 }
 
 // The values of a row of label.
 pub(crate) fn label_values(row: &LabelRow) -> [ValueRef<'_>; 4]
-    ensures { bound result ≡ values (label_cells row.now) }
+    ensures cells { bound result ≡ values (label_cells row.now) }
+    ensures spelled { IsSpelledLabel row.now }
 {
     *params![
         row.owner.get(),
@@ -71,7 +73,8 @@ pub(crate) fn hier_values(row: &HierRow) -> [ValueRef<'static>; 3]
 
 // The values of a row of posting.
 pub(crate) fn posting_values(row: &PostingRow) -> [ValueRef<'_>; 6]
-    ensures { bound result ≡ values (posting_cells row.now) }
+    ensures cells { bound result ≡ values (posting_cells row.now) }
+    ensures spelled { IsSpelledPosting row.now }
 {
     *params![
         row.number.get(),

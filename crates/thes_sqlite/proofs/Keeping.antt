@@ -1,68 +1,114 @@
 -- A keeper stays one.
-use Rattle.std.proofs.Common.{arith, inl, inr, ◌≡◌, ℕ, ◌+◌, List, [], ◌∷◌, map, Bool, Option, None, Some, Result, refl, sym, ap}
-use Rattle.std.proofs.Common.{subst, ◌∙◌, IsTrue}
-use Rattle.sqlite.specs.Order.{Row}
+use Rattle.std.proofs.Common.{arith, inl, inr, ◌≡◌, ℕ, ◌+◌, List, [], ◌∷◌, map, Bool, Option, None, Some}
+use Rattle.std.proofs.Common.{Result, refl, sym, ap, subst, ◌∙◌, IsTrue}
+use Rattle.std.specs.Prelude.{IsUtf8}
+use Rattle.std.specs.List.{AllByRecursion}
+use Rattle.sqlite.specs.Order.{Row, column}
 use Rattle.sqlite.specs.declared.types.Value.{Value}
 use Rattle.sqlite.specs.Tree.{Trees}
 use Rattle.sqlite.specs.Effect.{Database}
 use Rattle.sqlite.specs.State.{State, HasCleanDisk, Survives}
 use Rattle.sqlite.specs.Held.{Held, state}
 use Rattle.sqlite.specs.declared.error.Error.{Error}
+use Rattle.sqlite_trees.specs.Tree.{IsTable}
 use Rattle.sqlite_trees.specs.declared.store.Store.{Ghosts}
+use Rattle.thes_base.specs.declared.fault.Table.{Table}
+use Rattle.thes_base.specs.declared.fault.Table.TheVariants as table
 use Rattle.thes_base.specs.declared.data.Resource.{Resource}
+use Rattle.thes_base.specs.Labels.{Label, label_kind_no}
 use Rattle.thes_rows.specs.declared.cells.Cell.{Cell}
 use Rattle.thes_rows.specs.declared.change.Change.{Change}
+use Rattle.thes_rows.specs.declared.rows.PostingRow.{PostingRow}
+use Rattle.thes_rows.specs.declared.rows.MoveRow.{MoveRow}
 use Rattle.thes_rows.specs.Tables.{Tables}
 use Rattle.thes_rows.specs.Rows.{FitAll, all_changed}
 use Rattle.thes_rows.specs.Cells.{listed, number_cell, flag_cell, resource_kind_no, optional_cell, resource_rows}
-use Rattle.thes_rows.specs.Cells.{outside_cells, label_cells, link_cells, hier_cells, posting_cells, move_cells}
+use Rattle.thes_rows.specs.Cells.{meta_cells, outside_cells, label_cells, link_cells, hier_cells, posting_cells}
+use Rattle.thes_rows.specs.Cells.{move_cells}
 use Rattle.thes_rows.proofs.Listing.{listed_one}
 use Rattle.thes_sql.specs.Stored.{Keeps, Hold, AreHidden, hidden_row, value_of, numbered_from, stored_resource}
 use Rattle.thes_sql.specs.Stored.{stored_outside, stored_posting, stored_move, label_values, link_values, hier_values}
+use Rattle.thes_sql.specs.Stored.{stored_meta, IsSpelledOutside, IsSpelledLabel, IsSpelledPosting}
 use Rattle.thes_sql.specs.Does.{IsOwnTransaction}
-use Rattle.thes_sql.specs.Reads.{LeavesAlone}
-use Rattle.thes_sqlite.specs.Kept.{raw_in, cell_of, keyed_cells, hidden_cells, IsUp, IsKept, LeadsTo, LeavesEither}
-use Rattle.thes_sqlite.specs.Kept.{LeavesAfter}
+use Rattle.thes_sql.specs.Reads.{tree_of, places_of, IsReadable, LeavesTables}
+use Rattle.thes_sql.proofs.Keyed.{is_table}
+use Rattle.thes_sqlite.specs.Kept.{raw_in, IsUp, IsServed, IsStore, IsKept, LeadsTo, LeavesEither, LeavesAfter}
+use Rattle.thes_sqlite.specs.ValueCells.{cell_of}
+use Rattle.thes_sqlite.proofs.ValueLemmas.{text_cell}
 
 -- The rows of the trees are those of the tables that they hold.
+
+abbrev picked : List ℕ → List Row → List (List Cell)
+picked places rows = map (map cell_of) (map (λ (row : Row). map (column row) places) rows)
 
 optional_back : (o : Option ℕ) → cell_of (value_of (optional_cell o)) ≡ optional_cell o
 optional_back None = refl
 optional_back (Some n) = refl
 
-resources_back : (n : ℕ) (rs : List Resource) → map keyed_cells (map stored_resource (numbered_from n rs)) ≡
-    resource_rows n rs
+resources_back : (n : ℕ) (rs : List Resource) → picked (places_of table.Resource) (map stored_resource (numbered_from n rs))
+    ≡ resource_rows n rs
 resources_back n [] = refl
 resources_back n (r ∷ rs) = λ i. (number_cell n ∷ number_cell (resource_kind_no r.kind) ∷ optional_back r.scheme i
     ∷ flag_cell r.live ∷ optional_back r.replaced i ∷ []) ∷ resources_back (n + 1) rs i
 
-map_back : {A : Type 0} (stored : A → Row) (cells : A → List Cell) → ((x : A) → keyed_cells (stored x) ≡ cells x)
-    → (xs : List A) → map keyed_cells (map stored xs) ≡ map cells xs
-map_back stored cells is [] = refl
-map_back stored cells is (x ∷ xs) = λ i. is x i ∷ map_back stored cells is xs i
+every : {A : Type 0} (xs : List A) → AllByRecursion (λ x. Unit {0}) xs
+every [] = tt
+every (x ∷ xs) = (tt, every xs)
 
-hidden_back : {A : Type 0} (of : A → List Value) (cells : A → List Cell) → ((x : A) → map cell_of (of x) ≡ cells x)
-    → (xs : List (ℕ × A)) → map hidden_cells (map (hidden_row of) xs) ≡ map cells (map (λ (row : ℕ × A). row.1) xs)
-hidden_back of cells is [] = refl
-hidden_back of cells is (x ∷ xs) = λ i. is x.1 i ∷ hidden_back of cells is xs i
+map_back : {A : Type 0} (places : List ℕ) (stored : A → Row) (cells : A → List Cell) (P : A → Type 0)
+    → ((x : A) → P x → map cell_of (map (column (stored x)) places) ≡ cells x)
+    → (xs : List A) → AllByRecursion P xs → picked places (map stored xs) ≡ map cells xs
+map_back places stored cells P is [] all = refl
+map_back places stored cells P is (x ∷ xs) all = λ i. is x all.0 i ∷ map_back places stored cells P is xs all.1 i
 
-hidden_told : {A : Type 0} (of : A → List Value) (cells : A → List Cell) → ((x : A) → map cell_of (of x) ≡ cells x)
-    → (xs : List A) (tree : List Row) → AreHidden of xs tree → map hidden_cells tree ≡ map cells xs
-hidden_told of cells is xs tree h = ap (map hidden_cells) h.held.rows ∙ hidden_back of cells is h.given
-    ∙ ap (map cells) h.same
+hidden_back : {A : Type 0} (places : List ℕ) (of : A → List Value) (cells : A → List Cell) (P : A → Type 0)
+    → ((x : ℕ × A) → P x.1 → map cell_of (map (column (hidden_row of x)) places) ≡ cells x.1)
+    → (xs : List (ℕ × A)) → AllByRecursion P (map (λ (row : ℕ × A). row.1) xs)
+    → picked places (map (hidden_row of) xs) ≡ map cells (map (λ (row : ℕ × A). row.1) xs)
+hidden_back places of cells P is [] all = refl
+hidden_back places of cells P is (x ∷ xs) all = λ i. is x all.0 i ∷ hidden_back places of cells P is xs all.1 i
+
+hidden_told : {A : Type 0} (places : List ℕ) (of : A → List Value) (cells : A → List Cell) (P : A → Type 0)
+    → ((x : ℕ × A) → P x.1 → map cell_of (map (column (hidden_row of x)) places) ≡ cells x.1)
+    → (xs : List A) (tree : List Row) → AreHidden of xs tree → AllByRecursion P xs → picked places tree ≡ map cells xs
+hidden_told places of cells P is xs tree h all = ap (picked places) h.held.rows
+    ∙ hidden_back places of cells P is h.given (subst (AllByRecursion P) (sym h.same) all) ∙ ap (map cells) h.same
+
+-- the cells of texts that are UTF-8
+meta_back : (base : List ℕ) → IsUtf8 base → picked (places_of table.Meta) (stored_meta base ∷ []) ≡ meta_cells base ∷ []
+meta_back base is = λ i. (number_cell 1 ∷ number_cell 2 ∷ text_cell base is i ∷ []) ∷ []
+
+outside_back : (x : ℕ × List ℕ) → IsSpelledOutside x
+    → map cell_of (map (column (stored_outside x)) (places_of table.Outside)) ≡ outside_cells x
+outside_back x is = λ i. number_cell x.0 ∷ text_cell x.1 is i ∷ []
+
+label_back : (x : ℕ × Label) → IsSpelledLabel x.1
+    → map cell_of (map (column (hidden_row label_values x)) (places_of table.Label)) ≡ label_cells x.1
+label_back x is = λ i. number_cell x.1.owner ∷ number_cell (label_kind_no x.1.kind) ∷ text_cell x.1.tag is.0 i
+    ∷ text_cell x.1.text is.1 i ∷ []
+
+posting_back : (x : PostingRow) → IsSpelledPosting x
+    → map cell_of (map (column (stored_posting x)) (places_of table.Posting)) ≡ posting_cells x
+posting_back x is = λ i. number_cell x.number ∷ text_cell x.key is.0 i ∷ text_cell x.rec is.1 i ∷ number_cell x.first
+    ∷ number_cell x.place ∷ flag_cell x.withdrawn ∷ []
 
 pub raw_of : (db : Trees) (t : Tables) → Hold db t → raw_in db ≡ listed t
 raw_of db t h =
-    let meta = ap (map keyed_cells) h.meta in
-    let resource = ap (map keyed_cells) h.resource.rows ∙ resources_back 1 t.resource in
-    let outside = ap (map keyed_cells) h.outside.rows
-    ∙ map_back stored_outside outside_cells (λ x. refl) t.outside in
-    let label = hidden_told label_values label_cells (λ x. refl) t.label (db 4) h.label in
-    let link = hidden_told link_values link_cells (λ x. refl) t.link (db 6) h.link in
-    let hier = hidden_told hier_values hier_cells (λ x. refl) t.hier (db 8) h.hier in
-    let posting = ap (map keyed_cells) h.posting.rows
-    ∙ map_back stored_posting posting_cells (λ x. refl) t.posting in
-    let move = ap (map keyed_cells) h.move.rows ∙ map_back stored_move move_cells (λ x. refl) t.move in
+    let spelled = h.spelled in
+    let meta = ap (picked (places_of table.Meta)) h.meta ∙ meta_back t.base spelled.0 in
+    let resource = ap (picked (places_of table.Resource)) h.resource.rows ∙ resources_back 1 t.resource in
+    let outside = ap (picked (places_of table.Outside)) h.outside.rows
+    ∙ map_back (places_of table.Outside) stored_outside outside_cells IsSpelledOutside outside_back t.outside spelled.1.0 in
+    let label = hidden_told (places_of table.Label) label_values label_cells IsSpelledLabel label_back t.label (db 4)
+    h.label spelled.1.1.0 in
+    let link = hidden_told (places_of table.Link) link_values link_cells (λ x. Unit {0}) (λ x _. refl) t.link (db 6)
+    h.link (every t.link) in
+    let hier = hidden_told (places_of table.Hier) hier_values hier_cells (λ x. Unit {0}) (λ x _. refl) t.hier (db 8)
+    h.hier (every t.hier) in
+    let posting = ap (picked (places_of table.Posting)) h.posting.rows
+    ∙ map_back (places_of table.Posting) stored_posting posting_cells IsSpelledPosting posting_back t.posting spelled.1.1.1 in
+    let move = ap (picked (places_of table.Move)) h.move.rows
+    ∙ map_back (places_of table.Move) stored_move move_cells (λ x. Unit {0}) (λ x _. refl) t.move (every t.move) in
     λ i. record {
       meta = Some (meta i);
       resource = Some (resource i);
@@ -74,6 +120,68 @@ raw_of db t h =
       move = Some (move i);
     }
 
+-- Tables that are kept can be read.
+pub readable_of : (db : Database) (t : Tables) → Keeps db t → IsReadable db
+readable_of db t k = record { schema = k.schema; ordered = ordered }
+  where
+    ordered : (p : Table) → IsTable (db.trees (tree_of p))
+    ordered table.Meta = subst IsTable (sym k.hold.meta) (tt, tt)
+    ordered table.Resource = subst IsTable (sym k.hold.resource.rows) (is_table (λ (row : ℕ × Resource). row.0)
+        stored_resource (λ x. refl) 0 (numbered_from 1 t.resource) k.hold.resource.rises)
+    ordered table.Outside = subst IsTable (sym k.hold.outside.rows) (is_table (λ (row : ℕ × List ℕ). row.0)
+        stored_outside (λ x. refl) 0 t.outside k.hold.outside.rises)
+    ordered table.Label = subst IsTable (sym k.hold.label.held.rows) (is_table (λ row. row.0)
+        (hidden_row label_values) (λ x. refl) 0 k.hold.label.given k.hold.label.held.rises)
+    ordered table.Link = subst IsTable (sym k.hold.link.held.rows) (is_table (λ row. row.0)
+        (hidden_row link_values) (λ x. refl) 0 k.hold.link.given k.hold.link.held.rises)
+    ordered table.Hier = subst IsTable (sym k.hold.hier.held.rows) (is_table (λ row. row.0)
+        (hidden_row hier_values) (λ x. refl) 0 k.hold.hier.given k.hold.hier.held.rises)
+    ordered table.Posting = subst IsTable (sym k.hold.posting.rows) (is_table (λ (row : PostingRow). row.number)
+        stored_posting (λ x. refl) 0 t.posting k.hold.posting.rises)
+    ordered table.Move = subst IsTable (sym k.hold.move.rows) (is_table (λ (row : MoveRow). row.number)
+        stored_move (λ x. refl) 0 t.move k.hold.move.rises)
+
+-- A read.
+
+pub before_read : {S : Type 0} (g : Ghosts S) (old new : Held S) → LeavesTables g old new → IsUp (state g new)
+    → IsUp (state g old)
+before_read g old new leaves up = (omega (arith, leaves.clean, up.0), leaves.was up.0 up.1)
+
+-- A database that is read is served as before.
+pub kept_left : {S : Type 0} (g : Ghosts S) (first : State) (old new : Held S) → IsKept first (state g old)
+    → LeavesTables g old new → IsKept first (state g new)
+kept_left g first old new kept leaves = record { autocommit = leaves.mode kept.autocommit; served = served }
+  where
+    served : IsStore first → IsUp (state g new) → IsServed (state g new)
+    served known up =
+        let s = kept.served known (before_read g old new leaves up) in
+        let same = leaves.same s.keeps.1.schema up.0 up.1 s.settled in
+        record {
+          settled = same.0 ∙ s.settled ∙ sym same.1;
+          keeps = (s.keeps.0, subst (λ (db : Database). Keeps db s.keeps.0) (sym same.0) s.keeps.1);
+        }
+
+-- its rows stay
+pub same_left : {S : Type 0} (g : Ghosts S) (first : State) (old new : Held S) → IsKept first (state g old)
+    → LeavesTables g old new → IsStore first → IsUp (state g new)
+    → raw_in (state g new).now.trees ≡ raw_in (state g old).now.trees
+same_left g first old new kept leaves known up =
+    let s = kept.served known (before_read g old new leaves up) in
+    let same = leaves.same s.keeps.1.schema up.0 up.1 s.settled in
+    ap (λ (db : Database). raw_in db.trees) same.0
+
+-- what is told of the tables that the database keeps is told of those whose rows it shows
+pub told : {S : Type 0} (g : Ghosts S) (first : State) (start old new : Held S) → start ≡ old
+    → IsKept first (state g start) → LeavesTables g start new → {P : Tables → Type 0}
+    → ((t : Tables) → Keeps (state g start).now t → (state g start).now ≡ (state g start).committed → P t)
+    → IsStore first → IsUp (state g new) → (t : Tables) → raw_in (state g old).now.trees ≡ listed t → P t
+told g first start old new same kept leaves {P} holds known up t is =
+    let s = kept.served known (before_read g start new leaves up) in
+    let k = s.keeps in
+    let shown : raw_in (state g start).now.trees ≡ listed t =
+    ap (λ h. raw_in (state g h).now.trees) same ∙ is in
+    subst P (listed_one k.0 t (sym (raw_of (state g start).now.trees k.0 k.1.hold) ∙ shown)) (holds k.0 k.1 s.settled)
+
 -- A commit.
 
 pub up_before : (old new : State) {C : Trees → Type 0} → Survives old new C
@@ -81,8 +189,9 @@ pub up_before : (old new : State) {C : Trees → Type 0} → Survives old new C
 up_before old new s was up = (omega (arith, s.clean, up.0), was up.0 up.1)
 
 -- the changes fit whatever tables the keeper has
-abbrev pub Fitting : List Change → State → Type 0
-Fitting changes old = IsUp old → (t : Tables) → raw_in old.now.trees ≡ listed t → FitAll changes t
+abbrev pub Fitting : State → List Change → State → Type 0
+Fitting first changes old = IsStore first → IsUp old → (t : Tables) → raw_in old.now.trees ≡ listed t
+    → FitAll changes t
 
 -- what holds the tables holds no others
 leads : (old : State) (t : Tables) (changes : List Change) (db : Trees) → Keeps old.now t
@@ -91,89 +200,107 @@ leads old t changes db kept made u e = raw_of db (all_changed changes t) made
     ∙ ap (λ (k : Tables). listed (all_changed changes k))
     (listed_one t u (sym (raw_of old.now.trees t kept.hold) ∙ e))
 
-pub kept_ok : (old new : State) (changes : List Change) → IsKept old → (IsUp new → IsUp old)
-    → new.in_transaction ≡ old.in_transaction → Fitting changes old
+pub kept_ok : (first : State) (old new : State) (changes : List Change) → IsKept first old
+    → (IsUp new → IsUp old) → new.in_transaction ≡ old.in_transaction → Fitting first changes old
     → (IsUp new → (t : Tables) → Keeps old.now t → FitAll changes t → Keeps new.now (all_changed changes t))
     → (IsUp new → new.now ≡ new.committed)
-    → IsKept new × (IsUp new → LeadsTo changes (raw_in old.now.trees) (raw_in new.now.trees))
-kept_ok old new changes kept before mode fits did settled = (
+    → IsKept first new × (IsStore first → IsUp new → LeadsTo changes (raw_in old.now.trees) (raw_in new.now.trees))
+kept_ok first old new changes kept before mode fits did settled = (
   record {
     autocommit = mode ∙ kept.autocommit;
-    keeps = λ up. let k = kept.keeps (before up) in (all_changed changes k.0, made up k.0 k.1);
-    settled = settled;
+    served = λ known up.
+        let k = (kept.served known (before up)).keeps in
+        record { settled = settled up; keeps = (all_changed changes k.0, made known up k.0 k.1) };
   },
-  λ up. let k = kept.keeps (before up) in leads old k.0 changes new.now.trees k.1 (made up k.0 k.1).hold,
+  λ known up.
+      let k = (kept.served known (before up)).keeps in
+      leads old k.0 changes new.now.trees k.1 (made known up k.0 k.1).hold,
 )
   where
-    made : IsUp new → (t : Tables) → Keeps old.now t → Keeps new.now (all_changed changes t)
-    made up t keeps = did up t keeps (fits (before up) t (raw_of old.now.trees t keeps.hold))
+    made : IsStore first → IsUp new → (t : Tables) → Keeps old.now t → Keeps new.now (all_changed changes t)
+    made known up t keeps = did up t keeps (fits known (before up) t (raw_of old.now.trees t keeps.hold))
+
+-- what failed has changed nothing
+pub kept_none : (first : State) (old new : State) → IsKept first old → (IsUp new → IsUp old)
+    → new.in_transaction ≡ old.in_transaction
+    → (IsUp new → (new.now ≡ old.now) × (new.committed ≡ old.committed)) → IsKept first new
+kept_none first old new kept before mode none = record {
+  autocommit = mode ∙ kept.autocommit;
+  served = λ known up.
+      let s = kept.served known (before up) in
+      let same = none up in
+      record {
+        settled = same.0 ∙ s.settled ∙ sym same.1;
+        keeps = (s.keeps.0, subst (λ (db : Database). Keeps db s.keeps.0) (sym same.0) s.keeps.1);
+      };
+}
 
 -- An open store is left as it shows.
 
 abbrev pub IsSettled : State → Type 0
 IsSettled s = (db : Trees) → IsTrue s.is_open → s.may_leave db → db ≡ s.committed.trees
 
-left_rows : (s : State) → IsKept s → IsUp s → IsSettled s → (db : Trees) → s.may_leave db
-    → raw_in db ≡ raw_in s.now.trees
-left_rows s kept up law db may = ap raw_in (law db up.1 may)
-    ∙ sym (ap (λ (d : Database). raw_in d.trees) (kept.settled up))
+left_trees : (s : State) → s.now ≡ s.committed → IsUp s → IsSettled s → (db : Trees) → s.may_leave db → db ≡ s.now.trees
+left_trees s settled up law db may = law db up.1 may ∙ sym (ap (λ (d : Database). d.trees) settled)
 
-pub leaves_either : (old new : State) (changes : List Change) → IsKept old → IsSettled old → Fitting changes old
+-- an open store of these rows holds them
+holds_shown : (s : State) → IsServed s → (t : Tables) → raw_in s.now.trees ≡ listed t → Keeps s.now t
+holds_shown s served t is =
+    let k = served.keeps in
+    subst (Keeps s.now) (listed_one k.0 t (sym (raw_of s.now.trees k.0 k.1.hold) ∙ is)) k.1
+
+pub leaves_either : (first : State) (old new : State) (changes : List Change) → IsKept first old
+    → IsSettled old → Fitting first changes old
     → Survives old new
     (λ trees. (t : Tables) → Keeps old.now t → FitAll changes t → Hold trees (all_changed changes t))
-    → LeavesEither changes old new
-leaves_either old new changes kept law fits s clean opened db may =
+    → IsStore first → LeavesEither changes old new
+leaves_either first old new changes kept law fits s known clean opened t is db may =
     let up : IsUp old = (omega (arith, s.clean, clean), opened) in
-    let k = kept.keeps up in
+    let served = kept.served known up in
+    let keeps = holds_shown old served t is in
     elim (s.crash clean db may) [
-      | inl was ↦ inl (left_rows old kept up law db was)
-      | inr made ↦ inr (leads old k.0 changes db k.1
-          (made k.0 k.1 (fits up k.0 (raw_of old.now.trees k.0 k.1.hold))))
+      | inl was ↦ inl (subst (λ trees. Hold trees t) (sym (left_trees old served.settled up law db was)) keeps.hold)
+      | inr made ↦ inr (made t keeps (fits known up t is))
     ]
 
-pub leaves_after : (old new : State) (changes : List Change) → IsKept new → IsSettled new
-    → (IsUp new → LeadsTo changes (raw_in old.now.trees) (raw_in new.now.trees)) → LeavesAfter changes old new
-leaves_after old new changes kept law done up db may t e = left_rows new kept up law db may ∙ done up t e
+pub leaves_after : (first : State) (old new : State) (changes : List Change) → IsKept first new → IsSettled new
+    → (IsStore first → IsUp new → LeadsTo changes (raw_in old.now.trees) (raw_in new.now.trees))
+    → IsStore first → LeavesAfter changes old new
+leaves_after first old new changes kept law done known up t is db may =
+    let served = kept.served known up in
+    subst (λ trees. Hold trees (all_changed changes t)) (sym (left_trees new served.settled up law db may))
+    (holds_shown new served (all_changed changes t) (done known up t is)).hold
 
 -- What a commit of a keeper does, where it is done. The keeper's own connection is the one that the caller sees.
-pub record IsDone {S : Type 0} (g : Ghosts S) (changes : List Change) (old new : Held S) : Type 0 where
-  pub kept : IsKept (state g new)
-  pub ok : IsUp (state g new) → LeadsTo changes (raw_in (state g old).now.trees) (raw_in (state g new).now.trees)
-  pub durable : LeavesAfter changes (state g old) (state g new)
+pub record IsDone {S : Type 0} (g : Ghosts S) (first : State) (changes : List Change) (old new : Held S) : Type 0 where
+  pub kept : IsKept first (state g new)
+  pub ok : IsStore first → IsUp (state g new)
+      → LeadsTo changes (raw_in (state g old).now.trees) (raw_in (state g new).now.trees)
+  pub durable : IsStore first → LeavesAfter changes (state g old) (state g new)
 
-module _ {S : Type 0} (g : Ghosts S) (start old new : Held S) (same : start ≡ old) (changes : List Change)
-    (kept : IsKept (state g start)) (fits : Fitting changes (state g old))
+module _ {S : Type 0} (g : Ghosts S) (first : State) (start old new : Held S) (same : start ≡ old)
+    (changes : List Change) (kept : IsKept first (state g start))
+    (fits : Fitting first changes (state g old))
     (crash : Survives (state g start) (state g new)
     (λ trees. (t : Tables) → Keeps (state g start).now t → FitAll changes t → Hold trees (all_changed changes t)))
     (law : (h : Held S) → IsSettled (state g h)) where
-  fitting : Fitting changes (state g start)
-  fitting = subst (λ h. Fitting changes (state g h)) (sym same) fits
+  fitting : Fitting first changes (state g start)
+  fitting = subst (λ h. Fitting first changes (state g h)) (sym same) fits
 
   pub is_done : {r : Result Bool Error} → IsOwnTransaction g start new r
       → (HasCleanDisk (state g new) → (t : Tables) → Keeps (state g start).now t → FitAll changes t
       → Keeps (state g new).now (all_changed changes t))
-      → IsDone g changes old new
+      → IsDone g first changes old new
   is_done own did =
-      let both = kept_ok (state g start) (state g new) changes kept (up_before (state g start) (state g new) crash own.was)
+      let both = kept_ok first (state g start) (state g new) changes kept
+      (up_before (state g start) (state g new) crash own.was)
       own.mode fitting (λ up. did up.0) (λ up. own.settled up.0 up.1 kept.autocommit) in
-      subst (λ h. IsDone g changes h new) same (record {
+      subst (λ h. IsDone g first changes h new) same (record {
         kept = both.0;
         ok = both.1;
-        durable = leaves_after (state g start) (state g new) changes both.0 (law new) both.1;
+        durable = leaves_after first (state g start) (state g new) changes both.0 (law new) both.1;
       })
 
-  pub is_either : LeavesEither changes (state g old) (state g new)
-  is_either = subst (λ h. LeavesEither changes (state g h) (state g new)) same
-      (leaves_either (state g start) (state g new) changes kept (law start) fitting crash)
-
--- what is told of the tables that the database keeps is told of those whose rows it shows
-pub told : {S : Type 0} (g : Ghosts S) (start old new : Held S) → start ≡ old → IsKept (state g start)
-    → LeavesAlone g start new → {P : Tables → Type 0}
-    → (HasCleanDisk (state g new) → (t : Tables) → Keeps (state g start).now t → P t)
-    → IsUp (state g new) → (t : Tables) → raw_in (state g old).now.trees ≡ listed t → P t
-told g start old new same kept leaves {P} holds up t is =
-    let before : IsUp (state g start) = (omega (arith, leaves.clean, up.0), leaves.was up.0 up.1) in
-    let k = kept.keeps before in
-    let shown : raw_in (state g start).now.trees ≡ listed t =
-    ap (λ h. raw_in (state g h).now.trees) same ∙ is in
-    subst P (listed_one k.0 t (sym (raw_of (state g start).now.trees k.0 k.1.hold) ∙ shown)) (holds up.0 k.0 k.1)
+  pub is_either : IsStore first → LeavesEither changes (state g old) (state g new)
+  is_either = subst (λ h. IsStore first → LeavesEither changes (state g h) (state g new)) same
+      (leaves_either first (state g start) (state g new) changes kept (law start) fitting crash)

@@ -1,67 +1,71 @@
 -- What a keeper over a database keeps, and what a crash leaves of it.
-use Rattle.std.specs.Prelude.{◌≡◌, ◌⊎◌, ℕ, false, List, [], ◌∷◌, drop, map, Some, IsTrue, refl}
+use Rattle.std.specs.Prelude.{◌≡◌, ◌⊎◌, ℕ, false, List, map, Some, IsTrue, refl}
 use Rattle.std.specs.Coded.{Coded, code_by, coded×, coded_ℕ}
-use Rattle.sqlite.specs.Held.{Held, held_code}
-use Rattle.sqlite.specs.declared.types.Value.{Value}
-use Rattle.sqlite.specs.declared.types.Value.TheVariants.{Null, Int, Real, Text, Blob}
-use Rattle.sqlite.specs.Order.{Row}
+use Rattle.sqlite.specs.Held.{Held, held_code, state}
+use Rattle.sqlite_trees.specs.declared.store.Store.{Ghosts}
+use Rattle.thes_base.specs.declared.fault.Table.{Table}
+use Rattle.thes_base.specs.declared.fault.Table.TheVariants as table
 use Rattle.sqlite.specs.Tree.{Trees}
 use Rattle.sqlite.specs.State.{State, HasCleanDisk}
-use Rattle.thes_rows.specs.declared.cells.Cell.{Cell}
-use Rattle.thes_rows.specs.declared.cells.Cell.TheVariants as cells
 use Rattle.thes_rows.specs.declared.change.Change.{Change}
 use Rattle.thes_rows.specs.Tables.{Tables}
 use Rattle.thes_rows.specs.Rows.{all_changed}
-use Rattle.thes_rows.specs.Cells.{Raw, listed}
-use Rattle.thes_sql.specs.Stored.{Keeps}
+use Rattle.thes_rows.specs.Cells.{Raw, RawTable, listed}
+use Rattle.thes_sql.specs.Stored.{Keeps, Hold}
+use Rattle.thes_sql.specs.Reads.{shown_rows}
+use Rattle.thes_sqlite.specs.ValueCells.{cell_of}
 
--- what a value is as a cell; the tables hold no number with a point
-abbrev pub cell_of : Value → Cell
-cell_of Null = cells.Null
-cell_of (Int n) = cells.Int n
-cell_of (Text t) = cells.Text t
-cell_of (Blob b) = cells.Bytes b
-cell_of (Real x) = cells.Null
+-- the cells of the rows of a table in a database's trees
+abbrev pub raw_table : Table → Trees → RawTable
+raw_table p db = Some (map (map cell_of) (shown_rows p db))
 
--- a row whose number is its first cell, and one that the database has numbered
-abbrev pub keyed_cells : Row → List Cell
-keyed_cells [] = []
-keyed_cells (id ∷ rest) = cell_of id ∷ map cell_of (drop 1 rest)
-
-abbrev pub hidden_cells : Row → List Cell
-hidden_cells row = map cell_of (drop 1 row)
-
--- the rows of the tables in a database's trees
 abbrev pub raw_in : Trees → Raw
 raw_in db = record {
-  meta = Some (map keyed_cells (db 0));
-  resource = Some (map keyed_cells (db 1));
-  outside = Some (map keyed_cells (db 2));
-  label = Some (map hidden_cells (db 4));
-  link = Some (map hidden_cells (db 6));
-  hier = Some (map hidden_cells (db 8));
-  posting = Some (map keyed_cells (db 10));
-  move = Some (map keyed_cells (db 12));
+  meta = raw_table table.Meta db;
+  resource = raw_table table.Resource db;
+  outside = raw_table table.Outside db;
+  label = raw_table table.Label db;
+  link = raw_table table.Link db;
+  hier = raw_table table.Hier db;
+  posting = raw_table table.Posting db;
+  move = raw_table table.Move db;
 }
 
 -- The disk has told no lie, and the store goes on.
 abbrev pub IsUp : State → Type 0
 IsUp s = HasCleanDisk s × IsTrue s.is_open
 
--- Between calls no transaction is under way, and the database keeps the tables of a store.
-pub record IsKept (s : State) : Type 0 where
-  pub autocommit : s.in_transaction ≡ false
-  pub keeps : IsUp s → (t : Tables) × Keeps s.now t
-  pub settled : IsUp s → s.now ≡ s.committed
+-- What was written is committed, and the rows are those of some tables.
+pub record IsServed (s : State) : Type 0 where
+  pub settled : s.now ≡ s.committed
+  pub keeps : (t : Tables) × Keeps s.now t
 
--- a keeper, as contracts see it
+-- If the disk has told no lie and the store goes on, the database is that of a store.
+abbrev pub IsStore : State → Type 0
+IsStore s = IsUp s → IsServed s
+
+-- Between calls no transaction is under way, and what was a store's database as the keeper got it still is one.
+pub record IsKept (first now : State) : Type 0 where
+  pub autocommit : now.in_transaction ≡ false
+  pub served : IsStore first → IsStore now
+
+-- a keeper, as contracts see it: its connection, how often it failed, and the connection as the keeper got it
 pub record Kept (S : Type 0) : Type 0 where
   pub conn : Held S
   pub failures : ℕ
+  pub first : Held S
 
 abbrev pub kept_code : {S : Type 0} → Coded S → Coded (Kept S)
-kept_code {S} store = code_by (Held S × ℕ) (coded× (held_code store) coded_ℕ) (λ k. (k.conn, k.failures))
-    (λ p. record { conn = p.0; failures = p.1 }) (λ _. refl)
+kept_code {S} store = code_by (Held S × (ℕ × Held S)) (coded× (held_code store) (coded× coded_ℕ (held_code store)))
+    (λ k. (k.conn, (k.failures, k.first))) (λ p. record { conn = p.0; failures = p.1.0; first = p.1.1 }) (λ _. refl)
+
+-- what a keeper's tables hold
+abbrev pub raw_of_keeper : {S : Type 0} → Ghosts S → Kept S → Raw
+raw_of_keeper g k = raw_in (state g k.conn).now.trees
+
+-- The database was that of a store as the keeper got it, the disk has told no lie, and the store goes on.
+abbrev pub IsServing : {S : Type 0} → Ghosts S → Kept S → Type 0
+IsServing g k = IsStore (state g k.first) × IsUp (state g k.conn)
 
 -- Where the one rows are those of some tables, the other are those of the tables with the changes.
 abbrev pub LeadsTo : List Change → Raw → Raw → Type 0
@@ -69,10 +73,10 @@ LeadsTo changes old new = (t : Tables) → old ≡ listed t → new ≡ listed (
 
 -- A crash leaves the tables from before the changes, or those with all of them.
 abbrev pub LeavesEither : List Change → State → State → Type 0
-LeavesEither changes old new = HasCleanDisk new → IsTrue old.is_open → (db : Trees) → new.may_leave db
-    → (raw_in db ≡ raw_in old.now.trees) ⊎ LeadsTo changes (raw_in old.now.trees) (raw_in db)
+LeavesEither changes old new = HasCleanDisk new → IsTrue old.is_open → (t : Tables) → raw_in old.now.trees ≡ listed t
+    → (db : Trees) → new.may_leave db → Hold db t ⊎ Hold db (all_changed changes t)
 
 -- A crash leaves the tables with all of the changes.
 abbrev pub LeavesAfter : List Change → State → State → Type 0
-LeavesAfter changes old new = IsUp new → (db : Trees) → new.may_leave db
-    → LeadsTo changes (raw_in old.now.trees) (raw_in db)
+LeavesAfter changes old new = IsUp new → (t : Tables) → raw_in old.now.trees ≡ listed t
+    → (db : Trees) → new.may_leave db → Hold db (all_changed changes t)

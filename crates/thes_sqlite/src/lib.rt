@@ -1,6 +1,9 @@
 //! A keeper of the tables in a database.
 #![tactic(auto)]
 
+mod faults;
 mod finding;
+mod found;
+mod handing;
 pub mod keeper;
 mod rows;

@@ -1,15 +1,18 @@
 //! Rows of the database as rows of the tables.
-ghost use Rattle.std.specs.Prelude.{◌≡◌, IfOk, IfSome};
-ghost use Rattle.thes_rows.specs.Cells.{posting_cells};
+ghost use Rattle.std.specs.Prelude.{◌≡◌, List, map, IfOk, IfSome};
+ghost use Rattle.thes_rows.specs.declared.rows.MoveRow.{MoveRow};
+ghost use Rattle.thes_rows.specs.Cells.{posting_cells, move_cells};
+ghost use Rattle.thes_rows.specs.Tables.{step_of};
 ghost use Rattle.thes_sql.specs.Stored.{value_of, values};
 ghost use Rattle.sqlite_value.specs.Value.{owned};
 
 use sqlite::types::ValueRef;
 use sqlite::{Error, ErrorCode, Row};
 use std::alloc::{AllocError, Global};
-use thes_load::rows::posting_in;
+use thes_base::data::{Move, Moves};
+use thes_load::rows::{move_in, posting_in};
 use thes_rows::cells::{Cell, CellText};
-use thes_rows::rows::PostingRow;
+use thes_rows::rows::{MoveRow, PostingRow};
 
 // The cell of a value. None for what no table holds: a number with a point, bytes, and a text that isn't UTF-8.
 fn cell_of(alloc: Global, value: ValueRef<'_>) -> Result<Option<Cell>, AllocError>
@@ -26,7 +29,7 @@ fn cell_of(alloc: Global, value: ValueRef<'_>) -> Result<Option<Cell>, AllocErro
     }
 }
 
-// The cells of a row, if each of its values is a cell.
+// Reads the cells of a row, if each of its values is a cell.
 fn cells_of(alloc: Global, row: &Row) -> Result<Option<Vec<Cell>>, AllocError>
     ensures { IfOk result (λ cells. IfSome cells (λ c. values c.items ≡ row.now)) }
 {
@@ -53,4 +56,33 @@ pub(crate) fn read_posting(alloc: Global, row: &Row) -> Result<PostingRow, Error
         }
     }
     Err(Error::SqliteFailure(ErrorCode::DatabaseCorrupt))
+}
+
+// Reads a row of move. A row of another form is an error.
+fn read_move(alloc: Global, row: &Row) -> Result<MoveRow, Error>
+    ensures { IfOk result (λ x. row.now ≡ values (move_cells x)) }
+{
+    if let Some(cells) = cells_of(alloc, row)? {
+        if let Some(found) = move_in(cells.as_slice()) {
+            return Ok(found);
+        }
+    }
+    Err(Error::SqliteFailure(ErrorCode::DatabaseCorrupt))
+}
+
+/// Reads rows of move, as steps of a posting.
+pub(crate) fn read_moves(alloc: Global, rows: &[Row]) -> Result<Moves, Error>
+    ensures { IfOk result (λ moves. (steps : List MoveRow)
+        → rows.now ≡ map values (map move_cells steps) → moves ≡ map step_of steps) }
+{
+    let mut moves = Moves::new(alloc);
+    for row in rows {
+        let step = read_move(alloc, row)?;
+        moves.push(Move {
+            number: step.number,
+            source: step.source,
+            target: step.target,
+        })?;
+    }
+    Ok(moves)
 }

@@ -1,6 +1,8 @@
 -- What a sink takes, part after part.
 use Rattle.std.proofs.Common.{◌≡◌, ◌<◌, ◌+◌, ◌++◌, ◌∙◌, inl, inr, ℕ, zero, suc, List, [], ◌∷◌, length, map, take, get_or, refl, sym, ap, subst, arith, append_assoc, append-nil}
 use Rattle.std.proofs.lemmas.List.{map-append}
+use Rattle.std.proofs.lemmas.List.Elements.{filter_map-append}
+use Rattle.std.specs.List.{filter_map}
 use Rattle.std.specs.Prelude.{Option, Some, Result, Ok, Err}
 use Rattle.std.specs.Result.{IsErr}
 use Rattle.thes_base.specs.declared.fault.Fault.{Fault}
@@ -55,6 +57,18 @@ module _ {S A : Type 0} (gives : S → A → Result (Unit {0}) Fault → S → T
 pub map_twice : {A B C : Type 0} (f : B → C) (g : A → B) (xs : List A) → map f (map g xs) ≡ map (λ x. f (g x)) xs
 map_twice f g [] = refl
 map_twice f g (x ∷ xs) = ap (λ l. f (g x) ∷ l) (map_twice f g xs)
+
+-- Rows with gaps.
+
+abbrev pub handed_slots : {R : Type 0} → Table → (R → List Cell) → List (Option R) → List (Table × Option (List Cell))
+handed_slots name cells slots = handed_of name (Some (map cells (filter_map (λ slot. slot) slots)))
+
+pub slots_append : {R : Type 0} (name : Table) (cells : R → List Cell) (xs ys : List (Option R)) → handed_slots name cells (xs ++ ys) ≡ handed_slots name cells xs ++ handed_slots name cells ys
+slots_append {R = R} name cells xs ys =
+    let slot : Option R → Option R = λ slot. slot in
+    ap (λ (l : List R). handed_of name (Some (map cells l))) (filter_map-append slot xs ys)
+    ∙ ap (λ (l : List (List Cell)). handed_of name (Some l)) (map-append cells (filter_map slot xs) (filter_map slot ys))
+    ∙ map-append (λ (row : List Cell). (name, Some row)) (map cells (filter_map slot xs)) (map cells (filter_map slot ys))
 
 -- The rows of resource.
 

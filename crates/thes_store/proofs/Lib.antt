@@ -4,3 +4,6 @@ pub mod Covering
 pub mod Handed
 pub mod Finding
 pub mod Moving
+pub mod Slotted
+pub mod Adding
+pub mod Rooms

@@ -5,7 +5,6 @@ use Rattle.std.specs.Option.{IsSomeAnd}
 use Rattle.std.specs.Ordering.{nat_cmp}
 use Rattle.std.specs.BTreeMap.{get}
 use Rattle.std.specs.BTreeSet.{BTreeSet, contains}
-use Rattle.std.proofs.lemmas.Bool.{cases_eq}
 use Rattle.std.proofs.lemmas.Option.{same_Some}
 use Rattle.thes_base.proofs.NumberedLemmas.{set_cases}
 use Rattle.thes_rows.specs.declared.rows.PostingRow.{PostingRow}
@@ -18,7 +17,7 @@ use Rattle.thes_store.specs.Picked.{with_row, changed_at}
 
 -- Rows at places.
 
-set_at : {A : Type 0} (rows : List A) (x y : A) (i j : ℕ) → slice_get (slice_set rows i x) j ≡ Some y → ((j ≡ i) × (y ≡ x)) ⊎ ((j ≢ i) × (slice_get rows j ≡ Some y))
+pub set_at : {A : Type 0} (rows : List A) (x y : A) (i j : ℕ) → slice_get (slice_set rows i x) j ≡ Some y → ((j ≡ i) × (y ≡ x)) ⊎ ((j ≢ i) × (slice_get rows j ≡ Some y))
 set_at rows x y i j e = elim (set_cases rows x y (suc i) (suc j) (omega arith) (ap (λ k. slice_get (slice_set rows k x) j) (let q : suc i - 1 ≡ i = omega arith in q) ∙ e)) [
   | inl here ↦ inl ((let h = here.0 in omega (arith, h)), here.1)
   | inr other ↦ inr ((λ same. other.0 (ap suc same)), other.1)

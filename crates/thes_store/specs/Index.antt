@@ -1,5 +1,5 @@
 -- Where the rows of a number may stand.
-use Rattle.std.specs.Prelude.{◌≡◌, ℕ, List, true, IsSome}
+use Rattle.std.specs.Prelude.{◌≡◌, ◌≢◌, ℕ, List, true, IsSome}
 use Rattle.std.specs.Option.{IsSomeAnd}
 use Rattle.std.specs.Ordering.{nat_cmp}
 use Rattle.std.specs.List.Sorted.{IsStrictlySortedBy}
@@ -19,6 +19,10 @@ IsOpen index n = IsSome (get nat_cmp index.sets n)
 -- each number has the places that it had
 abbrev pub KeepsPlaces : Index → Index → Type 0
 KeepsPlaces old new = (n place : ℕ) → IsAt old n place → IsAt new n place
+
+-- each number has the places that it had, but perhaps for this one
+abbrev pub KeepsOthers : ℕ → Index → Index → Type 0
+KeepsOthers gone old new = (n place : ℕ) → place ≢ gone → IsAt old n place → IsAt new n place
 
 -- all places of a number, rising
 pub record ArePlaces (index : Index) (n : ℕ) (places : List ℕ) : Type 0 where

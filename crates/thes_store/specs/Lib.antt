@@ -1,8 +1,12 @@
+pub mod Added
 pub mod Causes
 pub mod Covers
 pub mod Handing
 pub mod Index
 pub mod Loading
+pub mod Numbers
 pub mod Picked
 pub mod Reading
 pub mod Room
+pub mod SameRows
+pub mod Slots

@@ -1,5 +1,6 @@
 //! Rows as cells, handed to a sink.
 ghost use Rattle.std.specs.Prelude.{◌≡◌, ◌∷◌, ◌+◌, ◌<◌, ◌^◌, ℕ, [], List, Some, IfOk, IfErr, map};
+ghost use Rattle.std.specs.List.{cons_option};
 ghost use Rattle.thes_base.specs.declared.fault.Fault.{Fault};
 ghost use Rattle.thes_rows.specs.declared.cells.Cell.{Cell};
 ghost use Rattle.thes_rows.specs.declared.cells.Cell.TheVariants.{Text};
@@ -8,8 +9,10 @@ ghost use Rattle.thes_base.specs.declared.fault.Table.TheVariants as table;
 ghost use Rattle.thes_store.specs.Handing.{Hands, handed_of, handed};
 ghost use Rattle.thes_store.specs.Loading.{rows_of, handed_tables};
 ghost use Rattle.thes_store.specs.Room.{tables_of};
+ghost use Rattle.thes_store.specs.Slots.{rows_in};
 
 use crate::sink::RowSink;
+use crate::slots::{Found, Slots};
 use crate::tables::MemTables;
 use std::alloc::{AllocError, Global};
 use thes_base::data::{Link, Resource};
@@ -168,6 +171,45 @@ pub fn hand_rows<R: AsCells, S: RowSink>(
     Ok(())
 }
 
+/// Hands the rows of a table to a sink, in their order.
+pub fn hand_slots<R: AsCells + Found + Drop, S: RowSink>(
+    alloc: Global,
+    name: Table,
+    rows: &Slots<R>,
+    sink: &mut S,
+) -> Result<(), Fault>
+    ensures hands { Hands S.gives sink.old
+        (handed_of name (Some (map R.cells_of (rows_in rows.now))))
+        result sink.new }
+    ensures err { IfErr result (λ fault. fault ≡ Fault.OutOfMemory) }
+{
+    let slots = rows.as_slice();
+    for slot in slots {
+        if let Err(fault) = hand_slot(alloc, name, slot, sink) {
+            return Err(fault);
+        }
+    }
+    Ok(())
+}
+
+// Hands a row to a sink, if there is one.
+fn hand_slot<R: AsCells, S: RowSink>(
+    alloc: Global,
+    name: Table,
+    slot: &Option<R>,
+    sink: &mut S,
+) -> Result<(), Fault>
+    ensures hands { Hands S.gives sink.old
+        (handed_of name (Some (map R.cells_of (cons_option slot.now []))))
+        result sink.new }
+    ensures err { IfErr result (λ fault. fault ≡ Fault.OutOfMemory) }
+{
+    match slot {
+        Some(row) => row.hand(alloc, name, sink),
+        None => Ok(()),
+    }
+}
+
 /// Hands the row of meta to a sink.
 pub fn hand_meta<S: RowSink>(alloc: Global, base: &Base, sink: &mut S) -> Result<(), Fault>
     ensures hands { Hands S.gives sink.old
@@ -237,9 +279,9 @@ fn hand_table<S: RowSink>(
         Table::Meta => hand_meta(alloc, &tables.base, sink),
         Table::Resource => hand_resources(tables.resource.as_slice(), sink),
         Table::Outside => hand_rows(alloc, Table::Outside, tables.outside.as_slice(), sink),
-        Table::Label => hand_rows(alloc, Table::Label, tables.label.as_slice(), sink),
-        Table::Link => hand_rows(alloc, Table::Link, tables.link.as_slice(), sink),
-        Table::Hier => hand_rows(alloc, Table::Hier, tables.hier.as_slice(), sink),
+        Table::Label => hand_slots(alloc, Table::Label, &tables.label, sink),
+        Table::Link => hand_slots(alloc, Table::Link, &tables.link, sink),
+        Table::Hier => hand_slots(alloc, Table::Hier, &tables.hier, sink),
         Table::Posting => hand_rows(alloc, Table::Posting, tables.posting.as_slice(), sink),
         Table::Move => hand_rows(alloc, Table::Move, tables.steps.as_slice(), sink),
     }

@@ -5,7 +5,7 @@ ghost use Rattle.std.specs.BTreeMap.{get};
 ghost use Rattle.std.specs.Option.{option_copied};
 ghost use Rattle.std.specs.Ordering.{nat_cmp};
 ghost use Rattle.thes_rows.specs.Tables.{IsIn};
-ghost use Rattle.thes_store.specs.Index.{IsAt, IsOpen, KeepsPlaces, ArePlaces};
+ghost use Rattle.thes_store.specs.Index.{IsAt, IsOpen, KeepsPlaces, KeepsOthers, ArePlaces};
 
 use std::alloc::{AllocError, Global};
 use std::collections::{BTreeMap, BTreeSet};
@@ -75,6 +75,16 @@ impl Index {
             self.insert(n, *place)?;
         }
         Ok(())
+    }
+
+    /// Takes a place away from those of a number.
+    pub fn remove(&mut self, n: u32, place: usize)
+        ensures keeps { KeepsOthers place self.old self.new }
+        ensures gone { ¬ IsAt self.new n place }
+    {
+        if let Some(set) = self.sets.get_mut(&n) {
+            set.remove(&place);
+        }
     }
 
     /// Shows the places of a number, if it has some.

@@ -33,7 +33,7 @@ impl Model for MemKeeper {
     ghost use Rattle.std.specs.Coded.{codes};
     ghost use Rattle.thes_rows.specs.Tables.{Tables};
     ghost use Rattle.thes_store.specs.Covers.{Covers};
-    ghost use Rattle.thes_store.specs.Room.{tables_of};
+    ghost use Rattle.thes_store.specs.Room.{tables_of, AllFound};
 
     ghost Value = { Tables };
 
@@ -41,7 +41,7 @@ impl Model for MemKeeper {
 
     ghost view = { λ a. tables_of a.tables };
 
-    ghost invariant = { λ a. Covers a.indexes (tables_of a.tables) };
+    ghost invariant = { λ a. Covers a.indexes (tables_of a.tables) × AllFound a.tables };
 }
 
 impl MemKeeper {
@@ -169,10 +169,11 @@ impl Keeper for MemKeeper {
     }
 
     fn commit(&mut self, delta: &Delta) -> Result<(), Fault> {
-        let changes = copies(self.alloc, delta.as_slice())?;
-        self.tables.make_room(changes.len())?;
+        let given = delta.as_slice();
+        let changes = copies(self.alloc, given)?;
+        self.tables.make_room(given)?;
         let moves = self.tables.steps.len();
-        cover_all(&mut self.indexes, self.alloc, delta.as_slice(), moves)?;
+        cover_all(&mut self.indexes, self.alloc, given, moves)?;
         self.tables.make_all(changes, &self.indexes.standing);
         Ok(())
     }

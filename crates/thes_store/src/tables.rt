@@ -1,17 +1,17 @@
 //! The tables in memory.
-ghost use Rattle.std.specs.Prelude.{◌≡◌, ◌+◌, ◌≤◌, ℕ, length, map, vec_len, OnOk};
-ghost use Rattle.std.specs.Ordering.{eq_by_cmp};
+ghost use Rattle.std.specs.Prelude.{◌≡◌, ◌∷◌, [], List, map, vec_len, OnOk};
 ghost use Rattle.std.specs.Vec.{vec_capacity};
 ghost use Rattle.thes_base.specs.Changes.{marked_dead};
-ghost use Rattle.thes_base.specs.Labels.{label_cmp};
-ghost use Rattle.thes_base.specs.Links.{link_cmp};
-ghost use Rattle.thes_rows.specs.Tables.{no_rows, hier_link};
-ghost use Rattle.thes_rows.specs.Rows.{changed, all_changed, with_posting, withdrawn_row, placed_row, moved_row, without_row, without_hier};
+ghost use Rattle.thes_rows.specs.declared.change.Change.{Change};
+ghost use Rattle.thes_rows.specs.Tables.{no_rows};
+ghost use Rattle.thes_rows.specs.Rows.{changed, all_changed, with_posting, withdrawn_row, placed_row, moved_row};
 ghost use Rattle.thes_store.specs.Covers.{AreStanding, StandThroughout};
 ghost use Rattle.thes_store.specs.Picked.{with_row, changed_at};
-ghost use Rattle.thes_store.specs.Room.{tables_of, HasRoom};
+ghost use Rattle.thes_store.specs.Room.{tables_of, AllFound, HasRoom};
 
+use crate::added::make_room;
 use crate::index::Index;
+use crate::slots::Slots;
 use std::alloc::{AllocError, Global};
 use std::collections::BTreeSet;
 use thes_base::data::{Link, Resource};
@@ -26,9 +26,9 @@ pub struct MemTables {
     pub base: Base,
     pub resource: Vec<Resource>,
     pub outside: Vec<OutsideRow>,
-    pub label: Vec<LabelRow>,
-    pub link: Vec<Link>,
-    pub hier: Vec<HierRow>,
+    pub label: Slots<LabelRow>,
+    pub link: Slots<Link>,
+    pub hier: Slots<HierRow>,
     pub posting: Vec<PostingRow>,
     pub steps: Vec<MoveRow>,
 }
@@ -36,40 +36,45 @@ pub struct MemTables {
 impl MemTables {
     /// Makes the tables of a new store.
     pub fn new(alloc: Global, base: Base) -> MemTables
-        ensures { tables_of result ≡ no_rows base }
+        ensures tables { tables_of result ≡ no_rows base }
+        ensures found { AllFound result }
     {
         MemTables {
             base,
             resource: Vec::new(alloc),
             outside: Vec::new(alloc),
-            label: Vec::new(alloc),
-            link: Vec::new(alloc),
-            hier: Vec::new(alloc),
+            label: Slots::new(alloc),
+            link: Slots::new(alloc),
+            hier: Slots::new(alloc),
             posting: Vec::new(alloc),
             steps: Vec::new(alloc),
         }
     }
 
-    /// Makes room for so many rows more in each table.
-    pub fn make_room(&mut self, n: usize) -> Result<(), AllocError>
+    /// Makes room for the rows that changes add.
+    pub fn make_room(&mut self, changes: &[Change]) -> Result<(), AllocError>
         ensures same { tables_of self.new ≡ tables_of self.old }
-        ensures room { OnOk result (HasRoom n self.new) }
+        ensures found { AllFound self.old → AllFound self.new }
+        ensures room { OnOk result (HasRoom changes.now self.new) }
     {
-        self.resource.try_reserve(n)?;
-        self.outside.try_reserve(n)?;
-        self.label.try_reserve(n)?;
-        self.link.try_reserve(n)?;
-        self.hier.try_reserve(n)?;
-        self.posting.try_reserve(n)?;
-        self.steps.try_reserve(n)
+        make_room(&mut self.resource, changes)?;
+        make_room(&mut self.outside, changes)?;
+        self.label.make_room(changes)?;
+        self.link.make_room(changes)?;
+        self.hier.make_room(changes)?;
+        make_room(&mut self.posting, changes)?;
+        make_room(&mut self.steps, changes)
     }
 
     /// Makes a change, where an index tells at which concept each posting stands.
     pub fn make(&mut self, change: Change, standing: &Index)
-        requires room { HasRoom 1 self.old }
+        requires room { HasRoom (change ∷ []) self.old }
+        requires found { AllFound self.old }
         requires standing { AreStanding standing.now self.old.posting.items }
         ensures tables { tables_of self.new ≡ changed change (tables_of self.old) }
-        ensures room { (n : ℕ) → HasRoom (n + 1) self.old → HasRoom n self.new }
+        ensures found { AllFound self.new }
+        ensures room { (rest : List Change) → HasRoom (change ∷ rest) self.old
+            → HasRoom rest self.new }
     {
         match change {
             Change::AddResource(_, resource) => self.resource.push_reserved(resource),
@@ -78,12 +83,12 @@ impl MemTables {
             Change::AddOutside(number, iri) => {
                 self.outside.push_reserved(OutsideRow { number, iri })
             }
-            Change::AddLabel(row) => self.label.push_reserved(row),
-            Change::DropLabel(row) => drop_label(&mut self.label, &row),
-            Change::AddLink(link) => self.link.push_reserved(link),
-            Change::DropLink(link) => drop_link(&mut self.link, link),
-            Change::AddHier(row) => self.hier.push_reserved(row),
-            Change::DropHier(row) => drop_hier(&mut self.hier, row),
+            Change::AddLabel(row) => self.label.push(row),
+            Change::DropLabel(row) => self.label.remove(&row),
+            Change::AddLink(link) => self.link.push(link),
+            Change::DropLink(link) => self.link.remove(&link),
+            Change::AddHier(row) => self.hier.push(row),
+            Change::DropHier(row) => self.hier.remove(&row),
             Change::AddPosting(row) => self.posting.push_reserved(row),
             Change::Withdraw(n) => withdraw(&mut self.posting, n),
             Change::SetPlace(n, place) => set_place(&mut self.posting, n, place),
@@ -96,9 +101,11 @@ impl MemTables {
 
     /// Makes changes in their order, where an index tells before each where each posting stands.
     pub fn make_all(&mut self, changes: Vec<Change>, standing: &Index)
-        requires room { HasRoom (length changes.items) self.old }
+        requires room { HasRoom changes.items self.old }
+        requires found { AllFound self.old }
         requires standing { StandThroughout standing.now changes.items (tables_of self.old) }
-        ensures { tables_of self.new ≡ all_changed changes.items (tables_of self.old) }
+        ensures tables { tables_of self.new ≡ all_changed changes.items (tables_of self.old) }
+        ensures found { AllFound self.new }
     {
         for change in changes {
             self.make(change, standing);
@@ -187,52 +194,4 @@ fn move_all(postings: &mut Vec<PostingRow>, standing: &Index, source: ResNo, tar
     if let Some(places) = standing.set(source.get()) {
         move_those(postings, places, source, target);
     }
-}
-
-// Whether two labels are equal.
-fn is_label(a: &LabelRow, b: &LabelRow) -> bool
-    ensures { result ≡ eq_by_cmp label_cmp a.now b.now }
-{
-    a.is_same(b)
-}
-
-// Whether two links are equal.
-fn is_link(a: &Link, b: &Link) -> bool
-    ensures { result ≡ eq_by_cmp link_cmp a.now b.now }
-{
-    a.kind == b.kind && a.a == b.a && a.b == b.b
-}
-
-// Whether two rows of hier tell the same link.
-fn is_hier(a: &HierRow, b: &HierRow) -> bool
-    ensures { result ≡ eq_by_cmp link_cmp (hier_link a.now) (hier_link b.now) }
-{
-    a.typ == b.typ && a.a == b.a && a.b == b.b
-}
-
-// Takes a label away.
-fn drop_label(labels: &mut Vec<LabelRow>, label: &LabelRow)
-    ensures items { labels.new.items ≡ without_row label_cmp label.now labels.old.items }
-    ensures len { vec_len labels.new ≤ vec_len labels.old }
-    ensures capacity { vec_capacity labels.new ≡ vec_capacity labels.old }
-{
-    labels.retain(|row| !is_label(row, label));
-}
-
-// Takes a link away.
-fn drop_link(links: &mut Vec<Link>, link: Link)
-    ensures items { links.new.items ≡ without_row link_cmp link links.old.items }
-    ensures len { vec_len links.new ≤ vec_len links.old }
-    ensures capacity { vec_capacity links.new ≡ vec_capacity links.old }
-{
-    links.retain(|row| !is_link(row, &link));
-}
-
-// Takes a hierarchical link away.
-fn drop_hier(rows: &mut Vec<HierRow>, hier: HierRow)
-    ensures items { rows.new.items ≡ without_hier hier rows.old.items }
-    ensures len { vec_len rows.new ≤ vec_len rows.old }
-    ensures capacity { vec_capacity rows.new ≡ vec_capacity rows.old }
-{
-    rows.retain(|row| !is_hier(row, &hier));
 }

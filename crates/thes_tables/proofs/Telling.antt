@@ -52,7 +52,8 @@ module _ (rs : List Resource) (P : List PostingRow) (M : List MoveRow) (posting 
   told_own : (n : ℕ) (h : History) → numbered hs n ≡ Some h → h.moves ≡ moves_of h.number M
   told_own n h e = let was = told_at n h e in ap (λ (x : History). x.moves) was.2 ∙ ap (λ k. moves_of k M) (sym (ap (λ (x : History). x.number) was.2))
 
-  told_count : length M ≡ move_count hs
+  -- there are as many rows of move as moves
+  pub told_count : length M ≡ move_count hs
   told_count = counted M hs told_number (λ row h. let p = move.known row h in let b = numbered_bound P row.posting p.0 p.1 in let l = length_map (history_of M) P in (b.0, (let q = b.1 in omega (arith, q, l)))) told_own
 
   -- the number of a row of move is its place

@@ -153,8 +153,8 @@ impl Vocab {
         };
     }
 
-    // Whether the target takes the label of another in a merge: a name that it lacks.
-    fn takes(&self, target: ResNo, label: &Label) -> bool
+    /// Tells whether the target takes the label of another in a merge: a name that it lacks.
+    pub fn takes(&self, target: ResNo, label: &Label) -> bool
         ensures { result ≡ takes self.now.labels target label.now }
     {
         label.kind() != LabelKind::Scope && !self.labels.has_name(target, &label.tag, label.text())

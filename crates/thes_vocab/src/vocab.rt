@@ -75,6 +75,13 @@ impl Vocab {
         }
     }
 
+    /// The base, which the IRIs of schemes, concepts and collections begin with.
+    pub fn base(&self) -> &Base
+        ensures { result.now ≡ self.now.base }
+    {
+        &self.base
+    }
+
     /// The resource with this number.
     pub fn resource(&self, n: ResNo) -> Option<&Resource>
         ensures { option_copied result ≡ numbered self.now.resources n }

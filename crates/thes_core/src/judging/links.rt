@@ -1,11 +1,14 @@
 //! What refuses links, deprecations and merges.
-ghost use Rattle.std.specs.Prelude.{◌≢◌, IfOk};
+ghost use Rattle.std.specs.Prelude.{◌≢◌, IfOk, IfNone, List, []};
+ghost use Rattle.thes_base.specs.declared.data.History.{History};
 ghost use Rattle.thes_base.specs.declared.request.Command.TheVariants as request;
 ghost use Rattle.thes_base.specs.Links.{HeldIn, contracted, unless_consistent};
 ghost use Rattle.thes_base.specs.Resources.{is_outside};
 ghost use Rattle.thes_base.specs.Rows.{accepted};
 ghost use Rattle.thes_core.specs.Requests.{Judges, unless_linkable};
-ghost use Rattle.thes_core.specs.View.{IsKept};
+ghost use Rattle.thes_core.specs.Decides.{Accepts};
+ghost use Rattle.thes_core.specs.View.{IsKept, setting_of, state_of};
+ghost use Rattle.thes_post.specs.Sums.{AreSums};
 
 use crate::arguments::{judge_ends, judge_live_concept, judge_pair};
 use crate::room::Growth;
@@ -24,8 +27,9 @@ impl Thesaurus {
         a: ResNo,
         b: ResNo,
     ) -> Result<Option<Refusal>, AllocError>
-        requires { IsKept self.now }
-        ensures { IfOk result (Judges self.now (request.Link kind a b)) }
+        requires { IsKept self.now [] }
+        ensures { IfOk result (λ refusal. (histories : List History) → IsKept self.now histories
+            → Judges self.now histories (request.Link kind a b) refusal) }
     {
         let link = Link { kind, a, b };
         if let Some(refusal) = judge_ends(&self.vocab, &link) {
@@ -42,7 +46,7 @@ impl Thesaurus {
 
     // What the links held say against one more link.
     fn judge_held(&self, link: &Link) -> Result<Option<Refusal>, AllocError>
-        requires kept { IsKept self.now }
+        requires kept { IsKept self.now [] }
         requires ends { link.now.a ≢ link.now.b }
         ensures { let outside = is_outside self.now.vocab.resources in
             IfOk result (unless_linkable outside self.now.graph.links link.now) }
@@ -54,8 +58,9 @@ impl Thesaurus {
 
     // What refuses that a link is taken away.
     pub(super) fn judge_unlink(&self, kind: LinkKind, a: ResNo, b: ResNo) -> Option<Refusal>
-        requires { IsKept self.now }
-        ensures { Judges self.now (request.Unlink kind a b) result }
+        requires { IsKept self.now [] }
+        ensures { (histories : List History) → IsKept self.now histories
+            → Judges self.now histories (request.Unlink kind a b) result }
     {
         let link = Link { kind, a, b };
         if let Some(refusal) = judge_ends(&self.vocab, &link) {
@@ -69,8 +74,10 @@ impl Thesaurus {
 
     // What refuses that a concept is deprecated.
     pub(super) fn judge_deprecate(&self, concept: ResNo) -> Option<Refusal>
-        requires { IsKept self.now }
-        ensures { Judges self.now (request.Deprecate concept) result }
+        ensures row { (histories : List History) → IsKept self.now histories → AreSums histories self.now.book
+            → Judges self.now histories (request.Deprecate concept) result }
+        ensures may { IfNone result (IsKept self.now [] → Accepts (setting_of self.now) (state_of self.now [])
+            (request.Deprecate concept)) }
     {
         if let Some(refusal) = judge_live_concept(&self.vocab, concept) {
             return Some(refusal);
@@ -87,8 +94,11 @@ impl Thesaurus {
         source: ResNo,
         target: ResNo,
     ) -> Result<Option<Refusal>, AllocError>
-        requires { IsKept self.now }
-        ensures { IfOk result (Judges self.now (request.Merge source target)) }
+        requires { IsKept self.now [] }
+        ensures row { IfOk result (λ refusal. (histories : List History) → IsKept self.now histories
+            → AreSums histories self.now.book → Judges self.now histories (request.Merge source target) refusal) }
+        ensures may { IfOk result (λ refusal. IfNone refusal
+            (Accepts (setting_of self.now) (state_of self.now []) (request.Merge source target))) }
     {
         if let Some(refusal) = judge_pair(&self.vocab, source, target) {
             return Ok(Some(refusal));
@@ -105,7 +115,7 @@ impl Thesaurus {
 
     // What the links held say against a merge.
     fn judge_joined(&self, source: ResNo, target: ResNo) -> Result<Option<Refusal>, AllocError>
-        requires kept { IsKept self.now }
+        requires kept { IsKept self.now [] }
         requires ends { source ≢ target }
         ensures { let outside = is_outside self.now.vocab.resources in
             let after = contracted outside source target self.now.graph.links in

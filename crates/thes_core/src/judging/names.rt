@@ -1,5 +1,6 @@
 //! What refuses new resources, and labels.
 ghost use Rattle.std.specs.Prelude.{List, ℕ};
+ghost use Rattle.thes_base.specs.declared.data.History.{History};
 ghost use Rattle.thes_base.specs.declared.request.Command.TheVariants as request;
 ghost use Rattle.thes_core.specs.Requests.{Judges};
 ghost use Rattle.thes_core.specs.View.{IsKept};
@@ -15,16 +16,16 @@ use thes_base::text::{Iri, Tag, Text};
 impl Thesaurus {
     // What refuses a new scheme.
     pub(super) fn judge_scheme(&self) -> Option<Refusal>
-        requires { IsKept self.now }
-        ensures { (tag text : List ℕ) → Judges self.now (request.Scheme tag text) result }
+        ensures { (histories : List History) → IsKept self.now histories → (tag text : List ℕ)
+            → Judges self.now histories (request.Scheme tag text) result }
     {
         self.judge_room(Growth::NAMED)
     }
 
     // What refuses a new concept.
     pub(super) fn judge_concept(&self, scheme: ResNo, tag: &Tag, text: &Text) -> Option<Refusal>
-        requires { IsKept self.now }
-        ensures { Judges self.now (request.Concept scheme tag.now text.now) result }
+        ensures { (histories : List History) → IsKept self.now histories
+            → Judges self.now histories (request.Concept scheme tag.now text.now) result }
     {
         if let Some(refusal) = self.vocab.judge_concept(scheme, tag, text) {
             return Some(refusal);
@@ -34,8 +35,8 @@ impl Thesaurus {
 
     // What refuses a new collection.
     pub(super) fn judge_collection(&self, scheme: ResNo) -> Option<Refusal>
-        requires { IsKept self.now }
-        ensures { (tag text : List ℕ) → Judges self.now (request.Collection scheme tag text) result }
+        ensures { (histories : List History) → IsKept self.now histories → (tag text : List ℕ)
+            → Judges self.now histories (request.Collection scheme tag text) result }
     {
         if let Some(refusal) = self.vocab.judge_collection(scheme) {
             return Some(refusal);
@@ -45,8 +46,8 @@ impl Thesaurus {
 
     // What refuses a new outside concept.
     pub(super) fn judge_outside(&self, iri: &Iri) -> Option<Refusal>
-        requires { IsKept self.now }
-        ensures { Judges self.now (request.Outside iri.now) result }
+        ensures { (histories : List History) → IsKept self.now histories
+            → Judges self.now histories (request.Outside iri.now) result }
     {
         if let Some(refusal) = self.vocab.judge_outside(iri) {
             return Some(refusal);
@@ -59,8 +60,8 @@ impl Thesaurus {
 
     // What refuses one more label.
     pub(super) fn judge_add_label(&self, owner: ResNo, label: &Label) -> Option<Refusal>
-        requires { IsKept self.now }
-        ensures { Judges self.now (request.AddLabel owner label.now) result }
+        ensures { (histories : List History) → IsKept self.now histories
+            → Judges self.now histories (request.AddLabel owner label.now) result }
     {
         if let Some(refusal) = judge_owner(&self.vocab, owner) {
             return Some(refusal);
@@ -76,8 +77,8 @@ impl Thesaurus {
 
     // What refuses that a label is dropped.
     pub(super) fn judge_drop_label(&self, owner: ResNo, label: &Label) -> Option<Refusal>
-        requires { IsKept self.now }
-        ensures { Judges self.now (request.DropLabel owner label.now) result }
+        ensures { (histories : List History) → IsKept self.now histories
+            → Judges self.now histories (request.DropLabel owner label.now) result }
     {
         if let Some(refusal) = judge_owner(&self.vocab, owner) {
             return Some(refusal);
@@ -93,8 +94,8 @@ impl Thesaurus {
         text: &Text,
         keep: bool,
     ) -> Option<Refusal>
-        requires { IsKept self.now }
-        ensures { Judges self.now (request.Relabel owner tag.now text.now keep) result }
+        ensures { (histories : List History) → IsKept self.now histories
+            → Judges self.now histories (request.Relabel owner tag.now text.now keep) result }
     {
         if let Some(refusal) = judge_owner(&self.vocab, owner) {
             return Some(refusal);

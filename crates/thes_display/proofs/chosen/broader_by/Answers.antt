@@ -1,9 +1,9 @@
-use Rattle.std.proofs.Common.{◌≡◌, ◌∙◌, ◌++◌, ◌∷◌, [], sym, ap, subst, take, ℕ, List, arith, refl, true≢false}
+use Rattle.std.proofs.Common.{◌∙◌, ◌++◌, ◌∷◌, [], sym, ap, subst, take, ℕ, List, arith, true≢false}
 use Rattle.std.specs.List.Sorted.{IsStrictlySortedBy}
 use Rattle.std.specs.Ordering.{nat_cmp}
 use Rattle.std.proofs.lemmas.List.{take_more}
 use Rattle.thes_base.specs.Listing.{IsListing}
-use Rattle.thes_base.specs.Views.{HasBroader, HasLink}
+use Rattle.thes_base.specs.Views.{HasBroader}
 use Rattle.thes_display.proofs.ChosenLemmas.{chosen_none, chosen_more, chosen_skip, chosen_whole}
 use Rattle.thes_display.proofs.chosen.broader_by.Goals as goal
 use Rattle.thes_display.proofs.chosen.broader_by.Goals.{then-has_link+in_ok-push, else-has_link}
@@ -26,5 +26,5 @@ loop-m-preserved c =
 pub returns : goal.returns
 returns c =
     let xs : List ℕ = c.deref-m-items.result.now in
-    let listed = subst (IsListing nat_cmp (HasBroader c.args.core.now.state.links c.args.n)) (sym c.deref-m-items.ensures.value) c.in_ok-broader.ensures in
-    chosen_whole nat_cmp xs listed.rises _ (HasBroader c.args.core.now.state.links c.args.n) c.loop-m.m-index _ listed (omega arith) (λ m l. (c.args.kind, c.requires.hierarchical, l)) c.loop-m.invariant
+    let listed = subst (IsListing nat_cmp (HasBroader c.args.core.now.links c.args.n)) (sym c.deref-m-items.ensures.value) c.in_ok-broader.ensures in
+    chosen_whole nat_cmp xs listed.rises _ (HasBroader c.args.core.now.links c.args.n) c.loop-m.m-index _ listed (omega arith) (λ m l. (c.args.kind, c.requires.hierarchical, l)) c.loop-m.invariant

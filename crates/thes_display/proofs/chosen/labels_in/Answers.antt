@@ -1,10 +1,9 @@
-use Rattle.std.proofs.Common.{◌≡◌, ◌∙◌, ◌+◌, ◌++◌, ◌∷◌, [], sym, ap, subst, map, take, length, ℕ, List, arith, refl, true≢false}
+use Rattle.std.proofs.Common.{◌≡◌, ◌∙◌, ◌+◌, ◌++◌, ◌∷◌, [], sym, ap, subst, map, take, List, arith, true≢false}
 use Rattle.std.specs.Cmp.Lexicographic.{bytes_decides}
 use Rattle.std.proofs.lemmas.List.{take_more, take-map, map-append, length-map}
-use Rattle.std.specs.List.Sorted.{IsStrictlySortedBy}
-use Rattle.thes_base.specs.Listing.{IsListing}
-use Rattle.thes_base.specs.Views.{Tagged, tagged_cmp, AreLabels}
+use Rattle.thes_base.specs.Views.{Tagged, AreLabels}
 use Rattle.thes_core.specs.Shown.{tagged}
+use Rattle.thes_core.specs.Kept.{with_histories}
 use Rattle.thes_display.proofs.LabelLemmas.{labels_none, labels_more, labels_skip, labels_whole}
 use Rattle.thes_display.proofs.chosen.labels_in.Goals as goal
 use Rattle.thes_display.proofs.chosen.labels_in.Goals.{then-eq+in_ok-text+in_ok-new+in_ok-push, else-eq}
@@ -16,7 +15,7 @@ pub loop-label-preserved : goal.loop-label-preserved
 loop-label-preserved c =
     let labels = c.deref-label-items.result.now in
     let all : List Tagged = map (λ b. tagged b.now) labels in
-    let listed = subst (AreLabels c.args.core.now.state c.args.n c.args.kind) (sym (ap (map (λ b. tagged b.now)) c.deref-label-items.ensures.value)) c.in_ok-found.ensures in
+    let listed = subst (AreLabels (with_histories [] c.args.core.now) c.args.n c.args.kind) (sym (ap (map (λ b. tagged b.now)) c.deref-label-items.ensures.value)) c.in_ok-found.ensures in
     let i = c.loop-label.label-index in
     let x : Tagged = tagged c.label-item.result.now in
     let t : take (i + 1) all ≡ take i all ++ x ∷ [] =
@@ -31,6 +30,6 @@ pub returns : goal.returns
 returns c =
     let labels = c.deref-label-items.result.now in
     let all : List Tagged = map (λ b. tagged b.now) labels in
-    let listed = subst (AreLabels c.args.core.now.state c.args.n c.args.kind) (sym (ap (map (λ b. tagged b.now)) c.deref-label-items.ensures.value)) c.in_ok-found.ensures in
+    let listed = subst (AreLabels (with_histories [] c.args.core.now) c.args.n c.args.kind) (sym (ap (map (λ b. tagged b.now)) c.deref-label-items.ensures.value)) c.in_ok-found.ensures in
     let long = length-map labels (λ b. tagged b.now) in
-    labels_whole c.args.n c.args.tag.now all c.args.core.now.state.labels c.args.kind c.loop-label.label-index _ _ listed (omega (arith, long)) c.loop-label.invariant c.in_ok-sort_terms.ensures.same c.in_ok-sort_terms.ensures.sorted
+    labels_whole c.args.n c.args.tag.now all c.args.core.now.labels c.args.kind c.loop-label.label-index _ _ listed (omega (arith, long)) c.loop-label.invariant c.in_ok-sort_terms.ensures.same c.in_ok-sort_terms.ensures.sorted

@@ -1,4 +1,4 @@
-use Rattle.std.proofs.Common.{◌≡◌, ◌∙◌, ◌++◌, ◌∷◌, [], sym, ap, subst, take, ℕ, List, arith, refl, true≢false}
+use Rattle.std.proofs.Common.{◌∙◌, ◌++◌, ◌∷◌, [], sym, ap, subst, take, ℕ, List, arith, true≢false}
 use Rattle.std.specs.List.Sorted.{IsStrictlySortedBy}
 use Rattle.std.specs.Ordering.{nat_cmp}
 use Rattle.std.proofs.lemmas.List.{take_more}
@@ -26,5 +26,5 @@ loop-m-preserved c =
 pub returns : goal.returns
 returns c =
     let xs : List ℕ = c.deref-m-items.result.now in
-    let listed = subst (IsListing nat_cmp (λ m. HasBroader c.args.core.now.state.links m c.args.n)) (sym c.deref-m-items.ensures.value) c.in_ok-narrower.ensures in
-    chosen_whole nat_cmp xs listed.rises _ (λ m. HasBroader c.args.core.now.state.links m c.args.n) c.loop-m.m-index _ listed (omega arith) (λ m l. (c.args.kind, c.requires.hierarchical, l)) c.loop-m.invariant
+    let listed = subst (IsListing nat_cmp (λ m. HasBroader c.args.core.now.links m c.args.n)) (sym c.deref-m-items.ensures.value) c.in_ok-narrower.ensures in
+    chosen_whole nat_cmp xs listed.rises _ (λ m. HasBroader c.args.core.now.links m c.args.n) c.loop-m.m-index _ listed (omega arith) (λ m l. (c.args.kind, c.requires.hierarchical, l)) c.loop-m.invariant

@@ -3,4 +3,4 @@ use Rattle.thes_display.proofs.TermLemmas.{AreMade}
 use Rattle.thes_display.proofs.chosen.terms_of_all.Given as goal
 
 abbrev pub invariant-loop-concept : goal.invariant-loop-concept
-invariant-loop-concept l = AreMade l.core.state.labels l.tag (take l.concept-index l.concepts) l.terms.items
+invariant-loop-concept l = AreMade l.core.labels l.tag (take l.concept-index l.concepts) l.terms.items

@@ -1,23 +1,17 @@
-use Rattle.std.proofs.Common.{◌∙◌, ◌<◌, ap, sym, subst, map, length, ℕ, List}
-use Rattle.std.specs.Prelude.{IsSome, slice_index_or, MatchOption, Contains, ◌≡◌, ◌≤◌}
+use Rattle.std.proofs.Common.{◌∙◌, ap, sym, subst, length, ℕ, List}
+use Rattle.std.specs.Prelude.{MatchOption, Contains, ◌≡◌, ◌≤◌}
+use Rattle.std.specs.List.{filter_map}
 use Rattle.std.specs.Ordering.{nat_cmp}
 use Rattle.std.specs.BTreeMap.{get}
 use Rattle.thes_display.specs.Hierarchical.{HasKey}
 use Rattle.thes_display.proofs.KeyLemmas.{key_of_term}
-use Rattle.thes_display.proofs.HomeLemmas.{all_known, home_from}
+use Rattle.thes_display.proofs.HomeLemmas.{home_from}
 use Rattle.thes_display.proofs.gather.home_of.Goals as goal
-
-pub keys_at-requires : goal.keys_at-requires
-keys_at-requires c =
-    let n : ℕ = c.concept.result in
-    let here : HasKey c.args.terms.now n c.args.key = subst (λ m. HasKey c.args.terms.now m c.args.key) (sym c.concept.ensures) (key_of_term c.args.terms.now c.args.key c.index-terms-key.result c.requires.within c.index-terms-key.is) in
-    subst (λ (xs : List ℕ). (k d : ℕ) → k < length xs → IsSome (get nat_cmp c.args.keys.now (slice_index_or xs k d))) (sym c.as_slice.ensures.value)
-    (all_known c.args.terms.now (get nat_cmp c.args.keys.now) c.requires.keys _ c.in_ok-broader.broader.items c.in_ok-broader.ensures (λ m l. c.requires.closed.upward l.0 n m c.args.key l.1.0 l.2 here))
 
 pub returns : goal.returns
 returns c =
     let n : ℕ = c.concept.result in
     let here : HasKey c.args.terms.now n c.args.key = subst (λ m. HasKey c.args.terms.now m c.args.key) (sym c.concept.ensures) (key_of_term c.args.terms.now c.args.key c.index-terms-key.result c.requires.within c.index-terms-key.is) in
-    home_from c.args.core.now.state.links c.args.terms.now (get nat_cmp c.args.keys.now) c.requires.keys n c.args.key here c.in_ok-broader.broader.items c.in_ok-found.found.items c.in_ok-broader.ensures
-    (c.in_ok-found.ensures ∙ ap (map (get nat_cmp c.args.keys.now)) c.as_slice.ensures.value) c.least.result
+    home_from c.args.core.now.links c.args.terms.now (get nat_cmp c.args.keys.now) c.requires.keys n c.args.key here c.in_ok-broader.broader.items c.in_ok-found.found.items c.in_ok-broader.ensures
+    (c.in_ok-found.ensures ∙ ap (filter_map (get nat_cmp c.args.keys.now)) c.as_slice.ensures.value) c.least.result
     (subst (λ (ks : List ℕ). MatchOption c.least.result (length ks ≡ 0) (λ m. Contains ks m × ((k : ℕ) → Contains ks k → m ≤ k))) c.as_slice-2.ensures.value c.least.ensures)

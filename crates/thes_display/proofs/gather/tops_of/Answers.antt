@@ -1,9 +1,7 @@
-use Rattle.std.proofs.Common.{◌≡◌, ◌∙◌, ◌++◌, ◌∷◌, [], sym, ap, ℕ, Bool, true, false, not, List, Option, Some, None, arith}
-use Rattle.std.specs.Prelude.{slice_get, is_some}
+use Rattle.std.proofs.Common.{◌∙◌, ◌++◌, ◌∷◌, [], ap, true, None}
 use Rattle.std.proofs.lemmas.Option.{slice_get-get_or}
-use Rattle.thes_display.specs.declared.walk.Child.{Child}
 use Rattle.thes_display.specs.Below.{child}
-use Rattle.thes_display.proofs.TopLemmas.{AreTops, tops_none, tops_more, tops_skip, tops_whole, by_home}
+use Rattle.thes_display.proofs.TopLemmas.{tops_none, tops_whole, by_home}
 use Rattle.thes_display.proofs.gather.tops_of.Goals as goal
 use Rattle.thes_display.proofs.gather.tops_of.Goals.{then-is_none+in_ok-push, else-is_none}
 

@@ -1,4 +1,4 @@
-use Rattle.std.proofs.Common.{sym, subst, ◌↔◌}
+use Rattle.std.proofs.Common.{sym, subst}
 use Rattle.thes_display.proofs.KeyLemmas.{key_of_term}
 use Rattle.thes_display.specs.Hierarchical.{HasKey}
 use Rattle.thes_display.proofs.gather.types_at.Goals as goal

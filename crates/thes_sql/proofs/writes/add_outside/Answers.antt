@@ -4,6 +4,6 @@ use Rattle.thes_sql.proofs.Changing.{does, makes_outside}
 use Rattle.thes_sql.proofs.writes.add_outside.Goals as goal
 
 pub returns-clause-does : goal.returns-clause-does
-returns-clause-does g c clean inside = does _ _ _ (makes_outside c.args.n c.args.iri.now (search rules))
+returns-clause-does g c clean inside = does _ _ _ (makes_outside c.args.n c.args.iri.now (search rules) c.outside_values.ensures.spelled)
     (state g.S.Store c.args.tx.now.conn.now) (state g.S.Store c.execute.new.self.conn.now) c.execute.result
-    (rw c.outside_values.ensures at (c.execute.ensures.runs clean inside))
+    (rw c.outside_values.ensures.cells at (c.execute.ensures.runs clean inside))

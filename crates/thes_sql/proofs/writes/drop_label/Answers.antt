@@ -5,4 +5,4 @@ use Rattle.thes_sql.proofs.writes.drop_label.Goals as goal
 pub returns-clause-does : goal.returns-clause-does
 returns-clause-does g c clean inside = does _ _ _ (makes_label_gone c.args.row.now)
     (state g.S.Store c.args.tx.now.conn.now) (state g.S.Store c.execute.new.self.conn.now) c.execute.result
-    (rw c.label_values.ensures at (c.execute.ensures.runs clean inside))
+    (rw c.label_values.ensures.cells at (c.execute.ensures.runs clean inside))

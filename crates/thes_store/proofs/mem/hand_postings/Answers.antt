@@ -1,7 +1,4 @@
-use Rattle.std.proofs.Common.{◌≡◌, ◌∙◌, get_or, subst, sym, rules, append-nil, List, [], ap}
-use Rattle.std.specs.Prelude.{Option, slice_get}
-use Rattle.std.specs.Option.{option_copied}
-use Rattle.thes_rows.specs.declared.rows.PostingRow.{PostingRow}
+use Rattle.std.proofs.Common.{◌∙◌, get_or, subst, sym, rules, append-nil, [], ap}
 use Rattle.thes_store.specs.Handing.{Hands}
 use Rattle.thes_store.specs.Picked.{passing, picked}
 use Rattle.thes_store.specs.Reading.{is_standing}

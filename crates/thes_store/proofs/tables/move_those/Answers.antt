@@ -1,4 +1,4 @@
-use Rattle.std.proofs.Common.{◌∙◌, ◌∷◌, ◌++◌, [], ℕ, List, map, ap, sym}
+use Rattle.std.proofs.Common.{◌∙◌, ◌∷◌, [], ℕ, List, map, ap, sym}
 use Rattle.std.proofs.lemmas.List.{map-append}
 use Rattle.thes_rows.specs.Rows.{moved_row}
 use Rattle.thes_store.specs.Picked.{with_row, changed_at}

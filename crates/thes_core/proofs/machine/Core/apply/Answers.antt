@@ -1,18 +1,32 @@
-use Rattle.std.proofs.Common.{subst, sym, ap, ◌∙◌}
+use Rattle.std.proofs.Common.{ap, sym, subst, refl, ◌∙◌}
+use Rattle.thes_core.specs.Decides.{MayApply}
 use Rattle.thes_core.specs.Kept.{Kept}
-use Rattle.thes_core.specs.Decides.{Accepts}
-use Rattle.thes_core.specs.View.{IsKept}
-use Rattle.thes_core.proofs.ApplyLemmas.{kept_after, kept_in_order}
+use Rattle.thes_core.proofs.ApplyLemmas.{held_meant, held_unspent, fit_new, makes_new}
 use Rattle.thes_core.proofs.machine.Core.apply.Goals as goal
 
--- what the parts keep after the change
-kept : (c : goal.After-self-in-Ok-1) → IsKept c.change.new.self
-kept c = kept_after c.self.inside.thesaurus c.change.new.self c.args.command.now c.forms.ensures
-    (record { kept = c.self.invariant (ap (λ (k : Kept). k.spent) c.self.view_is ∙ c.requires.unspent); accepts = subst (λ (k : Kept). Accepts k.setting k.state c.args.command.now) (sym c.self.view_is) c.requires.accepted })
-    c.in-Ok.ensures.becomes
+pub change-requires : goal.change-requires
+change-requires c = (
+  c.self.invariant (ap (λ (k : Kept). k.spent) c.self.view_is ∙ c.requires.unspent),
+  subst (λ (k : Kept). MayApply k c.args.command.now) (sym (held_unspent c.self.inside.thesaurus c.self.inside.spent c.args.self.now c.self.view_is c.requires.unspent)) c.requires.may,
+)
 
 pub invariant_of-self : goal.invariant_of-self
-invariant_of-self c = λ _. kept c
+invariant_of-self c = λ _.
+    fit_new c.self.inside.thesaurus c.change.new.self c.args.command.now c.forms.ensures (
+      c.self.invariant (ap (λ (k : Kept). k.spent) c.self.view_is ∙ c.requires.unspent),
+      subst (λ (k : Kept). MayApply k c.args.command.now) (sym (held_unspent c.self.inside.thesaurus c.self.inside.spent c.args.self.now c.self.view_is c.requires.unspent)) c.requires.may,
+    )
+    c.in-Ok.ensures.becomes
 
-pub returns-in-Ok-clause-in_order : goal.returns-in-Ok-clause-in_order
-returns-in-Ok-clause-in_order c = kept_in_order c.change.new.self (kept c)
+pub returns-in-Ok-clause-made : goal.returns-in-Ok-clause-made
+returns-in-Ok-clause-made c = λ s holds told accepts.
+    let t = c.self.inside.thesaurus in
+    let spent = c.self.inside.spent in
+    let k = c.args.self.now in
+    let is = c.self.view_is in
+    let fit = c.self.invariant (ap (λ (x : Kept). x.spent) is ∙ c.requires.unspent) in
+    makes_new t spent k is s fit holds c.args.command.now accepts c.change.new.self c.in-Ok.answer c.forms.ensures c.in-Ok.ensures.becomes
+    (c.in-Ok.ensures.counts s.histories (held_meant t spent k is s fit holds c.args.command.now accepts c.args.facts.now told))
+
+pub returns-in-Ok-clause-ok : goal.returns-in-Ok-clause-ok
+returns-in-Ok-clause-ok c = (refl, c.in-Ok.ensures.becomes.setting ∙ ap (λ (k : Kept). k.setting) c.self.view_is)

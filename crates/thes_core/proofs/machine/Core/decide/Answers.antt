@@ -1,31 +1,47 @@
-use Rattle.std.proofs.Common.{subst, ap, ◌∙◌, refl, inl, inr}
-use Rattle.thes_base.specs.declared.request.Answer.TheVariants as reply
+use Rattle.std.proofs.Common.{subst, sym, ap, ◌∙◌}
+use Rattle.std.specs.Prelude.{IfNone}
 use Rattle.thes_base.specs.State.{State}
 use Rattle.thes_base.specs.Refusals.{Setting}
-use Rattle.thes_base.specs.Machine.{Step}
+use Rattle.thes_core.specs.Decides.{Decides, MayApply, Permits, Settles}
 use Rattle.thes_core.specs.Kept.{Kept}
-use Rattle.thes_core.specs.Requests.{Judges}
-use Rattle.thes_core.specs.View.{state_of, setting_of}
-use Rattle.thes_core.proofs.ApplyLemmas.{in_order_at}
+use Rattle.thes_core.proofs.ApplyLemmas.{held_in_order, held_meant, held_setting, held_state, held_unspent}
 use Rattle.thes_core.proofs.machine.Core.decide.Goals as goal
 
-pub returns-in-Some-2-clause-ok : goal.returns-in-Some-2-clause-ok
-returns-in-Some-2-clause-ok g c =
+pub accepted-requires : goal.accepted-requires
+accepted-requires c = (
+  c.self.invariant (ap (λ (k : Kept). k.spent) c.self.view_is ∙ c.requires),
+  subst (λ (k : Kept). MayApply k c.args.command.now) (sym (held_unspent c.self.inside.thesaurus c.self.inside.spent c.args.self.now c.self.view_is c.requires))
+      (subst (λ a. IfNone a (MayApply c.args.self.now c.args.command.now)) c.in-None.is c.in_ok-answer.ensures.may),
+)
+
+pub returns-in-Some-clause-ok : goal.returns-in-Some-clause-ok
+returns-in-Some-clause-ok c = λ s holds told. subst (Settles c.args.self.now.setting s c.args.command.now) c.in-Some.is (c.in_ok-answer.ensures.ok s holds told)
+
+pub returns-in_ok-accepted-in-None-clause-ok : goal.returns-in_ok-accepted-in-None-clause-ok
+returns-in_ok-accepted-in-None-clause-ok c = λ s holds told.
     let t = c.self.inside.thesaurus in
-    let row = subst (Judges t c.args.command.now) c.in-Some-2.is c.in_ok-refusal.ensures in
-    let step : Step (setting_of t) (state_of t) c.args.command.now (reply.No c.in-Some-2.refusal) (state_of t) = inr (c.in_default.ensures.none, inl (c.in-Some-2.refusal, row, refl, refl)) in
-    let setting = ap (λ (k : Kept). k.setting) c.self.view_is in
-    let state = ap (λ (k : Kept). k.state) c.self.view_is ∙ c.requires.1 in
-    subst (λ (p : Setting × State). Step p.0 p.1 c.args.command.now (reply.No c.in-Some-2.refusal) p.1) (λ i. (setting i, state i)) step
+    let spent = c.self.inside.spent in
+    let k = c.args.self.now in
+    let is = c.self.view_is in
+    let fit = c.self.invariant (ap (λ (x : Kept). x.spent) is ∙ c.requires) in
+    let accepts = subst (Settles k.setting s c.args.command.now) c.in-None.is (c.in_ok-answer.ensures.ok s holds told) in
+    let verdict = c.in_ok-accepted-in-None.ensures.ok s.histories (held_meant t spent k is s fit holds c.args.command.now accepts c.args.facts.now told) in
+    let setting = held_setting t spent k is s in
+    let state = held_state t spent k is s holds in
+    subst (λ (p : Setting × State). Decides p.0 p.1 c.args.command.now c.in_ok-accepted-in-None.field-0) (λ i. (setting i, state i)) verdict
+
+pub returns-in_ok-accepted-in-None-clause-may : goal.returns-in_ok-accepted-in-None-clause-may
+returns-in_ok-accepted-in-None-clause-may c =
+    subst (λ (k : Kept). Permits k c.args.command.now c.in_ok-accepted-in-None.field-0) (held_unspent c.self.inside.thesaurus c.self.inside.spent c.args.self.now c.self.view_is c.requires) c.in_ok-accepted-in-None.ensures.may
+
+pub returns-in_err-answer-clause-in_order : goal.returns-in_err-answer-clause-in_order
+returns-in_err-answer-clause-in_order c = held_in_order c.args.self.now
+
+pub returns-in_err-accepted-in-None-clause-in_order : goal.returns-in_err-accepted-in-None-clause-in_order
+returns-in_err-accepted-in-None-clause-in_order c = held_in_order c.args.self.now
 
 pub returns-in-Some-clause-in_order : goal.returns-in-Some-clause-in_order
-returns-in-Some-clause-in_order g c = in_order_at c.self.inside.thesaurus c.self.inside.spent c.args.self.now c.self.view_is c.requires.0 c.self.invariant
+returns-in-Some-clause-in_order c = held_in_order c.args.self.now
 
-pub returns-in_err-refusal-clause-in_order : goal.returns-in_err-refusal-clause-in_order
-returns-in_err-refusal-clause-in_order g c = in_order_at c.self.inside.thesaurus c.self.inside.spent c.args.self.now c.self.view_is c.requires.0 c.self.invariant
-
-pub returns-in-Some-2-clause-in_order : goal.returns-in-Some-2-clause-in_order
-returns-in-Some-2-clause-in_order g c = in_order_at c.self.inside.thesaurus c.self.inside.spent c.args.self.now c.self.view_is c.requires.0 c.self.invariant
-
-pub returns-in-None-clause-in_order : goal.returns-in-None-clause-in_order
-returns-in-None-clause-in_order g c = in_order_at c.self.inside.thesaurus c.self.inside.spent c.args.self.now c.self.view_is c.requires.0 c.self.invariant
+pub returns-in_ok-accepted-in-None-clause-in_order : goal.returns-in_ok-accepted-in-None-clause-in_order
+returns-in_ok-accepted-in-None-clause-in_order c = held_in_order c.args.self.now

@@ -7,4 +7,4 @@ use Rattle.thes_core.specs.Kept.{Kept}
 use Rattle.thes_core.proofs.machine.Core.narrower_of.Goals as goal
 
 pub returns : goal.returns
-returns c = subst (λ (k : Kept). IfOk c.narrower_of.result (λ found. IsListing nat_cmp (λ (a : ℕ). HasBroader k.state.links a c.args.n) found.items)) c.self.view_is c.narrower_of.ensures
+returns c = subst (λ (k : Kept). IfOk c.narrower_of.result (λ found. IsListing nat_cmp (λ (a : ℕ). HasBroader k.links a c.args.n) found.items)) c.self.view_is c.narrower_of.ensures

@@ -1,12 +1,12 @@
-use Rattle.std.proofs.Common.{rules}
+use Rattle.std.proofs.Common.{refl, rules}
 use Rattle.thes_base.specs.Changes.{collection_resource}
 use Rattle.thes_core.specs.View.{state_of}
 use Rattle.thes_core.proofs.GrowthLemmas.{made_grows}
-use Rattle.thes_core.proofs.JudgeLemmas.{room_row}
+use Rattle.thes_core.proofs.JudgeLemmas.{room_bare}
 use Rattle.thes_core.proofs.thesaurus.Thesaurus.judge_collection.Goals as goal
 
 pub returns : goal.returns
-returns c = λ tag text.
+returns c = λ hs kept tag text.
     let t = c.args.self.now in
-    let room = room_row t (made_grows (state_of t) t.vocab.base c.requires.legal (collection_resource c.args.scheme) tag text) c.judge_room.ensures in
+    let room = room_bare t hs refl refl (made_grows (state_of t hs) t.vocab.base kept.legal (collection_resource c.args.scheme) tag text) c.judge_room.ensures in
     search rules depth 12

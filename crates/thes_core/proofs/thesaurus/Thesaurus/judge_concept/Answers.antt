@@ -1,13 +1,13 @@
-use Rattle.std.proofs.Common.{rules}
+use Rattle.std.proofs.Common.{refl, rules}
 use Rattle.std.specs.Prelude.{Some}
 use Rattle.thes_base.specs.Changes.{concept_resource}
 use Rattle.thes_core.specs.View.{state_of}
 use Rattle.thes_core.proofs.GrowthLemmas.{made_grows}
-use Rattle.thes_core.proofs.JudgeLemmas.{room_row}
+use Rattle.thes_core.proofs.JudgeLemmas.{room_bare}
 use Rattle.thes_core.proofs.thesaurus.Thesaurus.judge_concept.Goals as goal
 
 pub returns : goal.returns
-returns c =
+returns c = λ hs kept.
     let t = c.args.self.now in
-    let room = room_row t (made_grows (state_of t) t.vocab.base c.requires.legal (concept_resource (Some c.args.scheme)) c.args.tag.now c.args.text.now) c.judge_room.ensures in
+    let room = room_bare t hs refl refl (made_grows (state_of t hs) t.vocab.base kept.legal (concept_resource (Some c.args.scheme)) c.args.tag.now c.args.text.now) c.judge_room.ensures in
     search rules depth 12

@@ -2,4 +2,4 @@ use Rattle.std.proofs.Common.{rules}
 use Rattle.thes_core.proofs.thesaurus.Thesaurus.judge_drop_label.Goals as goal
 
 pub returns : goal.returns
-returns c = search rules depth 14
+returns c = λ hs kept. search rules depth 14

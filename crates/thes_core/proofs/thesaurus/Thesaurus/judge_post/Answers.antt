@@ -2,18 +2,18 @@ use Rattle.std.proofs.Common.{inr, subst, ℕ}
 use Rattle.thes_base.specs.declared.fault.Refusal.TheVariants as no
 use Rattle.thes_base.specs.Rows.{refused_unless, accepted}
 use Rattle.thes_base.proofs.RowLemmas.{passed_unless}
-use Rattle.thes_core.specs.Room.{HasRoom}
+use Rattle.thes_core.specs.Room.{HasRoom, counts_in}
 use Rattle.thes_core.specs.View.{state_of}
 use Rattle.thes_core.proofs.GrowthLemmas.{growth_of, posted_grows}
 use Rattle.thes_core.proofs.JudgeLemmas.{room_row}
 use Rattle.thes_core.proofs.thesaurus.Thesaurus.judge_post.Goals as goal
 
 pub returns : goal.returns
-returns c = λ key rec.
+returns c = λ hs kept are key rec.
     let t = c.args.self.now in
     let known = passed_unless c.in_default.ensures in
     let kind = passed_unless known.1 in
     let live = passed_unless kind.1 in
-    let fits = subst (λ (n : ℕ). refused_unless (HasRoom t.limits (state_of t) (growth_of 0 0 0 1 n)) no.TooMany accepted c.judge_room.result) c.forwarding-way.ensures.steps c.judge_room.ensures in
-    let room = room_row t (posted_grows (state_of t) key rec c.args.concept) fits in
+    let fits = subst (λ (n : ℕ). refused_unless (HasRoom t.limits (counts_in t) (growth_of 0 0 0 1 n)) no.TooMany accepted c.judge_room.result) c.forwarding-way.ensures.steps c.judge_room.ensures in
+    let room = room_row t hs are (posted_grows (state_of t hs) key rec c.args.concept) fits in
     inr (known.0, inr (kind.0, inr (live.0, room)))

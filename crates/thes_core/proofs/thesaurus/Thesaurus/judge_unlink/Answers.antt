@@ -4,6 +4,6 @@ use Rattle.thes_core.proofs.JudgeLemmas.{held_as}
 use Rattle.thes_core.proofs.thesaurus.Thesaurus.judge_unlink.Goals as goal
 
 pub returns : goal.returns
-returns c =
-    let held = held_as c.args.self.now c.requires (link c.args.kind c.args.a c.args.b) c.has.result c.has.ensures in
+returns c = λ hs kept.
+    let held = held_as c.args.self.now hs kept (link c.args.kind c.args.a c.args.b) c.has.result c.has.ensures in
     search rules depth 16

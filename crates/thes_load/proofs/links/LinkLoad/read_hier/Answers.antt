@@ -9,10 +9,10 @@ use Rattle.thes_load.proofs.RowForms.{hier_form}
 use Rattle.thes_load.proofs.ReadingLemmas.{reads_row, reads_none}
 use Rattle.thes_load.proofs.links.LinkLoad.read_hier.Goals as goal
 
-pub returns-in_ok-good-in-Some : goal.returns-in_ok-good-in-Some
-returns-in_ok-good-in-Some c = λ links rows has.
-    reads_row hier_cells hier_one (HasLinks c.args.resources.now c.take_hier.new.self.graph links) (HierRule c.args.resources.now links) rows c.args.cells.now c.in-Some.row c.in-Some.ensures.1 c.in_ok-good-in-Some.good (c.in_ok-good-in-Some.ensures links rows has)
+pub returns-in_ok-good-in-Some-clause-reads : goal.returns-in_ok-good-in-Some-clause-reads
+returns-in_ok-good-in-Some-clause-reads c = λ links rows has.
+    reads_row hier_cells hier_one (HasLinks c.args.resources.now c.take_hier.new.self.graph links) (HierRule c.args.resources.now links) rows c.args.cells.now c.in-Some.row c.in-Some.ensures.1 c.in_ok-good-in-Some.good (c.in_ok-good-in-Some.ensures.takes links rows has)
 
-pub returns-in-None : goal.returns-in-None
-returns-in-None c = λ links rows has.
+pub returns-in-None-clause-reads : goal.returns-in-None-clause-reads
+returns-in-None-clause-reads c = λ links rows has.
     reads_none hier_cells hier_one (HasLinks c.args.resources.now c.args.self.now.graph links) (HierRule c.args.resources.now links) rows c.args.cells.now HasHierForm c.in-None.ensures (λ y rest all. hier_form c.args.resources.now c.requires links (rows ++ y ∷ rest) y all (in_next rows y rest))

@@ -4,7 +4,7 @@ use Rattle.thes_load.specs.Linking.{IsAdded}
 use Rattle.thes_load.proofs.Linking.{hier_step}
 use Rattle.thes_load.proofs.links.LinkLoad.take_hier.Goals as goal
 
-pub returns : goal.returns
-returns c = λ links rows has.
+pub returns-clause-takes : goal.returns-clause-takes
+returns-clause-takes c = λ links rows has.
     hier_step c.args.resources.now c.args.self.now.graph c.add_legal.new.graph links rows c.args.row.now has c.in_ok-good.good
-    (subst (λ (l : Link). IsAdded c.args.resources.now c.args.self.now.graph c.add_legal.new.graph l c.in_ok-good.good) c.link_of.ensures (c.in_ok-good.ensures has.marked))
+    (subst (λ (l : Link). IsAdded c.args.resources.now c.args.self.now.graph c.add_legal.new.graph l c.in_ok-good.good) c.link_of.ensures (c.in_ok-good.ensures.adds has.marked))

@@ -7,7 +7,7 @@ use Rattle.thes_load.proofs.CloseSteps.{link_good, stopped_on}
 use Rattle.thes_load.proofs.stage.Stage.close.Goals as goal
 
 pub returns-in-Link : goal.returns-in-Link
-returns-in-Link c = subst (λ (old : Stage). Closes old (stage.Hier c.in-Link.vocab c.in-Link.load)) (sym c.in-Link.is) (link_good c.in-Link.vocab c.in-Link.load)
+returns-in-Link c = subst (λ (old : Stage). Closes old (stage.Hier c.in-Link.linked)) (sym c.in-Link.is) (link_good c.in-Link.linked)
 
 pub returns-in-Stopped : goal.returns-in-Stopped
 returns-in-Stopped c =

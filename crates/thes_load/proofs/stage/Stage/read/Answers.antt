@@ -1,4 +1,4 @@
-use Rattle.std.proofs.Common.{◌≡◌, sym, subst, true, false}
+use Rattle.std.proofs.Common.{◌≡◌, refl, sym, subst, true, false}
 use Rattle.std.specs.Prelude.{Option, None, Some}
 use Rattle.std.proofs.lemmas.Result.{IfOk-weaker}
 use Rattle.thes_load.specs.declared.meta.MetaRow.{MetaRow}
@@ -37,24 +37,24 @@ returns-in-Label c = IfOk-weaker c.read_label.result _ _ (λ good reads.
     (label_row c.in-Label.vocab c.read_label.new.vocab c.args.cells.now good reads)) c.read_label.ensures
 
 pub returns-in-Link : goal.returns-in-Link
-returns-in-Link c = IfOk-weaker c.read-in-Link.result _ _ (λ good reads.
-    subst (λ (old : Stage). ReadsRow old (stage.Link c.in-Link.vocab c.read-in-Link.new.self) c.args.cells.now good) (sym c.in-Link.is)
-    (link_row c.in-Link.vocab c.resources.result.now c.resources.ensures.value c.args.cells.now c.in-Link.load c.read-in-Link.new.self good reads)) c.read-in-Link.ensures
+returns-in-Link c = IfOk-weaker c.read_link.result _ _ (λ good reads.
+    subst (λ (old : Stage). ReadsRow old (stage.Link c.read_link.new.self) c.args.cells.now good) (sym c.in-Link.is)
+    (link_row c.in-Link.linked.vocab.resources c.args.cells.now c.in-Link.linked c.read_link.new.self good refl c.read_link.ensures.same reads)) c.read_link.ensures.reads
 
 pub returns-in-Hier : goal.returns-in-Hier
 returns-in-Hier c = IfOk-weaker c.read_hier.result _ _ (λ good reads.
-    subst (λ (old : Stage). ReadsRow old (stage.Hier c.in-Hier.vocab c.read_hier.new.self) c.args.cells.now good) (sym c.in-Hier.is)
-    (hier_row c.in-Hier.vocab c.resources-in-Hier.result.now c.resources-in-Hier.ensures.value c.args.cells.now c.in-Hier.load c.read_hier.new.self good reads)) c.read_hier.ensures
+    subst (λ (old : Stage). ReadsRow old (stage.Hier c.read_hier.new.self) c.args.cells.now good) (sym c.in-Hier.is)
+    (hier_row c.in-Hier.linked.vocab.resources c.args.cells.now c.in-Hier.linked c.read_hier.new.self good refl c.read_hier.ensures.same reads)) c.read_hier.ensures.reads
 
 pub returns-in-Posting : goal.returns-in-Posting
 returns-in-Posting c = IfOk-weaker c.read-in-Posting.result _ _ (λ good reads.
-    subst (λ (old : Stage). ReadsRow old (stage.Posting c.in-Posting.vocab c.in-Posting.field-1 c.read-in-Posting.new.self) c.args.cells.now good) (sym c.in-Posting.is)
-    (posting_row c.in-Posting.vocab c.resources-in-Posting.result.now c.resources-in-Posting.ensures.value c.args.cells.now c.in-Posting.field-1 c.in-Posting.load c.read-in-Posting.new.self good reads)) c.read-in-Posting.ensures
+    subst (λ (old : Stage). ReadsRow old (stage.Posting c.in-Posting.linked c.read-in-Posting.new.self) c.args.cells.now good) (sym c.in-Posting.is)
+    (posting_row c.in-Posting.linked c.resources.result.now c.resources.ensures.value c.args.cells.now c.in-Posting.load c.read-in-Posting.new.self good reads)) c.read-in-Posting.ensures
 
 pub returns-in-Move : goal.returns-in-Move
 returns-in-Move c =
-    subst (λ (old : Stage). ReadsRow old (stage.Move c.in-Move.vocab c.in-Move.field-1 c.in-Move.field-2 c.read-in-Move.new.self) c.args.cells.now c.read-in-Move.result) (sym c.in-Move.is)
-    (move_row c.in-Move.vocab c.resources-in-Move.result.now c.resources-in-Move.ensures.value c.args.cells.now c.in-Move.field-1 c.in-Move.field-2 c.in-Move.load c.read-in-Move.new.self c.read-in-Move.result c.read-in-Move.ensures)
+    subst (λ (old : Stage). ReadsRow old (stage.Move c.in-Move.linked c.in-Move.field-1 c.read-in-Move.new.self) c.args.cells.now c.read-in-Move.result) (sym c.in-Move.is)
+    (move_row c.in-Move.linked c.resources-in-Move.result.now c.resources-in-Move.ensures.value c.args.cells.now c.in-Move.field-1 c.in-Move.load c.read-in-Move.new.self c.read-in-Move.result c.read-in-Move.ensures)
 
 pub returns-in-Stopped : goal.returns-in-Stopped
 returns-in-Stopped c =

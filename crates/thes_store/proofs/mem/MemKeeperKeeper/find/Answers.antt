@@ -17,7 +17,7 @@ returns-in_default-clause-ok c = λ up t same.
     let x = c.self.inside.indexes in
     let none : get (slice_cmp nat_cmp) x.keys c.args.key.now ≡ None = search rules in
     let is = c.self.view_is ∙ listed_one c.args.self.now t same in
-    not_found x t c.args.key.now (subst (Covers x) is c.self.invariant) (λ i row e at key. let no = sym none ∙ e in absurd (cc))
+    not_found x t c.args.key.now (subst (Covers x) is c.self.invariant.0) (λ i row e at key. let no = sym none ∙ e in absurd (cc))
 
 pub returns-in_default-posting_at-clause-ok : goal.returns-in_default-posting_at-clause-ok
 returns-in_default-posting_at-clause-ok c = λ up t same.
@@ -26,7 +26,7 @@ returns-in_default-posting_at-clause-ok c = λ up t same.
     let found : get (slice_cmp nat_cmp) x.keys c.args.key.now ≡ Some place = search rules in
     let none : slice_get c.self.inside.tables.posting.items place ≡ None = search rules in
     let is = c.self.view_is ∙ listed_one c.args.self.now t same in
-    not_found x t c.args.key.now (subst (Covers x) is c.self.invariant)
+    not_found x t c.args.key.now (subst (Covers x) is c.self.invariant.0)
     (λ i row e at key.
     let here = same_Some _ _ (sym found ∙ e) in
     let no = sym (subst (λ (u : Tables). slice_get u.posting place ≡ None) is none) ∙ ap (slice_get t.posting) here ∙ at in
@@ -40,7 +40,7 @@ returns-then-ne-clause-ok c = λ up t same.
     let there : slice_get c.self.inside.tables.posting.items place ≡ Some c.in-Some-posting_at.row.now = search rules in
     let other : c.in-Some-posting_at.row.now.key ≢ c.args.key.now = search rules in
     let is = c.self.view_is ∙ listed_one c.args.self.now t same in
-    not_found x t c.args.key.now (subst (Covers x) is c.self.invariant)
+    not_found x t c.args.key.now (subst (Covers x) is c.self.invariant.0)
     (λ i row e at key.
     let here = same_Some _ _ (sym found ∙ e) in
     let row_is = same_Some _ _ (sym (subst (λ (u : Tables). slice_get u.posting place ≡ Some c.in-Some-posting_at.row.now) is there) ∙ ap (slice_get t.posting) here ∙ at) in

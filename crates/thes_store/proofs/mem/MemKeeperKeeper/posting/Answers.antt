@@ -21,5 +21,5 @@ returns-clause-ok c = λ up t same.
     let moves : c.in_ok-moves.moves ≡ map step_of (picked (is_move_of c.args.number) c.self.inside.tables.steps.items places) = search rules in
     let are = subst (λ n. ArePlaces x.moves n places) c.get-2.ensures.value c.in_ok-places.ensures in (
       subst (λ (u : Tables). numbered u.posting c.args.number ≡ Some c.in_ok-row.row) is row,
-      moves ∙ ap (λ (u : Tables). map step_of (picked (is_move_of c.args.number) u.move places)) is ∙ ap (map step_of) (moves_all x t c.args.number places (subst (Covers x) is c.self.invariant) are),
+      moves ∙ ap (λ (u : Tables). map step_of (picked (is_move_of c.args.number) u.move places)) is ∙ ap (map step_of) (moves_all x t c.args.number places (subst (Covers x) is c.self.invariant.0) are),
     )

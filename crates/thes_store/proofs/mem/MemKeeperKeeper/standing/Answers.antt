@@ -21,7 +21,7 @@ returns-clause-hands g c = λ up t same.
     let places = c.in_ok-places.places.items in
     let concept = c.args.concept in
     let are = subst (λ n. ArePlaces x.standing n places) c.get.ensures.value c.in_ok-places.ensures in
-    let all = standing_all x t concept places (subst (Covers x) is c.self.invariant) are in
+    let all = standing_all x t concept places (subst (Covers x) is c.self.invariant.0) are in
     let rows : c.as_slice.result.now ≡ t.posting = c.as_slice.ensures.value ∙ ap (λ (u : Tables). u.posting) is in
     let whole = ap (λ (rs : List PostingRow). picked (is_standing concept) rs c.as_slice-2.result.now) rows ∙ ap (picked (is_standing concept) t.posting) c.as_slice-2.ensures.value ∙ all in
     subst (λ (l : List PostingRow). Hands g.S.PostingSink.gives c.args.sink.now l c.hand_postings.result c.hand_postings.new.sink) whole c.hand_postings.ensures.hands

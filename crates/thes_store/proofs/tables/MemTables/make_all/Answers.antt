@@ -1,4 +1,4 @@
-use Rattle.std.proofs.Common.{List, ◌≡◌, ◌∙◌, ◌+◌, ◌-◌, ap, sym, subst, arith, length, length-append, [], ◌∷◌, ◌++◌}
+use Rattle.std.proofs.Common.{List, ◌≡◌, ◌∙◌, ◌+◌, ap, sym, subst, drop, length, length-append, [], ◌∷◌, ◌++◌, refl}
 use Rattle.std.proofs.lemmas.Iterator.Adapters.{YieldsList-from_vec}
 use Rattle.std.proofs.lemmas.Iterator.Consumers.{YieldsList-turn, YieldsList-so_far}
 use Rattle.std.proofs.lemmas.List.{map-id}
@@ -8,7 +8,15 @@ use Rattle.thes_rows.specs.Rows.{changed, all_changed}
 use Rattle.thes_rows.proofs.Steps.{all_append}
 use Rattle.thes_store.specs.Covers.{AreStanding}
 use Rattle.thes_store.specs.Room.{tables_of, HasRoom}
+use Rattle.thes_store.proofs.Rooms.{drop_none, drop_next, room_first}
 use Rattle.thes_store.proofs.tables.MemTables.make_all.Goals as goal
+
+pub loop-change-init : goal.loop-change-init
+loop-change-init c = record {
+  tables = refl;
+  room = subst (λ l. HasRoom l c.args.self.now) (sym (drop_none c.args.changes.items)) c.requires.room;
+  found = c.requires.found;
+}
 
 pub make-requires-clause-standing : goal.make-requires-clause-standing
 make-requires-clause-standing c =
@@ -16,7 +24,19 @@ make-requires-clause-standing c =
     let all = c.args.changes.items in
     let given = c.into_iter-change-iterator.ensures.into_iter_gives in
     let first = sym (YieldsList-so_far (YieldsList-from_vec {s = c.into_iter-change-iterator.result} all given.0 (given.1 ∙ c.args.changes.ok.0)) done c.loop-change.change-iterator c.loop-change.yielded_by) ∙ map-id done in
-    subst (λ (t : Tables). AreStanding c.args.standing.now t.posting) (ap (λ (l : List Change). all_changed l (tables_of c.args.self.now)) first ∙ sym c.loop-change.invariant.0) (c.requires.standing (length done))
+    subst (λ (t : Tables). AreStanding c.args.standing.now t.posting) (ap (λ (l : List Change). all_changed l (tables_of c.args.self.now)) first ∙ sym c.loop-change.invariant.tables) (c.requires.standing (length done))
+
+pub make-requires-clause-room : goal.make-requires-clause-room
+make-requires-clause-room c =
+    let done = c.loop-change.yielded in
+    let change = c.in-Some.change in
+    let all = c.args.changes.items in
+    let given = c.into_iter-change-iterator.ensures.into_iter_gives in
+    let t = YieldsList-turn (YieldsList-from_vec {s = c.into_iter-change-iterator.result} all given.0 (given.1 ∙ c.args.changes.ok.0)) done c.loop-change.change-iterator c.loop-change.yielded_by c.next.result c.next.new.self change c.in-Some.is c.next.ensures.steps in
+    room_first c.loop-change.self change (drop (length done + 1) all) (subst (λ l. HasRoom l c.loop-change.self) (drop_next all (length done) change t.0 t.1) c.loop-change.invariant.room)
+
+pub make-requires-clause-found : goal.make-requires-clause-found
+make-requires-clause-found c = c.loop-change.invariant.found
 
 pub loop-change-preserved : goal.loop-change-preserved
 loop-change-preserved c =
@@ -25,9 +45,10 @@ loop-change-preserved c =
     let all = c.args.changes.items in
     let given = c.into_iter-change-iterator.ensures.into_iter_gives in
     let t = YieldsList-turn (YieldsList-from_vec {s = c.into_iter-change-iterator.result} all given.0 (given.1 ∙ c.args.changes.ok.0)) done c.loop-change.change-iterator c.loop-change.yielded_by c.next.result c.next.new.self change c.in-Some.is c.next.ensures.steps in
-    let less = t.0 in
     let e : length (done ++ change ∷ []) ≡ length done + 1 = length-append done (change ∷ []) in
-    let room : length all - length done ≡ (length all - length (done ++ change ∷ [])) + 1 = omega (arith, less, e) in (
-      c.make.ensures.tables ∙ ap (changed change) c.loop-change.invariant.0 ∙ sym (all_append done (change ∷ []) (tables_of c.args.self.now)),
-      c.make.ensures.room (length all - length (done ++ change ∷ [])) (subst (λ n. HasRoom n c.loop-change.self) room c.loop-change.invariant.1),
-    )
+    let rest = c.make.ensures.room (drop (length done + 1) all) (subst (λ l. HasRoom l c.loop-change.self) (drop_next all (length done) change t.0 t.1) c.loop-change.invariant.room) in
+    record {
+      tables = c.make.ensures.tables ∙ ap (changed change) c.loop-change.invariant.tables ∙ sym (all_append done (change ∷ []) (tables_of c.args.self.now));
+      room = subst (λ n. HasRoom (drop n all) c.make.new.self) (sym e) rest;
+      found = c.make.ensures.found;
+    }

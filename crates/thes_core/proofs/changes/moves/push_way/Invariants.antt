@@ -1,0 +1,9 @@
+use Rattle.std.proofs.Common.{◌≡◌, ◌+◌, ◌++◌, drop, map}
+use Rattle.thes_base.specs.Postings.{moves_along}
+use Rattle.thes_rows.specs.Changes.{move_row}
+use Rattle.thes_rows.specs.declared.change.Change.TheVariants as change
+use Rattle.thes_core.proofs.changes.moves.push_way.Given as goal
+
+-- the changes so far, and then the moves of the rest of the way
+abbrev pub invariant-loop-i : goal.invariant-loop-i
+invariant-loop-i l = l.delta ++ map change.AddMove (map (move_row l.posting) (moves_along (l.first + l.i) l.source (drop l.i l.way))) ≡ l.fn.delta ++ map change.AddMove (map (move_row l.posting) (moves_along l.first l.fn.from l.way))

@@ -1,0 +1,7 @@
+-- Postings that are named, as far as they are known.
+use Rattle.std.specs.Prelude.{List, [], ◌∷◌, Option, None}
+use Rattle.thes_rows.specs.declared.rows.PostingRow.{PostingRow}
+
+abbrev pub first_of : List (Option PostingRow) → Option PostingRow
+first_of [] = None
+first_of (row ∷ rows) = row

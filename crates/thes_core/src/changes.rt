@@ -1,0 +1,248 @@
+//! The changes of rows that an accepted request makes.
+ghost use Rattle.std.specs.Prelude.{◌≡◌, ◌<◌, ◌+◌, ◌^◌, ◌∷◌, [], IfOk, List, None, length, true};
+ghost use Rattle.thes_base.specs.declared.data.History.{History};
+ghost use Rattle.thes_base.specs.declared.data.LabelKind.TheVariants.{Pref, Alt};
+ghost use Rattle.thes_base.specs.declared.request.Command.TheVariants as request;
+ghost use Rattle.thes_base.specs.Changes.{label};
+ghost use Rattle.thes_base.specs.Links.{norm};
+ghost use Rattle.thes_base.specs.Machine.{next_state, link};
+ghost use Rattle.thes_base.specs.Resources.{is_outside};
+ghost use Rattle.thes_core.specs.Requests.{AreMeant, MayChange};
+ghost use Rattle.thes_core.specs.View.{IsKept, state_of};
+ghost use Rattle.thes_rows.specs.Changes.{add_link, drop_link, changes_made, changes_of, changes_relabelled};
+ghost use Rattle.thes_rows.specs.Leads.{Leads};
+ghost use Rattle.thes_rows.specs.Tables.{hier_type};
+
+mod answers;
+mod links;
+mod moves;
+
+use crate::facts::Facts;
+use crate::thesaurus::Thesaurus;
+use std::alloc::{AllocError, Global};
+use thes_base::data::{Label, LabelValue, Link, LinkKind, Resource, ResourceKind};
+use thes_base::number::ResNo;
+use thes_base::request::Command;
+use thes_base::text::{Iri, Tag, Text};
+use thes_graph::judge::in_order;
+use thes_rows::change::Change;
+use thes_rows::delta::Delta;
+use thes_rows::rows::{HierRow, HierType, LabelRow};
+
+// A delta of one change.
+fn one(alloc: Global, change: Change) -> Result<Delta, AllocError>
+    ensures { IfOk result (λ delta. delta ≡ change ∷ []) }
+{
+    let mut delta = Delta::new(alloc);
+    delta.push(change)?;
+    Ok(delta)
+}
+
+// A live resource that nothing replaces.
+fn live(kind: ResourceKind, scheme: Option<ResNo>) -> Resource
+    ensures { result ≡ record { kind = kind; scheme = scheme; live = true; replaced = None } }
+{
+    Resource {
+        kind,
+        scheme,
+        live: true,
+        replaced: None,
+    }
+}
+
+// The row of a preferred label.
+fn preferred_row(
+    alloc: Global,
+    owner: ResNo,
+    tag: &Tag,
+    text: &Text,
+) -> Result<LabelRow, AllocError>
+    ensures { IfOk result (λ row. row ≡ label owner Pref tag.now text.now) }
+{
+    let label = Label {
+        tag: tag.try_clone(alloc)?,
+        value: LabelValue::Pref(text.try_clone(alloc)?),
+    };
+    Ok(LabelRow { owner, label })
+}
+
+// The row of an alternative label.
+fn alternative_row(
+    alloc: Global,
+    owner: ResNo,
+    tag: &Tag,
+    text: &Text,
+) -> Result<LabelRow, AllocError>
+    ensures { IfOk result (λ row. row ≡ label owner Alt tag.now text.now) }
+{
+    let label = Label {
+        tag: tag.try_clone(alloc)?,
+        value: LabelValue::Alt(text.try_clone(alloc)?),
+    };
+    Ok(LabelRow { owner, label })
+}
+
+// The type of a hierarchical kind of link.
+fn hier_type(kind: LinkKind) -> Option<HierType>
+    ensures { result ≡ hier_type kind }
+{
+    match kind {
+        LinkKind::Broader => Some(HierType::Untyped),
+        LinkKind::BroaderGeneric => Some(HierType::Generic),
+        LinkKind::BroaderPartitive => Some(HierType::Partitive),
+        LinkKind::BroaderInstantial => Some(HierType::Instantial),
+        LinkKind::Related
+        | LinkKind::Exact
+        | LinkKind::Close
+        | LinkKind::Broad
+        | LinkKind::Narrow
+        | LinkKind::RelMatch
+        | LinkKind::Member => None,
+    }
+}
+
+// A link comes to the table of its kind.
+fn coming(link: &Link) -> Change
+    ensures { result ≡ add_link link.now }
+{
+    match hier_type(link.kind) {
+        Some(typ) => Change::AddHier(HierRow {
+            a: link.a,
+            b: link.b,
+            typ,
+        }),
+        None => Change::AddLink(*link),
+    }
+}
+
+// A link leaves the table of its kind.
+fn going(link: &Link) -> Change
+    ensures { result ≡ drop_link link.now }
+{
+    match hier_type(link.kind) {
+        Some(typ) => Change::DropHier(HierRow {
+            a: link.a,
+            b: link.b,
+            typ,
+        }),
+        None => Change::DropLink(*link),
+    }
+}
+
+impl Thesaurus {
+    // The changes of rows that an accepted request makes.
+    fn changes(&self, command: &Command, facts: &Facts) -> Result<Delta, AllocError>
+        requires { MayChange self.now command.now }
+        ensures { IfOk result (λ delta. (histories : List History)
+            → AreMeant self.now command.now facts.now histories
+            → Leads self.now.vocab.base delta (state_of self.now histories)
+            (next_state command.now (state_of self.now histories))) }
+    {
+        match command {
+            Command::Scheme(tag, text) => {
+                self.changes_made(live(ResourceKind::Scheme, None), tag, text)
+            }
+            Command::Concept(scheme, tag, text) => {
+                self.changes_made(live(ResourceKind::Concept, Some(*scheme)), tag, text)
+            }
+            Command::Collection(scheme, tag, text) => {
+                self.changes_made(live(ResourceKind::Collection, Some(*scheme)), tag, text)
+            }
+            Command::Outside(iri) => self.changes_outside(iri),
+            Command::AddLabel(owner, label) => one(
+                self.alloc,
+                Change::AddLabel(LabelRow {
+                    owner: *owner,
+                    label: label.try_clone(self.alloc)?,
+                }),
+            ),
+            Command::DropLabel(owner, label) => one(
+                self.alloc,
+                Change::DropLabel(LabelRow {
+                    owner: *owner,
+                    label: label.try_clone(self.alloc)?,
+                }),
+            ),
+            Command::Relabel(owner, tag, text, keep) => {
+                self.changes_relabelled(*owner, tag, text, *keep)
+            }
+            Command::Link(kind, a, b) => one(self.alloc, coming(&self.normal(*kind, *a, *b))),
+            Command::Unlink(kind, a, b) => one(self.alloc, going(&self.normal(*kind, *a, *b))),
+            Command::Deprecate(concept) => self.changes_deprecated(*concept),
+            Command::Merge(source, target) => self.changes_merged(*source, *target, facts),
+            Command::Split(source, tag, text, postings) => {
+                self.changes_split(*source, tag, text, postings.as_slice())
+            }
+            Command::Post(key, rec, concept) => self.changes_posted(key, rec, *concept),
+            Command::Withdraw(posting) => one(self.alloc, Change::Withdraw(*posting)),
+        }
+    }
+
+    // The number that a new resource gets.
+    fn next(&self) -> ResNo
+        requires { length self.now.vocab.resources + 1 < 2 ^ 32 }
+        ensures { result ≡ length self.now.vocab.resources + 1 }
+    {
+        ResNo::new(self.vocab.resource_count() as u32 + 1)
+    }
+
+    // A new resource with its preferred label.
+    fn changes_made(&self, resource: Resource, tag: &Tag, text: &Text) -> Result<Delta, AllocError>
+        requires { length self.now.vocab.resources + 1 < 2 ^ 32 }
+        ensures { IfOk result (λ delta. (histories : List History)
+            → delta ≡ changes_made resource tag.now text.now (state_of self.now histories)) }
+    {
+        let number = self.next();
+        let mut delta = one(self.alloc, Change::AddResource(number, resource))?;
+        let row = preferred_row(self.alloc, number, tag, text)?;
+        delta.push(Change::AddLabel(row))?;
+        Ok(delta)
+    }
+
+    // A new outside concept with its IRI.
+    fn changes_outside(&self, iri: &Iri) -> Result<Delta, AllocError>
+        requires { length self.now.vocab.resources + 1 < 2 ^ 32 }
+        ensures { IfOk result (λ delta. (histories : List History)
+            → delta ≡ changes_of (request.Outside iri.now) (state_of self.now histories)) }
+    {
+        let number = self.next();
+        let resource = live(ResourceKind::Outside, None);
+        let mut delta = one(self.alloc, Change::AddResource(number, resource))?;
+        delta.push(Change::AddOutside(number, iri.try_clone(self.alloc)?))?;
+        Ok(delta)
+    }
+
+    // A preferred label in place of another.
+    fn changes_relabelled(
+        &self,
+        owner: ResNo,
+        tag: &Tag,
+        text: &Text,
+        keep: bool,
+    ) -> Result<Delta, AllocError>
+        ensures { let changes = changes_relabelled owner tag.now text.now keep self.now.vocab.labels in
+            IfOk result (λ delta. delta ≡ changes) }
+    {
+        let Some(old) = self.vocab.preferred(owner, tag) else {
+            return Ok(Delta::new(self.alloc));
+        };
+        let row = preferred_row(self.alloc, owner, tag, old)?;
+        let mut delta = one(self.alloc, Change::DropLabel(row))?;
+        let row = preferred_row(self.alloc, owner, tag, text)?;
+        delta.push(Change::AddLabel(row))?;
+        if keep {
+            let row = alternative_row(self.alloc, owner, tag, old)?;
+            delta.push(Change::AddLabel(row))?;
+        }
+        Ok(delta)
+    }
+
+    // The link as it is kept.
+    fn normal(&self, kind: LinkKind, a: ResNo, b: ResNo) -> Link
+        requires { IsKept self.now [] }
+        ensures { result ≡ norm (is_outside self.now.vocab.resources) (link kind a b) }
+    {
+        let outside = self.graph.is_outside(a) || self.graph.is_outside(b);
+        in_order(&Link { kind, a, b }, outside)
+    }
+}

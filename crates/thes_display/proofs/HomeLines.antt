@@ -1,0 +1,246 @@
+-- Each concept of a legal state has one line at home: its way home ends at a top, since nothing is above itself.
+use Rattle.std.proofs.Common.{◌≡◌, ◌⊎◌, ◌∙◌, ◌<◌, ◌≤◌, ◌+◌, sym, ap, refl, subst, ℕ, zero, suc, Bool, true, false, ◌||◌, List, [], ◌∷◌, ◌++◌, length, get_or, arith, eqb, eqb-true, ne_eqb, true≢false, ⊎_elim, inl, inr}
+use Rattle.std.specs.FinSet.{contains}
+use Rattle.std.specs.List.{AllByRecursion, IsDistinct, list_any}
+use Rattle.std.proofs.lemmas.Bool.{cases_lt, or_cases}
+use Rattle.std.proofs.lemmas.Map.Keys.{IsDistinct-cons}
+use Rattle.std.proofs.lemmas.Map.Steps.{length-le_from_distinct_below}
+use Rattle.std.proofs.lemmas.Option.{slice_get-get_or}
+use Rattle.thes_base.specs.declared.data.LinkKind.{LinkKind}
+use Rattle.thes_base.specs.declared.data.LinkKind.TheVariants as kinds
+use Rattle.thes_base.specs.Links.{Chain, HeldIn, IsAbove, Leads, Links, NoCycle, Path, broader_way}
+use Rattle.thes_base.specs.Links as links_of
+use Rattle.thes_base.specs.Listing.{IsListing}
+use Rattle.thes_base.specs.Views.{HasBroader}
+use Rattle.thes_core.proofs.DisplayLemmas.{within}
+use Rattle.thes_display.specs.declared.walk.Types.{Types}
+use Rattle.thes_display.specs.Order.{Term}
+use Rattle.thes_display.specs.Hierarchical.{HasKey, IsBroader, IsHome, IsTop, IsAway, AreTypes, EachHasOneHome, HasOneHome}
+use Rattle.thes_display.specs.Gathered.{HaveOneKey, IsClosed}
+use Rattle.thes_display.specs.Lines.{HasTypes, IsHomeward, IsLine, IsPlaced, Line, line_cmp, untyped}
+use Rattle.thes_display.proofs.ChildLemmas.{one_types}
+use Rattle.thes_display.proofs.GatherLemmas.{key_within, one_concept, types_are, types_between}
+use Rattle.thes_display.proofs.KeyedLemmas.{closed, key_of, one_key}
+
+-- Which concept is broader, as a test.
+
+or_first : (x y : Bool) → x ≡ true → (x || y) ≡ true
+or_first x y e = ap (λ b. b || y) e
+
+or_later : (x y : Bool) → y ≡ true → (x || y) ≡ true
+or_later true y e = refl
+or_later false y e = e
+
+abbrev held : Links → LinkKind → ℕ → ℕ → Bool
+held links kind a b = contains links (record { kind = kind; a = a; b = b })
+
+-- whether b is broader than a within their scheme
+abbrev is_broader : Links → ℕ → ℕ → Bool
+is_broader links a b =
+    held links kinds.Broader a b || (held links kinds.BroaderGeneric a b || (held links kinds.BroaderPartitive a b || held links kinds.BroaderInstantial a b))
+
+broader_from : (links : Links) (a b : ℕ) → is_broader links a b ≡ true → HasBroader links a b
+broader_from links a b e = elim (or_cases _ _ e) [
+  | inl l ↦ (kinds.Broader, (refl, refl), l)
+  | inr f ↦ elim (or_cases _ _ f) [
+    | inl l ↦ (kinds.BroaderGeneric, (refl, refl), l)
+    | inr g ↦ elim (or_cases _ _ g) [
+      | inl l ↦ (kinds.BroaderPartitive, (refl, refl), l)
+      | inr l ↦ (kinds.BroaderInstantial, (refl, refl), l)
+    ]
+  ]
+]
+
+broader_to : (links : Links) (a b : ℕ) → HasBroader links a b → is_broader links a b ≡ true
+broader_to links a b (kinds.Broader, is, l) = or_first _ _ l
+broader_to links a b (kinds.BroaderGeneric, is, l) = or_later (held links kinds.Broader a b) _ (or_first _ _ l)
+broader_to links a b (kinds.BroaderPartitive, is, l) = or_later (held links kinds.Broader a b) _ (or_later (held links kinds.BroaderGeneric a b) _ (or_first _ _ l))
+broader_to links a b (kinds.BroaderInstantial, is, l) =
+    or_later (held links kinds.Broader a b) _ (or_later (held links kinds.BroaderGeneric a b) _ (or_later (held links kinds.BroaderPartitive a b) _ l))
+broader_to links a b (kinds.Related, is, l) = absurd (let e = is.1 in cc)
+broader_to links a b (kinds.Exact, is, l) = absurd (let e = is.1 in cc)
+broader_to links a b (kinds.Close, is, l) = absurd (let e = is.1 in cc)
+broader_to links a b (kinds.Broad, is, l) = absurd (let e = is.0 in cc)
+broader_to links a b (kinds.Narrow, is, l) = absurd (let e = is.1 in cc)
+broader_to links a b (kinds.RelMatch, is, l) = absurd (let e = is.1 in cc)
+broader_to links a b (kinds.Member, is, l) = absurd (let e = is.1 in cc)
+
+-- The least number that passes a test.
+
+abbrev HasLeast : (ℕ → Bool) → ℕ → Type 0
+HasLeast test n = (b : ℕ) × (b < n) × (test b ≡ true) × ((c : ℕ) → c < n → test c ≡ true → b ≤ c)
+
+abbrev HasNone : (ℕ → Bool) → ℕ → Type 0
+HasNone test n = (b : ℕ) → b < n → test b ≡ true → ⊥
+
+least_of : (test : ℕ → Bool) (n : ℕ) (t : Bool) → test n ≡ t → HasNone test n ⊎ HasLeast test n → HasNone test (suc n) ⊎ HasLeast test (suc n)
+least_of test n t e (inr w) =
+    let a = w.1 in
+    inr (w.0, omega (arith, a), w.2, λ c l f. ⊎_elim (λ below. w.3 c below f) (λ past. omega (arith, a, past)) (cases_lt c n))
+least_of test n true e (inl none) = inr (n, omega arith, e, λ c l f. ⊎_elim (λ below. absurd (none c below f)) (λ past. omega (arith, past)) (cases_lt c n))
+least_of test n false e (inl none) = inl (λ b l f. ⊎_elim (λ below. none b below f)
+    (λ past. let same : b ≡ n = omega (arith, l, past) in true≢false (sym f ∙ ap test same ∙ e)) (cases_lt b n))
+
+least : (test : ℕ → Bool) (n : ℕ) → HasNone test n ⊎ HasLeast test n
+least test zero = inl (λ b l f. absurd (omega (arith, l)))
+least test (suc n) = least_of test n (test n) refl (least test n)
+
+-- Ways up.
+
+path_then : (S : ℕ → ℕ → Type 0) (x : ℕ) (ms : List ℕ) (y z : ℕ) → Path S x ms y → S y z → Path S x (ms ++ y ∷ []) z
+path_then S x [] y z p q = (p, q)
+path_then S x (m ∷ ms) y z p q = (p.0, path_then S m ms y z p.1 q)
+
+each_as : (P Q : ℕ → Type 0) → ((y : ℕ) → P y → Q y) → (xs : List ℕ) → AllByRecursion P xs → AllByRecursion Q xs
+each_as P Q f [] all = tt
+each_as P Q f (x ∷ xs) all = (f x all.0, each_as P Q f xs all.1)
+
+found_in : (P : ℕ → Type 0) (q : ℕ) (xs : List ℕ) → AllByRecursion P xs → list_any (eqb q) xs ≡ true → P q
+found_in P q [] all e = absurd (cc)
+found_in P q (x ∷ xs) all e = elim (or_cases _ _ e) [ inl same ↦ subst P (sym (eqb-true q x same)) all.0 | inr rest ↦ found_in P q xs all.1 rest ]
+
+none_twice : IsDistinct eqb []
+unfolding IsDistinct
+none_twice = tt
+
+nothing : Term
+nothing = record { text = []; concept = 0 }
+
+module _ (links : Links) (terms : List Term) (shut : IsClosed links terms) (cycle : NoCycle (HeldIn links)) where
+  -- the concept of a key
+  abbrev concept_of : ℕ → ℕ
+  concept_of k = (get_or terms k nothing).concept
+
+  key_at : (k : ℕ) → k < length terms → HasKey terms (concept_of k) k
+  key_at k l = record { term = get_or terms k nothing; stands = slice_get-get_or terms k nothing l; concept = refl }
+
+  concept_is : (m k : ℕ) → HasKey terms m k → m ≡ concept_of k
+  concept_is m k h = one_concept terms m (concept_of k) k h (key_at k (key_within terms m k h))
+
+  -- a broader concept by its key
+  linked : (k b : ℕ) → IsBroader links terms k b → HasBroader links (concept_of k) (concept_of b)
+  linked k b r = subst (λ x. HasBroader links x (concept_of b)) (concept_is r.lower k r.lower_key) (subst (λ y. HasBroader links r.lower y) (concept_is r.upper b r.upper_key) r.link)
+
+  top_or_home : (k : ℕ) → k < length terms → IsTop links terms k ⊎ ((b : ℕ) × IsHome links terms k b)
+  top_or_home k l = elim (least (λ b. is_broader links (concept_of k) (concept_of b)) (length terms)) [
+    | inl none ↦ inl (record {
+      concept = concept_of k;
+      key = key_at k l;
+      none = λ m h.
+          let up = shut.upward h.0 (concept_of k) m k h.1.0 h.2 (key_at k l) in
+          none up.0 (key_within terms m up.0 up.1) (broader_to links (concept_of k) (concept_of up.0) (subst (λ y. HasBroader links (concept_of k) y) (concept_is m up.0 up.1) h));
+    })
+    | inr w ↦ inr (
+      w.0,
+      record {
+        broader = record {
+          lower = concept_of k;
+          upper = concept_of w.0;
+          lower_key = key_at k l;
+          upper_key = key_at w.0 w.1;
+          link = broader_from links (concept_of k) (concept_of w.0) w.2;
+        };
+        least = λ c r. w.3 c (key_within terms r.upper c r.upper_key) (broader_to links (concept_of k) (concept_of c) (linked k c r));
+      },
+    )
+  ]
+
+  -- what is broader by its key is so by links
+  abbrev Step : ℕ → ℕ → Type 0
+  Step = links_of.IsBroader (HeldIn links)
+
+  step : (k b : ℕ) → IsBroader links terms k b → Step (concept_of k) (concept_of b)
+  step k b r =
+      let h = linked k b r in
+      (record { kind = h.0; a = concept_of k; b = concept_of b }, h.2, subst (λ w. Leads w (concept_of k) (concept_of b) (concept_of k) (concept_of b)) (sym h.1.1) (refl, refl))
+
+  -- k is above j
+  abbrev IsUp : ℕ → ℕ → Type 0
+  IsUp k j = (j < length terms) × IsAbove (HeldIn links) (concept_of j) (concept_of k)
+
+  up_then : (k b j : ℕ) → IsBroader links terms k b → IsUp k j → IsUp b j
+  up_then k b j r (l, (ms, path)) = (l, (ms ++ concept_of k ∷ [], path_then Step (concept_of j) ms (concept_of k) (concept_of b) path (step k b r)))
+
+  abbrev Homeward : List ℕ → Type 0
+  Homeward = IsHomeward (IsTop links terms) (IsHome links terms) (IsAway links terms) (AreTypes links terms)
+
+  apart : (k : ℕ) (seen : List ℕ) → AllByRecursion (IsUp k) seen → AllByRecursion (λ y. eqb k y ≡ false) seen
+  apart k = each_as (IsUp k) (λ y. eqb k y ≡ false) (λ y up. ne_eqb k y (λ same. cycle.none (concept_of y) (subst (λ z. IsAbove (HeldIn links) (concept_of y) (concept_of z)) same up.1)))
+
+  way_from : (k : ℕ) → IsTop links terms k ⊎ ((b : ℕ) × IsHome links terms k b) → ((b : ℕ) → IsHome links terms k b → (up : List ℕ) × Homeward (b ∷ up)) → (up : List ℕ) × Homeward (k ∷ up)
+  way_from k (inl top) next = ([], top)
+  way_from k (inr (b, home)) next = let rest = next b home in (b ∷ rest.0, (home, rest.1))
+
+  -- the way home from k, where those seen stand below k: there are no more of them than keys
+  climb : (m : ℕ) (seen : List ℕ) (k : ℕ) → k < length terms → AllByRecursion (IsUp k) seen → IsDistinct eqb seen → length seen + m ≡ length terms → (up : List ℕ) × Homeward (k ∷ up)
+  climb zero seen k l ups distinct e =
+      let most = length-le_from_distinct_below (k ∷ seen) (length terms) (IsDistinct-cons eqb k seen (apart k seen ups) distinct)
+      (λ q has. found_in (λ y. y < length terms) q (k ∷ seen) (l, each_as (IsUp k) (λ y. y < length terms) (λ y up. up.0) seen ups) has) in
+      absurd (omega (arith, most, e))
+  climb (suc m) seen k l ups distinct e = way_from k (top_or_home k l) (λ b home.
+      let r = home.broader in
+      climb m (k ∷ seen) b (key_within terms r.upper b r.upper_key)
+      ((l, ([], step k b r)), each_as (IsUp k) (IsUp b) (λ j up. up_then k b j r up) seen ups)
+      (IsDistinct-cons eqb k seen (apart k seen ups) distinct) (omega (arith, e)))
+
+  pub way_home : (k : ℕ) → k < length terms → (up : List ℕ) × Homeward (k ∷ up)
+  way_home k l = climb (length terms) [] k l tt none_twice (omega arith)
+
+  -- The line at home.
+
+  abbrev Typed : Types → List ℕ → Type 0
+  Typed = HasTypes (IsTop links terms) (IsHome links terms) (IsAway links terms) (AreTypes links terms)
+
+  abbrev Placed : Bool → List ℕ → Type 0
+  Placed = IsPlaced (IsTop links terms) (IsHome links terms) (IsAway links terms) (AreTypes links terms)
+
+  no_home : (k b : ℕ) → IsTop links terms k → IsHome links terms k b → ⊥
+  no_home k b top home =
+      let r = home.broader in
+      top.none r.upper (subst (λ m. HasBroader links m r.upper) (one_concept terms r.lower top.concept k r.lower_key top.key) r.link)
+
+  -- there is one way home
+  one_way : (u v : List ℕ) (k : ℕ) → Homeward (k ∷ u) → Homeward (k ∷ v) → u ≡ v
+  one_way [] [] k p q = refl
+  one_way [] (c ∷ v) k p q = absurd (no_home k c p q.0)
+  one_way (b ∷ u) [] k p q = absurd (no_home k b q p.0)
+  one_way (b ∷ u) (c ∷ v) k p q =
+      let l = p.0.least c q.0.broader in
+      let m = q.0.least b p.0.broader in
+      let same : b ≡ c = omega (arith, l, m) in
+      let rest = one_way u v b p.1 (subst (λ z. Homeward (z ∷ v)) (sym same) q.1) in
+      λ i. same i ∷ rest i
+
+  types_on : (k : ℕ) (up : List ℕ) → Homeward (k ∷ up) → (types : Types) × Typed types (k ∷ up)
+  types_on k [] p = (untyped, refl)
+  types_on k (b ∷ up) p = let r = p.0.broader in (types_between links r.lower r.upper, types_are links terms k b r)
+
+  same_types : (k : ℕ) (up : List ℕ) (x y : Types) → Typed x (k ∷ up) → Typed y (k ∷ up) → x ≡ y
+  same_types k [] x y p q = p ∙ sym q
+  same_types k (b ∷ up) x y p q = one_types links terms b k x y p q
+
+  pub home_line : HaveOneKey terms → (lines : List Line) → IsListing line_cmp (IsLine (IsTop links terms) (IsHome links terms) (IsAway links terms) (AreTypes links terms)) lines
+      → (m k : ℕ) → HasKey terms m k → HasOneHome terms lines m
+  home_line one lines listed m k h =
+      let way = way_home k (key_within terms m k h) in
+      let types = types_on k way.0 way.1 in
+      record {
+        line = record { key = k; above = way.0; types = types.0; at_home = true };
+        there = listed.complete (record { key = k; above = way.0; types = types.0; at_home = true }) (way.1, types.1);
+        shows = h;
+        at_home = refl;
+        only = λ other c shows home.
+            let is = listed.sound other c in
+            let key : other.key ≡ k = one.one m other.key k shows h in
+            let placed : Homeward (other.key ∷ other.above) = subst (λ b. Placed b (other.key ∷ other.above)) home is.0 in
+            let up : other.above ≡ way.0 = one_way other.above way.0 k (subst (λ z. Homeward (z ∷ other.above)) key placed) way.1 in
+            let typed : Typed other.types (k ∷ way.0) = subst (λ u. Typed other.types (k ∷ u)) up (subst (λ z. Typed other.types (z ∷ other.above)) key is.1) in
+            let same = same_types k way.0 other.types types.0 typed types.1 in
+            λ i. record { key = key i; above = up i; types = same i; at_home = home i };
+      }
+
+pub one_home : EachHasOneHome
+one_home base s scheme tag text legal d m shown =
+    let key = key_of s scheme tag d.terms d.are_terms m shown in
+    home_line s.links d.terms (closed s scheme tag d.terms d.are_terms (within s base legal scheme)) legal.links.no_cycle
+    (one_key s scheme tag d.terms d.are_terms) d.lines d.are_lines m key.0 key.1

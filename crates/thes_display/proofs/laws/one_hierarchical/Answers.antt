@@ -1,0 +1,5 @@
+use Rattle.thes_display.proofs.OneText.{one_hierarchical}
+use Rattle.thes_display.proofs.laws.one_hierarchical.Goals as goal
+
+pub returns : goal.returns
+returns c = one_hierarchical

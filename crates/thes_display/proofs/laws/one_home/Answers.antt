@@ -1,0 +1,5 @@
+use Rattle.thes_display.proofs.HomeLines.{one_home}
+use Rattle.thes_display.proofs.laws.one_home.Goals as goal
+
+pub returns : goal.returns
+returns c = one_home

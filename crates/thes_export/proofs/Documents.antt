@@ -1,0 +1,116 @@
+-- The lines of triples, one after another, have one reading as a document: those triples.
+use Rattle.std.proofs.Common.{◌≡◌, ◌∙◌, sym, ap, refl, subst, ℕ, List, [], ◌∷◌, ◌++◌, map, arith, inl, inr, ⊎_elim}
+use Rattle.thes_base.specs.Triples.{Triple}
+use Rattle.thes_export.specs.NTriples.{Statement, IsBlank, IsEolByte, IsEol, IsSpaced, IsSubject, IsTriple, IsLineEnd, IsTail, IsDocument}
+use Rattle.thes_export.specs.Spelling.{statement_of}
+use Rattle.thes_export.proofs.Terminals.{head_of, tail_of, apart, all_head, unspaced}
+use Rattle.thes_export.proofs.Writable.{IsWritable}
+use Rattle.thes_export.proofs.Readings.{line_then, not_blank, line_same}
+
+-- ---- one reading
+
+-- nothing but blanks and a comment stands before the end of a line
+no_line_end : (text : List ℕ) (c : ℕ) (x rest : List ℕ) → text ≡ c ∷ x → ¬ IsBlank c → (c ≡ 35 → ⊥) → IsLineEnd text rest → rest ≡ c ∷ x
+no_line_end text c x rest e blank hash ended = elim ended.said [
+  | inl none ↦ sym (ended.spelled ∙ ap (λ l. l ++ rest) none) ∙ start
+  | inr comment ↦ apart _ _ _ _ hash (sym start ∙ ended.spelled ∙ ap (λ l. l ++ rest) comment.spelled)
+]
+  where
+    start : ended.start ≡ c ∷ x
+    start = unspaced text ended.start c x ended.spaced e blank
+
+-- an end of line takes one byte where another byte follows
+one_eol : (eol rest text x : List ℕ) → IsEol eol → text ≡ eol ++ rest → text ≡ 10 ∷ x → ((c : ℕ) (z : List ℕ) → x ≡ c ∷ z → ¬ IsEolByte c) → rest ≡ x
+one_eol [] rest text x formed spelled e stops = absurd (let l = formed.0 in omega arith)
+one_eol (b ∷ []) rest text x formed spelled e stops = tail_of _ _ _ _ (sym spelled ∙ e)
+one_eol (b ∷ c ∷ eol) rest text x formed spelled e stops = absurd (stops c (eol ++ rest) (sym (tail_of _ _ _ _ (sym spelled ∙ e))) (formed.1 1 0 (omega arith)))
+
+no_eol : (eol rest text : List ℕ) (c : ℕ) (x : List ℕ) → IsEol eol → text ≡ eol ++ rest → text ≡ c ∷ x → ¬ IsEolByte c → ⊥
+no_eol [] rest text c x formed spelled e stops = let l = formed.0 in omega arith
+no_eol (b ∷ eol) rest text c x formed spelled e stops = stops (subst IsEolByte (head_of _ _ _ _ (sym spelled ∙ e)) (all_head IsEolByte b eol formed.1))
+
+no_eol_empty : (eol rest text : List ℕ) → IsEol eol → text ≡ eol ++ rest → text ≡ [] → ⊥
+no_eol_empty [] rest text formed spelled e = let l = formed.0 in omega arith
+no_eol_empty (b ∷ eol) rest text formed spelled e = let bad : [] ≡ b ∷ (eol ++ rest) = sym e ∙ spelled in cc
+
+-- no triple stands in an empty text
+spaced_empty : (text rest : List ℕ) → IsSpaced text rest → text ≡ [] → rest ≡ []
+spaced_empty text rest spaced e = go spaced.gap (sym spaced.spelled ∙ e)
+  where
+    go : (gap : List ℕ) → gap ++ rest ≡ [] → rest ≡ []
+    go [] same = same
+    go (b ∷ gap) same = absurd (let bad : b ∷ (gap ++ rest) ≡ [] = same in cc)
+
+no_triple : (text : List ℕ) (said : Statement) (rest : List ℕ) → IsTriple text said rest → text ≡ [] → ⊥
+no_triple text said rest read e = go read.subject
+  where
+    first : read.first ≡ []
+    first = spaced_empty text read.first read.first_spaced e
+
+    go : IsSubject read.first said.subject read.after_subject → ⊥
+    go (inl (iri, is, ref)) = let bad : [] ≡ 60 ∷ (ref.inner ++ 62 ∷ read.after_subject) = sym first ∙ ref.spelled in cc
+    go (inr (label, is, node)) = let bad : [] ≡ 95 ∷ 58 ∷ (label ++ read.after_subject) = sym first ∙ node.spelled in cc
+
+line_end_empty : (text rest : List ℕ) → IsLineEnd text rest → text ≡ [] → rest ≡ []
+line_end_empty text rest ended e = elim ended.said [
+  | inl none ↦ sym (ended.spelled ∙ ap (λ l. l ++ rest) none) ∙ start
+  | inr comment ↦ absurd (let bad : [] ≡ 35 ∷ (comment.said ++ rest) = sym start ∙ ended.spelled ∙ ap (λ l. l ++ rest) comment.spelled in cc)
+]
+  where
+    start : ended.start ≡ []
+    start = spaced_empty text ended.start ended.spaced e
+
+abbrev pub AllWritable : List Triple → Type 0
+AllWritable [] = Unit {0}
+AllWritable (t ∷ ts) = IsWritable t × AllWritable ts
+
+abbrev pub lines_text : List Triple → List ℕ
+lines_text [] = []
+lines_text (t ∷ ts) = line_then t (lines_text ts)
+
+eol_blank : ¬ IsBlank 10
+eol_blank = not_blank 10 (λ q. omega arith) (λ q. omega arith)
+
+open_eol : ¬ IsEolByte 60
+open_eol = ⊎_elim (λ q. omega arith) (λ q. omega arith)
+
+-- what follows a triple that was read
+tail_same : (ts : List Triple) (others : List Statement) (text : List ℕ) → AllWritable ts → text ≡ 10 ∷ lines_text ts → IsTail others text → others ≡ map statement_of ts
+tail_same [] [] text fine e tail = refl
+tail_same [] (said ∷ others) text fine e tail =
+    let end = no_line_end text 10 [] tail.rest e eol_blank (λ q. omega arith) tail.ended in
+    let after = one_eol tail.more.eol tail.more.rest tail.rest [] tail.more.formed tail.more.spelled end (λ c z q. absurd (cc)) in
+    absurd (no_triple tail.more.rest said tail.more.more.rest tail.more.more.triple after)
+tail_same (t ∷ ts) [] text fine e tail =
+    let end = no_line_end text 10 (lines_text (t ∷ ts)) tail.rest e eol_blank (λ q. omega arith) tail.ended in
+    absurd (⊎_elim
+    (λ none. let bad : 10 ∷ lines_text (t ∷ ts) ≡ [] = sym end ∙ none in cc)
+    (λ eol.
+    let after = one_eol eol.eol eol.rest tail.rest (lines_text (t ∷ ts)) eol.formed eol.spelled end (λ c z q is. open_eol (subst IsEolByte (sym (head_of _ _ _ _ q)) is)) in
+    let last = no_line_end eol.rest 60 _ [] after (not_blank 60 (λ q. omega arith) (λ q. omega arith)) (λ q. omega arith) eol.more in
+    let bad : [] ≡ lines_text (t ∷ ts) = last in cc)
+    tail.more)
+tail_same (t ∷ ts) (said ∷ others) text fine e tail =
+    let end = no_line_end text 10 (lines_text (t ∷ ts)) tail.rest e eol_blank (λ q. omega arith) tail.ended in
+    let after = one_eol tail.more.eol tail.more.rest tail.rest (lines_text (t ∷ ts)) tail.more.formed tail.more.spelled end (λ c z q is. open_eol (subst IsEolByte (sym (head_of _ _ _ _ q)) is)) in
+    let one = line_same t (lines_text ts) tail.more.rest said tail.more.more.rest fine.0 after tail.more.more.triple in
+    let more = tail_same ts others tail.more.more.rest fine.1 one.1 tail.more.more.more in
+    (λ i. one.0 i ∷ more i)
+
+pub document_same : (ts : List Triple) (others : List Statement) (text : List ℕ) → AllWritable ts → text ≡ lines_text ts → IsDocument text others → others ≡ map statement_of ts
+document_same [] [] text fine e document = refl
+document_same [] (said ∷ others) text fine e (inl begins) = absurd (no_triple text said begins.rest begins.triple e)
+document_same [] (said ∷ others) text fine e (inr tail) = absurd (no_eol_empty tail.more.eol tail.more.rest tail.rest tail.more.formed tail.more.spelled (line_end_empty text tail.rest tail.ended e))
+document_same (t ∷ ts) [] text fine e tail =
+    let end = no_line_end text 60 _ tail.rest e (not_blank 60 (λ q. omega arith) (λ q. omega arith)) (λ q. omega arith) tail.ended in
+    absurd (⊎_elim
+    (λ none. let bad : lines_text (t ∷ ts) ≡ [] = sym end ∙ none in cc)
+    (λ eol. no_eol eol.eol eol.rest tail.rest 60 _ eol.formed eol.spelled end open_eol)
+    tail.more)
+document_same (t ∷ ts) (said ∷ others) text fine e (inl begins) =
+    let one = line_same t (lines_text ts) text said begins.rest fine.0 e begins.triple in
+    let more = tail_same ts others begins.rest fine.1 one.1 begins.more in
+    (λ i. one.0 i ∷ more i)
+document_same (t ∷ ts) (said ∷ others) text fine e (inr tail) =
+    let end = no_line_end text 60 _ tail.rest e (not_blank 60 (λ q. omega arith) (λ q. omega arith)) (λ q. omega arith) tail.ended in
+    absurd (no_eol tail.more.eol tail.more.rest tail.rest 60 _ tail.more.formed tail.more.spelled end open_eol)

@@ -1,0 +1,13 @@
+pub mod Terminals
+pub mod Writable
+pub mod Readings
+pub mod Documents
+pub mod Spelled
+pub mod Legality
+pub mod OneListing
+pub mod ExportLemmas
+pub mod LineLemmas
+pub mod AddedLemmas
+pub mod TopicLemmas
+pub mod AboutLemmas
+pub mod GatherLemmas

@@ -1,0 +1,5 @@
+use Rattle.thes_export.proofs.TopicLemmas.{replacement_line}
+use Rattle.thes_export.proofs.said.push_replacement.Goals as goal
+
+pub returns-in_ok-push_node-in-Some : goal.returns-in_ok-push_node-in-Some
+returns-in_ok-push_node-in-Some c = replacement_line c.args.core.now c.args.n c.args.resource.now c.in-Some.other _ _ c.requires.found c.in-Some.ensures c.in_ok-push_node-in-Some.ensures

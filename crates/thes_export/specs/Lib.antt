@@ -1,0 +1,5 @@
+pub mod NTriples
+pub mod Spelling
+pub mod Export
+pub mod Topics
+pub mod Written

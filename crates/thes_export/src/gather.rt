@@ -1,0 +1,88 @@
+//! The text of an export.
+ghost use Rattle.std.specs.Prelude.{◌≡◌, ◌+◌, ◌++◌, ◌<◌, [], Contains, false, IfOk, OnOk, length};
+ghost use Rattle.std.specs.List.{concat};
+ghost use Rattle.thes_base.specs.Listing.{IsListing};
+ghost use Rattle.thes_base.specs.State.{State};
+ghost use Rattle.thes_core.specs.Kept.{Holds};
+ghost use Rattle.thes_export.specs.Export.{IsExport, bytes_cmp};
+ghost use Rattle.thes_export.specs.Topics.{Adds, IsAbout, IsLineOf, IsUpTo};
+
+use crate::line::Line;
+use crate::topic::push_about;
+use std::alloc::{AllocError, Global};
+use thes_base::number::ResNo;
+use thes_core::Core;
+
+// Adds all lines of the resource at a place.
+fn push_at(alloc: Global, core: &Core, lines: &mut Vec<Line>, i: usize) -> Result<(), AllocError>
+    requires unspent { core.now.spent ≡ false }
+    requires within { i < length core.now.resources }
+    ensures { let is_about = IsAbout core.now (i + 1) in
+        OnOk result (Adds (IsLineOf is_about) lines.old.items lines.new.items) }
+{
+    let resources = core.resources();
+    let n = ResNo::new(i as u32 + 1);
+    push_about(alloc, core, lines, n, &resources[i])?;
+    Ok(())
+}
+
+// How many resources there are.
+fn resource_count(core: &Core) -> usize
+    requires { core.now.spent ≡ false }
+    ensures { result ≡ length core.now.resources }
+{
+    core.resources().len()
+}
+
+// The lines of all resources.
+fn all_lines(alloc: Global, core: &Core) -> Result<Vec<Line>, AllocError>
+    requires { core.now.spent ≡ false }
+    ensures { let is_told = IsUpTo core.now (length core.now.resources) in
+        IfOk result (λ lines. Adds (IsLineOf is_told) [] lines.items) }
+{
+    let mut lines = Vec::new(alloc);
+    for i in 0..resource_count(core) {
+        push_at(alloc, core, &mut lines, i)?;
+    }
+    Ok(lines)
+}
+
+// Puts lines in the order of their bytes, each once.
+fn sort_lines(lines: &mut Vec<Line>) -> Result<(), AllocError>
+    ensures { OnOk result (IsListing bytes_cmp (Contains lines.old.items) lines.new.items) }
+{
+    lines.sort()?;
+    lines.dedup();
+    Ok(())
+}
+
+// Adds a line to a text.
+fn push_text(text: &mut Vec<u8>, line: &Line) -> Result<(), AllocError>
+    ensures { OnOk result (text.new.items ≡ text.old.items ++ line.now) }
+{
+    text.extend_from_slice(line.as_bytes())?;
+    Ok(())
+}
+
+// The lines one after another.
+fn joined(alloc: Global, lines: &[Line]) -> Result<Vec<u8>, AllocError>
+    ensures { IfOk result (λ text. text.items ≡ concat lines.now) }
+{
+    let mut text = Vec::new(alloc);
+    for line in lines {
+        push_text(&mut text, line)?;
+    }
+    Ok(text)
+}
+
+/// Makes the export of the state that the core holds.
+pub fn export_text(alloc: Global, core: &Core) -> Result<Vec<u8>, AllocError>
+    requires { core.now.spent ≡ false }
+    ensures { (s : State) → Holds core.now s →
+        IfOk result (λ text. IsExport core.now.setting.base s text.items) }
+{
+    let mut lines = all_lines(alloc, core)?;
+    sort_lines(&mut lines)?;
+    let text = joined(alloc, lines.as_slice())?;
+    Ok(text)
+}

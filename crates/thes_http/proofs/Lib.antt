@@ -1,0 +1,3 @@
+mod ServeLemmas
+mod WriteLemmas
+mod ServerLemmas

@@ -1,0 +1,4 @@
+pub mod Responses
+pub mod Serving
+pub mod Connection
+pub mod Server

@@ -1,0 +1,139 @@
+//! What a request does.
+ghost use Rattle.std.specs.Prelude.{◌≡◌, if◌then◌else◌, true};
+ghost use Rattle.thes_http.specs.Serving.{doing, Performs, Shows, ShowsNumber, DisplaysIn, DisplaysAsked, OrFails, DoesOrFails};
+ghost use Rattle.thes_head.specs.Queries.{asked_of};
+
+use crate::response::Response;
+use crate::service::{Display, Service};
+use std::alloc::Global;
+use thes_base::fault::{Fault, FormFault, ReadStop};
+use thes_base::number::{PostNo, ResNo};
+use thes_base::text::Tag;
+use thes_exchange::request::{Memory, Query, Request, read_request};
+use thes_head::place::Place;
+use thes_head::problem::Problem;
+use thes_head::query::read_query;
+use thes_head::want::Want;
+
+/// Does what a request asks for.
+pub fn act<S: Service>(alloc: Global, service: &mut S, want: Want<'_>, body: &[u8]) -> Response
+    requires { S.is_open service.old ≡ true }
+    ensures { DoesOrFails (doing S.performs S.shows S.imports S.exports S.displays)
+        service.old result service.new
+        want.entry.place want.entry.number.now want.entry.query.now body.now }
+{
+    match want.place {
+        Place::Requests => perform(alloc, service, body),
+        Place::Import => Response::imported(service.import(alloc, body)),
+        Place::Totals => show(alloc, service, Query::Totals),
+        Place::Concept => show_resource(alloc, service, want.number, false),
+        Place::Postings => show_resource(alloc, service, want.number, true),
+        Place::Posting => show_posting(alloc, service, want.number),
+        Place::Export => Response::exported(service.export(alloc)),
+        Place::Alphabetical => display(alloc, service, Display::Alphabetical, want.query),
+        Place::Hierarchical => display(alloc, service, Display::Hierarchical, want.query),
+    }
+}
+
+// Performs the request of a body.
+fn perform<S: Service>(alloc: Global, service: &mut S, body: &[u8]) -> Response
+    requires { S.is_open service.old ≡ true }
+    ensures { OrFails (doing S.performs S.shows S.imports S.exports S.displays)
+        service.old result service.new
+        (Performs (doing S.performs S.shows S.imports S.exports S.displays)
+        service.old result service.new body.now) }
+{
+    match read_request(&mut Memory::new(alloc), body) {
+        Ok(Request::Do(command)) => Response::performed(service.perform(&command)),
+        Ok(Request::Get(_)) => Response::form(FormFault::BadShape),
+        Err(ReadStop::Form(fault)) => Response::form(fault),
+        Err(ReadStop::OutOfMemory) => Response::fault(Fault::OutOfMemory),
+    }
+}
+
+// Shows a view.
+fn show<S: Service>(alloc: Global, service: &mut S, query: Query) -> Response
+    requires { S.is_open service.old ≡ true }
+    ensures { Shows (doing S.performs S.shows S.imports S.exports S.displays)
+        service.old result service.new query }
+{
+    Response::viewed(service.show(alloc, &query))
+}
+
+// Shows a concept, or its postings.
+fn show_resource<S: Service>(
+    alloc: Global,
+    service: &mut S,
+    number: &str,
+    postings: bool,
+) -> Response
+    requires { S.is_open service.old ≡ true }
+    ensures { ShowsNumber (doing S.performs S.shows S.imports S.exports S.displays)
+        service.old result service.new
+        (λ n. if postings then Query.Postings n else Query.Concept n) number.now }
+{
+    match ResNo::read(number) {
+        Ok(n) => show(
+            alloc,
+            service,
+            if postings {
+                Query::Postings(n)
+            } else {
+                Query::Concept(n)
+            },
+        ),
+        Err(fault) => Response::form(fault),
+    }
+}
+
+// Shows a posting.
+fn show_posting<S: Service>(alloc: Global, service: &mut S, number: &str) -> Response
+    requires { S.is_open service.old ≡ true }
+    ensures { ShowsNumber (doing S.performs S.shows S.imports S.exports S.displays)
+        service.old result service.new Query.Posting number.now }
+{
+    match PostNo::read(number) {
+        Ok(n) => show(alloc, service, Query::Posting(n)),
+        Err(fault) => Response::form(fault),
+    }
+}
+
+// Displays a scheme.
+fn display<S: Service>(alloc: Global, service: &mut S, which: Display, query: &str) -> Response
+    requires { S.is_open service.old ≡ true }
+    ensures { OrFails (doing S.performs S.shows S.imports S.exports S.displays)
+        service.old result service.new
+        (DisplaysAsked (doing S.performs S.shows S.imports S.exports S.displays)
+        service.old result service.new which (asked_of query.now)) }
+{
+    let asked = match read_query(alloc, query) {
+        Ok(Some(asked)) => asked,
+        Ok(None) => return Response::problem(Problem::BadQuery),
+        Err(_) => return Response::fault(Fault::OutOfMemory),
+    };
+    match ResNo::read(asked.scheme.as_str()) {
+        Ok(scheme) => display_in(alloc, service, which, scheme, asked.lang.as_str()),
+        Err(fault) => Response::form(fault),
+    }
+}
+
+// Displays a scheme in a language.
+fn display_in<S: Service>(
+    alloc: Global,
+    service: &mut S,
+    which: Display,
+    scheme: ResNo,
+    lang: &str,
+) -> Response
+    requires { S.is_open service.old ≡ true }
+    ensures { OrFails (doing S.performs S.shows S.imports S.exports S.displays)
+        service.old result service.new
+        (DisplaysIn (doing S.performs S.shows S.imports S.exports S.displays)
+        service.old result service.new which scheme lang.now) }
+{
+    match Tag::read(alloc, lang) {
+        Ok(tag) => Response::displayed(service.display(alloc, which, scheme, &tag)),
+        Err(ReadStop::Form(fault)) => Response::form(fault),
+        Err(ReadStop::OutOfMemory) => Response::fault(Fault::OutOfMemory),
+    }
+}

@@ -1,0 +1,56 @@
+//! The text of an answer's head.
+ghost use Rattle.std.specs.Prelude.{◌≡◌, ◌+◌, ◌≤◌, ◌++◌, [], length, decimal};
+
+use arrayvec::ArrayString;
+use itoa::Buffer;
+use std::marker::Model;
+
+/// The head of an answer, of at most 256 bytes, which takes no memory of its own.
+#[derive(Drop)]
+pub struct HeadText {
+    text: ArrayString<256>,
+}
+
+impl Model for HeadText {
+    ghost use Rattle.std.specs.Prelude.{List, ℕ};
+
+    ghost Value = { List ℕ };
+
+    ghost view = { λ head. head.text.bytes };
+}
+
+impl HeadText {
+    /// Makes an empty head.
+    pub fn new() -> HeadText
+        ensures { result ≡ [] }
+    {
+        HeadText {
+            text: ArrayString::new(),
+        }
+    }
+
+    /// Adds a text at the end.
+    pub fn push(&mut self, text: &str)
+        requires { length self.old + length text.now ≤ 256 }
+        ensures text { self.new ≡ self.old ++ text.now }
+        ensures len { length self.new ≡ length self.old + length text.now }
+    {
+        self.text.push_str(text);
+    }
+
+    /// Adds a number's digits, of which there are at most twenty.
+    pub fn push_number(&mut self, number: u64)
+        requires { length self.old ≤ 200 }
+        ensures text { self.new ≡ self.old ++ decimal number }
+        ensures len { length self.new ≤ length self.old + 20 }
+    {
+        self.push(Buffer::new().format(number));
+    }
+
+    /// Returns what was added.
+    pub fn as_bytes(&self) -> &[u8]
+        ensures { result.now ≡ self.now }
+    {
+        self.text.as_str().as_bytes()
+    }
+}

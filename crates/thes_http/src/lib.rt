@@ -1,0 +1,9 @@
+//! One connection: a request of HTTP/1.0 or 1.1, what it does, and its answer.
+#![tactic(auto)]
+
+mod act;
+mod head_text;
+pub mod response;
+pub mod serve;
+pub mod server;
+pub mod service;

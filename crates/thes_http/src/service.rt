@@ -1,0 +1,96 @@
+//! What a connection may ask for.
+ghost use Rattle.std.specs.Prelude.{◌≡◌, true, ℕ, List, Result};
+ghost use Rattle.thes_base.specs.declared.fault.Fault.{Fault};
+ghost use Rattle.thes_http.specs.declared.service.Imported.{Imported};
+ghost use Rattle.thes_http.specs.declared.service.Display.{Display};
+ghost use Rattle.thes_http.specs.declared.service.Displayed.{Displayed};
+
+use std::alloc::Global;
+use std::marker::Model;
+use thes_base::fault::{Fault, Refusal};
+use thes_base::number::ResNo;
+use thes_base::text::Tag;
+use thes_exchange::desk::Desk;
+
+/// A text of many lines.
+#[derive(Drop)]
+pub struct Page {
+    bytes: Vec<u8>,
+}
+
+impl Model for Page {
+    ghost use Rattle.std.specs.Prelude.{List, ℕ};
+
+    ghost Value = { List ℕ };
+
+    ghost view = { λ page. page.bytes.items };
+}
+
+impl Page {
+    /// Makes a page of these bytes.
+    pub fn new(bytes: Vec<u8>) -> Page
+        ensures { result ≡ bytes.items }
+    {
+        Page { bytes }
+    }
+
+    /// Returns the text.
+    pub fn as_bytes(&self) -> &[u8]
+        ensures { result.now ≡ self.now }
+    {
+        &self.bytes
+    }
+}
+
+/// What a posting file is answered with.
+#[derive(Drop)]
+pub enum Imported {
+    /// The outcome of each row.
+    Outcomes(Page),
+    /// It isn't a posting file, and nothing of it was performed.
+    Malformed,
+}
+
+/// A display of a scheme.
+#[derive(Clone, Copy, Debug, PartialEq, Eq)]
+pub enum Display {
+    Alphabetical,
+    Hierarchical,
+}
+
+/// What is answered where a display was asked for.
+#[derive(Drop)]
+pub enum Displayed {
+    Lines(Page),
+    No(Refusal),
+}
+
+/// What performs requests and shows views, imports posting files, exports and displays.
+pub trait Service: Desk {
+    ghost imports: { Self → List ℕ → Result Imported Fault → Self → Type 0 };
+
+    ghost exports: { Self → Result (List ℕ) Fault → Self → Type 0 };
+
+    ghost displays: { Self → Display → ℕ → List ℕ → Result Displayed Fault → Self → Type 0 };
+
+    /// Imports a posting file.
+    fn import(&mut self, alloc: Global, file: &[u8]) -> Result<Imported, Fault>
+        requires { Self.is_open self.old ≡ true }
+        ensures { imports self.old file.now result self.new };
+
+    /// Exports the vocabulary.
+    fn export(&mut self, alloc: Global) -> Result<Page, Fault>
+        requires { Self.is_open self.old ≡ true }
+        ensures { exports self.old result self.new };
+
+    /// Displays a scheme in a language.
+    fn display(
+        &mut self,
+        alloc: Global,
+        display: Display,
+        scheme: ResNo,
+        tag: &Tag,
+    ) -> Result<Displayed, Fault>
+        requires { Self.is_open self.old ≡ true }
+        ensures { displays self.old display scheme tag.now result self.new };
+}

@@ -1,0 +1,64 @@
+//! Heads at their bounds.
+use crate::shelf::Shelf;
+use std::alloc::{AllocError, Global};
+use std::process::Abort;
+use thes_base::pipe::Pipe;
+use thes_http::response::Status;
+use thes_http::serve::{Served, serve_one};
+
+fn served(alloc: Global, request: &[u8]) -> Served {
+    let mut reader = Pipe::new(request);
+    let mut writer = Pipe::new(Vec::new(alloc));
+    let mut shelf = Shelf { performed: 0 };
+    serve_one(alloc, &mut reader, &mut writer, &mut shelf)
+}
+
+// A head with a field of so many bytes: 31 more than these.
+fn long_head(alloc: Global, count: u32) -> Result<Vec<u8>, AllocError> {
+    let mut head = Vec::from_slice(alloc, b"GET /totals HTTP/1.1\r\nName: ")?;
+    for _ in 0..count {
+        head.push(b'a')?;
+    }
+    head.extend_from_slice(b"\r\n\r\n")?;
+    Ok(head)
+}
+
+// A head of so many fields, and its end where it is to be whole.
+fn wide_head(alloc: Global, count: u32, end: &[u8]) -> Result<Vec<u8>, AllocError> {
+    let mut head = Vec::from_slice(alloc, b"GET /totals HTTP/1.1\r\n")?;
+    for _ in 0..count {
+        head.extend_from_slice(b"Name: value\r\n")?;
+    }
+    head.extend_from_slice(end)?;
+    Ok(head)
+}
+
+fn expect(rt: &impl Abort, alloc: Global, head: Result<Vec<u8>, AllocError>, end: Served) {
+    match head {
+        Ok(head) => assert_eq!(rt; served(alloc, &head), end),
+        Err(_) => assert!(rt; false),
+    }
+}
+
+#[test]
+fn a_head_of_8192_bytes_is_read(rt: HostRuntime) {
+    let alloc = rt.alloc();
+    let fine = Served::Answered(Status::Fine);
+    let bad = Served::Answered(Status::BadRequest);
+    expect(&rt, alloc, long_head(alloc, 8_159), fine);
+    expect(&rt, alloc, long_head(alloc, 8_160), fine);
+    expect(&rt, alloc, long_head(alloc, 8_161), bad);
+    expect(&rt, alloc, long_head(alloc, 100_000), bad);
+}
+
+#[test]
+fn a_head_of_64_lines_is_read(rt: HostRuntime) {
+    let alloc = rt.alloc();
+    let fine = Served::Answered(Status::Fine);
+    let bad = Served::Answered(Status::BadRequest);
+    expect(&rt, alloc, wide_head(alloc, 64, b"\r\n"), fine);
+    expect(&rt, alloc, wide_head(alloc, 65, b"\r\n"), bad);
+    expect(&rt, alloc, wide_head(alloc, 64, b""), Served::Cut);
+    expect(&rt, alloc, wide_head(alloc, 64, b"Name: val"), Served::Cut);
+    expect(&rt, alloc, wide_head(alloc, 65, b""), bad);
+}

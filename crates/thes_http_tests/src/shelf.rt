@@ -1,0 +1,85 @@
+//! A service that keeps nothing but a count.
+ghost use Rattle.std.specs.Prelude.{true};
+
+use std::alloc::Global;
+use thes_base::fault::{Fault, Refusal};
+use thes_base::number::ResNo;
+use thes_base::request::{Answer, Command};
+use thes_base::text::Tag;
+use thes_exchange::desk::{Desk, ViewLine, Viewed};
+use thes_exchange::request::Query;
+use thes_http::service::{Display, Displayed, Imported, Page, Service};
+
+/// A service that withdraws and imports whatever it is asked to, counts that, and refuses all else. It has one scheme,
+/// whose number is 1.
+#[derive(Drop)]
+pub struct Shelf {
+    pub performed: u32,
+}
+
+impl Desk for Shelf {
+    ghost performs = { λ _ _ _ _. Unit {0} };
+
+    ghost shows = { λ _ _ _ _. Unit {0} };
+
+    ghost is_open = { λ _. true };
+
+    fn perform(&mut self, command: &Command) -> Result<Answer, Fault> {
+        match command {
+            Command::Withdraw(_) => {
+                self.performed = self.performed.saturating_add(1);
+                Ok(Answer::Number(self.performed))
+            }
+            _ => Ok(Answer::No(Refusal::SameResource)),
+        }
+    }
+
+    fn show(&mut self, alloc: Global, query: &Query) -> Result<Viewed, Fault> {
+        match query {
+            Query::Totals => {
+                let line = b"{\"accepted\":0,\"standing\":0,\"withdrawn\":0}\n";
+                Ok(Viewed::Line(ViewLine::new(Vec::from_slice(alloc, line)?)))
+            }
+            _ => Ok(Viewed::No(Refusal::UnknownResource)),
+        }
+    }
+
+    fn is_open(&self) -> bool {
+        true
+    }
+}
+
+impl Service for Shelf {
+    ghost imports = { λ _ _ _ _. Unit {0} };
+
+    ghost exports = { λ _ _ _. Unit {0} };
+
+    ghost displays = { λ _ _ _ _ _ _. Unit {0} };
+
+    fn import(&mut self, alloc: Global, file: &[u8]) -> Result<Imported, Fault> {
+        if file.is_empty() {
+            return Ok(Imported::Malformed);
+        }
+        self.performed = self.performed.saturating_add(1);
+        Ok(Imported::Outcomes(Page::new(Vec::from_slice(alloc, file)?)))
+    }
+
+    fn export(&mut self, alloc: Global) -> Result<Page, Fault> {
+        Ok(Page::new(Vec::from_slice(alloc, b"<a:b> <a:c> <a:d> .\n")?))
+    }
+
+    fn display(
+        &mut self,
+        alloc: Global,
+        _display: Display,
+        scheme: ResNo,
+        tag: &Tag,
+    ) -> Result<Displayed, Fault> {
+        if scheme.get() == 1 {
+            let text = tag.as_str().as_bytes();
+            Ok(Displayed::Lines(Page::new(Vec::from_slice(alloc, text)?)))
+        } else {
+            Ok(Displayed::No(Refusal::UnknownResource))
+        }
+    }
+}

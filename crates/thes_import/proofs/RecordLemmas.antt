@@ -1,0 +1,71 @@
+-- Records of a file, field by field and one after another.
+use Rattle.std.proofs.Common.{◌≡◌, ◌∙◌, ◌↔◌, sym, ap, refl, subst, ℕ, zero, suc, ◌+◌, ◌<◌, Bool, true, false, List, [], ◌∷◌, ◌++◌, length, get_or, map, take, drop, Option, None, Some, IsTrue, arith, rules, true≢false}
+use Rattle.std.specs.Prelude.{slice_get, IsSome, MatchBool, option_map}
+use Rattle.std.specs.List.{AllZip}
+use Rattle.std.proofs.lemmas.List.{map-append, take_more}
+use Rattle.std.proofs.lemmas.Option.{slice_get-get_or}
+use Rattle.csv.specs.Records.{Row as Record, field_at, fields_of}
+use Rattle.thes_import.specs.declared.row.Row.{Row}
+use Rattle.thes_import.specs.PostingFile.{BeginsWithHeader, HasRecords, IsPostingFile, IsRow, header}
+
+pub field_there : (fs : List (List ℕ)) (i : ℕ) → field_at fs i ≡ slice_get fs i
+unfolding field_at
+field_there [] i = refl
+field_there (f ∷ fs) zero = refl
+field_there (f ∷ fs) (suc i) = field_there fs i
+
+pub field_is_some : {X : Type 0} (o : Option X) (f : X → List ℕ) (fs : List (List ℕ)) (i : ℕ) → option_map f o ≡ field_at fs i → i < length fs → IsSome o
+field_is_some None f fs i e below = absurd (let bad : None ≡ Some (get_or fs i []) = e ∙ field_there fs i ∙ slice_get-get_or fs i [] below in cc)
+field_is_some (Some x) f fs i e below = search rules
+
+pub field_value : {X : Type 0} (o : Option X) (f : X → List ℕ) (fs : List (List ℕ)) (i : ℕ) (x : X) → option_map f o ≡ field_at fs i → o ≡ Some x → slice_get fs i ≡ Some (f x)
+field_value o f fs i x e is = sym (field_there fs i) ∙ sym e ∙ ap (option_map f) is
+
+pub three : (fs : List (List ℕ)) (a b c : List ℕ) → length fs ≡ 3 → slice_get fs 0 ≡ Some a → slice_get fs 1 ≡ Some b → slice_get fs 2 ≡ Some c → fs ≡ a ∷ b ∷ c ∷ []
+three [] a b c n e f g = absurd (omega arith)
+three (x ∷ []) a b c n e f g = absurd (omega arith)
+three (x ∷ y ∷ []) a b c n e f g = absurd (omega arith)
+three (x ∷ y ∷ z ∷ []) a b c n e f g = cc
+three (x ∷ y ∷ z ∷ w ∷ fs) a b c n e f g = absurd (omega arith)
+
+pub third_of : (fs : List (List ℕ)) (a b c d : List ℕ) → slice_get fs 2 ≡ Some d → fs ≡ a ∷ b ∷ c ∷ [] → d ≡ c
+third_of fs a b c d at e = let q : Some d ≡ Some c = sym at ∙ ap (λ (gs : List (List ℕ)). slice_get gs 2) e in cc
+
+pub header_first : (rs : List Record) (r : Record) (b : Bool) → 0 < length rs → r ≡ get_or rs 0 r → IsTrue b ↔ (fields_of r ≡ header) → MatchBool b (BeginsWithHeader (map fields_of rs)) (¬ BeginsWithHeader (map fields_of rs))
+header_first [] r b some at is = absurd (omega arith)
+header_first (x ∷ rs) r true some at is = (map fields_of rs, ap (λ (f : List (List ℕ)). f ∷ map fields_of rs) (ap fields_of (sym at) ∙ is.0 refl))
+header_first (x ∷ rs) r false some at is = λ w.
+    let same : fields_of x ≡ header = (let q : fields_of x ∷ map fields_of rs ≡ header ∷ w.0 = w.1 in cc) in
+    true≢false (sym (is.1 (ap fields_of at ∙ same)))
+
+zip_push : (xs : List (List (List ℕ))) (ys : List Row) (x : List (List ℕ)) (y : Row) → AllZip IsRow xs ys → IsRow x y → AllZip IsRow (xs ++ x ∷ []) (ys ++ y ∷ [])
+zip_push [] [] x y each one = (one, tt)
+zip_push [] (w ∷ ys) x y each one = absurd each
+zip_push (v ∷ xs) [] x y each one = absurd each
+zip_push (v ∷ xs) (w ∷ ys) x y each one = (each.0, zip_push xs ys x y each.1 one)
+
+pub rows_more : (rs : List Record) (i : ℕ) (r : Record) (old new : List Row) (row : Row) → i < length rs → r ≡ get_or rs i r → AllZip IsRow (map fields_of (take i rs)) old → IsRow (fields_of r) row → new ≡ old ++ row ∷ [] → AllZip IsRow (map fields_of (take (i + 1) rs)) new
+rows_more rs i r old new row below at so_far one e =
+    let taken : take (i + 1) rs ≡ take i rs ++ r ∷ [] = take_more rs i r below ∙ ap (λ z. take i rs ++ z ∷ []) (sym at) in
+    let records : map fields_of (take (i + 1) rs) ≡ map fields_of (take i rs) ++ fields_of r ∷ [] = ap (map fields_of) taken ∙ map-append fields_of (take i rs) (r ∷ []) in
+    subst (λ (xs : List (List (List ℕ))). AllZip IsRow xs new) (sym records) (subst (AllZip IsRow (map fields_of (take i rs) ++ fields_of r ∷ [])) (sym e) (zip_push (map fields_of (take i rs)) old (fields_of r) row so_far one))
+
+-- Whole files.
+
+pub some_record : (rs : List Record) → BeginsWithHeader (map fields_of rs) → 0 < length rs
+some_record [] w = absurd (let bad : [] ≡ header ∷ w.0 = w.1 in cc)
+some_record (r ∷ rs) w = omega arith
+
+pub begins_so : (b : Bool) (P : Type 0) → b ≡ true → MatchBool b P (¬ P) → P
+begins_so true P e m = m
+begins_so false P e m = absurd (true≢false (sym e))
+
+pub begins_not : (b : Bool) (P : Type 0) → b ≡ false → MatchBool b P (¬ P) → ¬ P
+begins_not true P e m = absurd (true≢false e)
+begins_not false P e m = m
+
+pub file_read : (bytes : List ℕ) (rs rest : List Record) (rows : List Row) → HasRecords bytes (map fields_of rs) → BeginsWithHeader (map fields_of rs) → rest ≡ drop 1 rs → AllZip IsRow (map fields_of rest) rows → IsPostingFile bytes rows
+file_read bytes [] rest rows has w e each = absurd (let bad : [] ≡ header ∷ w.0 = w.1 in cc)
+file_read bytes (r ∷ rs) rest rows has w e each =
+    let tails : map fields_of rs ≡ w.0 = (let q : fields_of r ∷ map fields_of rs ≡ header ∷ w.0 = w.1 in cc) in
+    record { records = w.0; read = subst (HasRecords bytes) w.1 has; each = subst (λ (xs : List (List (List ℕ))). AllZip IsRow xs rows) (ap (map fields_of) e ∙ tails) each }

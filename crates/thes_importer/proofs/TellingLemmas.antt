@@ -1,0 +1,67 @@
+-- What a report tells after one row more.
+use Rattle.std.proofs.Common.{◌≡◌, ◌∙◌, ◌+◌, ◌++◌, ◌∷◌, [], ℕ, List, Bool, true, false, refl, sym, ap, cond, length, append_assoc, append-nil, arith}
+use Rattle.std.specs.Prelude.{codes, count_by}
+use Rattle.std.proofs.lemmas.List.Sums.{sum_by-cons, sum_by_push}
+use Rattle.thes_base.specs.declared.request.Answer.TheVariants as reply
+use Rattle.thes_importer.specs.Outcomes.{Tells, counts_of, is_again, is_new, is_refused, outcome_line, outcome_lines, outcomes_text, row_count}
+use Rattle.thes_importer.specs.declared.outcome.Outcome.{Outcome}
+use Rattle.thes_importer.specs.declared.outcome.Outcome.TheVariants as outcome
+use Rattle.thes_importer.specs.declared.report.Counts.{Counts}
+use Rattle.thes_importer.specs.declared.report.Report.{Report}
+
+lines_more : (line : ℕ → Outcome → List ℕ) (lines : ℕ → List Outcome → List ℕ) → ((n : ℕ) → lines n [] ≡ []) → ((n : ℕ) (o : Outcome) (os : List Outcome) → lines n (o ∷ os) ≡ line n o ++ lines (n + 1) os)
+    → (n : ℕ) (os : List Outcome) (o : Outcome) → lines n (os ++ o ∷ []) ≡ lines n os ++ line (n + length os) o
+lines_more line lines none one n [] o =
+    let e : n ≡ n + 0 = omega arith in
+    one n o [] ∙ ap (λ (l : List ℕ). line n o ++ l) (none (n + 1)) ∙ append-nil (line n o) ∙ ap (λ (k : ℕ). line k o) e ∙ ap (λ (l : List ℕ). l ++ line (n + 0) o) (sym (none n))
+lines_more line lines none one n (x ∷ os) o =
+    let e : n + 1 + length os ≡ n + length (x ∷ os) = omega arith in
+    one n x (os ++ o ∷ []) ∙ ap (λ (l : List ℕ). line n x ++ l) (lines_more line lines none one (n + 1) os o) ∙ sym (append_assoc (line n x) (lines (n + 1) os) (line (n + 1 + length os) o))
+    ∙ ap (λ (l : List ℕ). l ++ line (n + 1 + length os) o) (sym (one n x os)) ∙ ap (λ (k : ℕ). lines n (x ∷ os) ++ line k o) e
+
+-- the text of one row more
+pub text_more : (os : List Outcome) (o : Outcome) → outcomes_text (os ++ o ∷ []) ≡ outcomes_text os ++ outcome_line (1 + length os) o
+text_more os o =
+    ap (λ (l : List ℕ). codes "row,outcome,number\n" ++ l) (lines_more outcome_line outcome_lines (λ n. refl) (λ n x xs. refl) 1 os o)
+    ∙ sym (append_assoc (codes "row,outcome,number\n") (outcome_lines 1 os) (outcome_line (1 + length os) o))
+
+-- each outcome counts once
+one_count : (o : Outcome) → cond (is_new o) 1 0 + cond (is_again o) 1 0 + cond (is_refused o) 1 0 ≡ 1
+one_count (outcome.Told (reply.Number n)) = refl
+one_count (outcome.Told (reply.Again n)) = refl
+one_count (outcome.Told reply.Done) = refl
+one_count (outcome.Told (reply.Moved k)) = refl
+one_count (outcome.Told (reply.Parted n k)) = refl
+one_count (outcome.Told (reply.No refusal)) = refl
+one_count (outcome.Bad fault) = refl
+
+pub row_count_all : (os : List Outcome) → row_count (counts_of os) ≡ length os
+row_count_all [] = refl
+row_count_all (o ∷ os) =
+    let a : count_by is_new (o ∷ os) ≡ cond (is_new o) 1 0 + count_by is_new os = sum_by-cons (λ (x : Outcome). cond (is_new x) 1 0) o os in
+    let b : count_by is_again (o ∷ os) ≡ cond (is_again o) 1 0 + count_by is_again os = sum_by-cons (λ (x : Outcome). cond (is_again x) 1 0) o os in
+    let d : count_by is_refused (o ∷ os) ≡ cond (is_refused o) 1 0 + count_by is_refused os = sum_by-cons (λ (x : Outcome). cond (is_refused x) 1 0) o os in
+    let one = one_count o in
+    let rest = row_count_all os in
+    omega (arith, a, b, d, one, rest)
+
+pub counts_more : (os : List Outcome) (o : Outcome) (counts : Counts) → counts.posted ≡ count_by is_new os + cond (is_new o) 1 0 → counts.again ≡ count_by is_again os + cond (is_again o) 1 0 → counts.refused ≡ count_by is_refused os + cond (is_refused o) 1 0 → counts ≡ counts_of (os ++ o ∷ [])
+counts_more os o counts a b d = λ i. record {
+  posted = (a ∙ sym (sum_by_push (λ (x : Outcome). cond (is_new x) 1 0) os o)) i;
+  again = (b ∙ sym (sum_by_push (λ (x : Outcome). cond (is_again x) 1 0) os o)) i;
+  refused = (d ∙ sym (sum_by_push (λ (x : Outcome). cond (is_refused x) 1 0) os o)) i;
+}
+
+-- one line more
+pub tells_more : (os : List Outcome) (o : Outcome) (old new : Report) (n : ℕ) (line : List ℕ) → Tells os old → n ≡ row_count old.counts + 1 → line ≡ outcome_line n o → new.text.items ≡ old.text.items ++ line → new.counts ≡ counts_of (os ++ o ∷ []) → Tells (os ++ o ∷ []) new
+tells_more os o old new n line tells e is grown counts = record {
+  text =
+      let c : row_count old.counts ≡ length os = ap row_count tells.counts ∙ row_count_all os in
+      let k : n ≡ 1 + length os = omega (arith, e, c) in
+      grown ∙ ap (λ (l : List ℕ). l ++ line) tells.text ∙ ap (λ (l : List ℕ). outcomes_text os ++ l) (is ∙ ap (λ (m : ℕ). outcome_line m o) k) ∙ sym (text_more os o);
+  counts = counts;
+}
+
+-- a report with the same text and counts tells the same
+pub tells_same : (os : List Outcome) (old new : Report) → Tells os old → new.text.items ≡ old.text.items → new.counts ≡ old.counts → Tells os new
+tells_same os old new tells text counts = record { text = text ∙ tells.text; counts = counts ∙ tells.counts }

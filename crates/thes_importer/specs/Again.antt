@@ -1,0 +1,49 @@
+-- What a posting file that is imported again is answered with.
+use Rattle.std.specs.Prelude.{◌≡◌, ◌⊎◌, ℕ, List}
+use Rattle.std.specs.List.{AllZip}
+use Rattle.thes_base.specs.declared.data.Limits.{Limits}
+use Rattle.thes_base.specs.declared.request.Answer.{Answer}
+use Rattle.thes_base.specs.declared.request.Answer.TheVariants as reply
+use Rattle.thes_base.specs.declared.request.Command.{Command}
+use Rattle.thes_base.specs.declared.request.Command.TheVariants as request
+use Rattle.thes_base.specs.Legal.{Legal}
+use Rattle.thes_base.specs.Machine.{Run, Step}
+use Rattle.thes_base.specs.Refusals.{Setting}
+use Rattle.thes_base.specs.State.{State}
+use Rattle.thes_rows.specs.Cells.{Raw}
+use Rattle.thes_import.specs.declared.row.Row.{Row}
+use Rattle.thes_office.specs.Office.{ChangesNothing}
+use Rattle.thes_importer.specs.Imports.{PerformsRows}
+use Rattle.thes_importer.specs.Outcomes.{IsOutcome}
+use Rattle.thes_importer.specs.declared.outcome.Outcome.{Outcome}
+use Rattle.thes_importer.specs.declared.outcome.Outcome.TheVariants as outcome
+
+-- What was answered with a posting's number is answered with that number again; any other answer changes nothing.
+abbrev pub IsAnswerAgain : Answer → Answer → Type 0
+IsAnswerAgain (reply.Number n) b = b ≡ reply.Again n
+IsAnswerAgain (reply.Again n) b = b ≡ reply.Again n
+IsAnswerAgain a b = ChangesNothing b
+
+-- a row that is no posting has the same fault
+abbrev pub IsAgain : Outcome → Outcome → Type 0
+IsAgain (outcome.Told a) (outcome.Told b) = IsAnswerAgain a b
+IsAgain (outcome.Bad f) (outcome.Bad g) = g ≡ f
+IsAgain o p = ⊥
+
+-- Rows that are performed twice, with no other request between, change no table the second time, and each row that was
+-- accepted is answered with the same posting.
+abbrev pub ImportsAgain : Type 0
+ImportsAgain =
+    (limits : Limits) (old mid new : Raw) (rows : List Row) (first second : List Outcome)
+    → AllZip IsOutcome rows first → PerformsRows limits old rows first mid
+    → AllZip IsOutcome rows second → PerformsRows limits mid rows second new
+    → AllZip IsAgain first second × (new ≡ mid)
+
+-- A posting that was answered with a number is answered with that number again, whatever requests come between.
+abbrev pub AnswersAgain : Type 0
+AnswersAgain =
+    (setting : Setting) (s mid t u : State) (key rec : List ℕ) (concept n : ℕ) (a b : Answer)
+    → (a ≡ reply.Number n) ⊎ (a ≡ reply.Again n)
+    → Step setting s (request.Post key rec concept) a mid
+    → (commands : List Command) (answers : List Answer) → Run setting mid commands answers t → Legal setting.base t
+    → Step setting t (request.Post key rec concept) b u → (b ≡ reply.Again n) × (u ≡ t)

@@ -1,0 +1,5 @@
+pub mod Outcomes
+pub mod Imports
+pub mod Again
+pub mod Whole
+pub mod Engine

@@ -1,0 +1,104 @@
+//! What the rows of a posting file were answered with, in order.
+ghost use Rattle.std.specs.Prelude.{◌≡◌, ◌≤◌, ◌<◌, ◌+◌, ◌^◌, ◌++◌, [], ◌∷◌, List, IfOk, OnOk, vec_len, vec_capacity};
+ghost use Rattle.thes_importer.specs.Outcomes.{IsBlank, Tells, counts_of, no_counts, row_count};
+ghost use Rattle.thes_importer.specs.declared.outcome.Outcome.{Outcome};
+
+use crate::outcome::{LINE_LIMIT, Outcome};
+use std::alloc::{AllocError, Global};
+use thes_base::request::Answer;
+
+/// How many rows there were, by what they were answered with.
+#[derive(Clone, Copy, Debug, PartialEq, Eq)]
+pub struct Counts {
+    /// Rows that made a posting.
+    pub posted: usize,
+    /// Rows whose posting was there already.
+    pub again: usize,
+    /// Rows that were refused, or are no postings.
+    pub refused: usize,
+}
+
+impl Counts {
+    // Before any row.
+    pub(crate) fn new() -> Counts
+        ensures { result ≡ no_counts }
+    {
+        Counts {
+            posted: 0,
+            again: 0,
+            refused: 0,
+        }
+    }
+
+    /// Returns how many rows there were.
+    pub fn rows(self) -> usize
+        requires { row_count self < 2 ^ 64 }
+        ensures { result ≡ row_count self }
+    {
+        self.posted + self.again + self.refused
+    }
+
+    // Counts a row.
+    fn add(&mut self, outcome: Outcome)
+        requires { row_count self.old + 1 < 2 ^ 64 }
+        ensures { (outcomes : List Outcome) → self.old ≡ counts_of outcomes
+            → self.new ≡ counts_of (outcomes ++ outcome ∷ []) }
+    {
+        match outcome {
+            Outcome::Told(Answer::Number(_)) => self.posted += 1,
+            Outcome::Told(Answer::Again(_)) => self.again += 1,
+            _ => self.refused += 1,
+        }
+    }
+}
+
+/// What rows were answered with.
+#[derive(Debug, Drop)]
+pub struct Report {
+    /// A heading and a line for each row; nothing at all where memory ran out before the first row.
+    pub text: Vec<u8>,
+    pub counts: Counts,
+}
+
+impl Report {
+    /// Makes a report without a heading.
+    pub(crate) fn blank(alloc: Global) -> Report
+        ensures { IsBlank result }
+    {
+        Report {
+            text: Vec::new(alloc),
+            counts: Counts::new(),
+        }
+    }
+
+    /// Makes a report of no rows.
+    pub(crate) fn new(alloc: Global) -> Result<Report, AllocError>
+        ensures { IfOk result (Tells []) }
+    {
+        let text = Vec::from_slice(alloc, b"row,outcome,number\n".as_slice())?;
+        Ok(Report {
+            text,
+            counts: Counts::new(),
+        })
+    }
+
+    /// Makes room for a line.
+    pub(crate) fn make_room(&mut self) -> Result<(), AllocError>
+        ensures text { self.new.text.items ≡ self.old.text.items }
+        ensures counts { self.new.counts ≡ self.old.counts }
+        ensures room { OnOk result (vec_len self.new.text + LINE_LIMIT ≤ vec_capacity self.new.text) }
+    {
+        self.text.try_reserve(LINE_LIMIT)
+    }
+
+    /// Adds the line of a row, for which there is room.
+    pub(crate) fn push(&mut self, outcome: Outcome)
+        requires room { vec_len self.old.text + LINE_LIMIT ≤ vec_capacity self.old.text }
+        requires fits { row_count self.old.counts + 1 < 2 ^ 64 }
+        ensures { (outcomes : List Outcome) → Tells outcomes self.old
+            → Tells (outcomes ++ outcome ∷ []) self.new }
+    {
+        outcome.push_line(self.counts.rows() + 1, &mut self.text);
+        self.counts.add(outcome);
+    }
+}

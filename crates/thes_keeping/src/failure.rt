@@ -1,0 +1,34 @@
+//! Why a keeper isn't filled.
+
+use std::alloc::AllocError;
+use thes_base::fault::{Fault, ReadStop};
+
+/// Why a keeper isn't filled.
+#[derive(Clone, Copy, Debug, PartialEq, Eq)]
+pub enum Failure {
+    Memory,
+    Form,
+    Known,
+    Keeper(Fault),
+}
+
+impl From<AllocError> for Failure {
+    fn from(_: AllocError) -> Failure {
+        Failure::Memory
+    }
+}
+
+impl From<ReadStop> for Failure {
+    fn from(stop: ReadStop) -> Failure {
+        match stop {
+            ReadStop::OutOfMemory => Failure::Memory,
+            ReadStop::Form(_) => Failure::Form,
+        }
+    }
+}
+
+impl From<Fault> for Failure {
+    fn from(fault: Fault) -> Failure {
+        Failure::Keeper(fault)
+    }
+}

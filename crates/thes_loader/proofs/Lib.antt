@@ -1,0 +1,4 @@
+pub mod Making
+pub mod Tables
+pub mod Following
+pub mod Turns

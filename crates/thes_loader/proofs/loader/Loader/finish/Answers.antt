@@ -1,0 +1,31 @@
+use Rattle.std.proofs.Common.{sym, subst, inr}
+use Rattle.std.specs.Prelude.{Result}
+use Rattle.thes_base.specs.declared.fault.Fault.{Fault}
+use Rattle.thes_load.specs.declared.handed.LoadedParts.{LoadedParts}
+use Rattle.thes_load.specs.declared.stage.Stage.{Stage}
+use Rattle.thes_load.specs.Ending.{Ends}
+use Rattle.thes_load.specs.Progress.{HasRead}
+use Rattle.thes_load.proofs.EndSteps.{stopped_end}
+use Rattle.thes_loader.specs.Reading.{Reading}
+use Rattle.thes_loader.proofs.Making.{made, parts_legal}
+use Rattle.thes_loader.proofs.Turns.{not_stopped}
+use Rattle.thes_loader.proofs.loader.Loader.finish.Goals as goal
+
+pub of_parts-core-requires-clause-legal : goal.of_parts-core-requires-clause-legal
+of_parts-core-requires-clause-legal c =
+    parts_legal c.self.inside.stage c.in-Ok.parts c.self.invariant (not_stopped c.self.inside.stage c.in_default.not-Stopped)
+    (λ raw has. subst (λ (answer : Result LoadedParts Fault). Ends raw answer) c.in-Ok.is (c.in_ok-parts-in_default.ensures raw has))
+
+pub returns-in-Ok-clause-ok : goal.returns-in-Ok-clause-ok
+returns-in-Ok-clause-ok c = λ raw knows.
+    made raw c.in-Ok.parts c.of_parts-core.result c.of_parts-core.ensures.holds c.of_parts-core.ensures.base
+    (subst (λ (answer : Result LoadedParts Fault). Ends raw answer) c.in-Ok.is (c.in_ok-parts-in_default.ensures raw (subst (λ (r : Reading). HasRead r.stage raw) (sym c.self.view_is) knows)))
+
+pub returns-in-Stopped-clause-err : goal.returns-in-Stopped-clause-err
+returns-in-Stopped-clause-err c = inr (λ raw knows.
+    stopped_end c.in-Stopped.fault c.in-Stopped.field-1 raw
+    (subst (λ (s : Stage). HasRead s raw) c.in-Stopped.is (subst (λ (r : Reading). HasRead r.stage raw) (sym c.self.view_is) knows)))
+
+pub returns-in-Err-clause-err : goal.returns-in-Err-clause-err
+returns-in-Err-clause-err c = inr (λ raw knows.
+    subst (λ (answer : Result LoadedParts Fault). Ends raw answer) c.in-Err.is (c.in_ok-parts-in_default.ensures raw (subst (λ (r : Reading). HasRead r.stage raw) (sym c.self.view_is) knows)))

@@ -1,0 +1,5 @@
+pub mod Reading
+pub mod Loaded
+pub mod Feeding
+pub mod Handed
+pub mod Sorted

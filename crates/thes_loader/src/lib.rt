@@ -1,0 +1,9 @@
+//! A core that is made of the rows of a store.
+#![tactic(auto)]
+
+pub mod laws;
+pub mod loader;
+pub mod rows;
+
+pub use loader::Loader;
+pub use rows::{Row, Rows, from_rows};

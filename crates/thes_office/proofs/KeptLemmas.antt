@@ -1,0 +1,182 @@
+-- What an office keeps after each of its calls.
+use Rattle.std.proofs.Common.{◌≡◌, ◌⊎◌, ◌++◌, ◌∷◌, [], ℕ, List, Bool, true, false, refl, sym, ap, subst, ◌∙◌, inl, inr, append_assoc, append-nil, take, drop, take-append-drop}
+use Rattle.std.specs.Prelude.{Result, Ok, Err}
+use Rattle.std.specs.Borrow.{Bor}
+use Rattle.thes_base.specs.declared.data.Limits.{Limits}
+use Rattle.thes_base.specs.declared.fault.Fault.{Fault}
+use Rattle.thes_base.specs.declared.fault.Fault.TheVariants as faults
+use Rattle.thes_base.specs.declared.request.Answer.{Answer}
+use Rattle.thes_base.specs.declared.request.Command.{Command}
+use Rattle.thes_base.specs.Machine.{Run, Step}
+use Rattle.thes_base.specs.Refusals.{Setting}
+use Rattle.thes_base.specs.State.{State}
+use Rattle.thes_base.proofs.MachineLemmas.{legal_is_in_order}
+use Rattle.thes_rows.specs.Cells.{Raw}
+use Rattle.thes_core.specs.Kept as core
+use Rattle.thes_tables.specs.Loads.{Loads}
+use Rattle.thes_office.specs.Asks.{IsRead}
+use Rattle.thes_office.specs.Office.{AreLimits, Goes, GoesOn, IsConsistent, IsCopy, Kept, Performed, RanAll, RanPart, Readied, Same, Steps, setting}
+use Rattle.thes_office.specs.Shows.{Shows}
+use Rattle.thes_office.proofs.ShowLemmas.{faulty_shows_none, shows_one, shows_same}
+use Rattle.thes_office.proofs.StepLemmas.{copies_over}
+
+module _ {K : Type 0} (rows : K → Raw) (is_up : K → Type 0) where
+  -- after a load
+  pub kept_loaded : (old new : K) (copy : core.Kept) (limits : Limits) → AreLimits limits → copy.spent ≡ false → (is_up new → IsCopy (rows old) limits copy) → (is_up new → rows new ≡ rows old) → IsConsistent rows is_up new copy limits false
+  kept_loaded old new copy limits few unspent copies same = record {
+    few = few;
+    shows = λ up. let is = here up in (copy.setting.base, is.state, is.shows);
+    unspent = λ e. unspent;
+    copies = λ e. here;
+  }
+    where
+      here : is_up new → IsCopy (rows new) limits copy
+      here up = copies_over (rows old) (rows new) limits copy (same up) (copies up)
+
+  -- after a call that leaves the tables and the copy
+  pub kept_over : (old new : K) (copy : core.Kept) (limits : Limits) (stale stale' : Bool) → IsConsistent rows is_up old copy limits stale → (stale' ≡ false → stale ≡ false) → (is_up new → is_up old) → (is_up new → rows new ≡ rows old) → IsConsistent rows is_up new copy limits stale'
+  kept_over old new copy limits stale stale' kept fresh was same = record {
+    few = kept.few;
+    shows = λ up. let x = kept.shows (was up) in (x.0, x.1, shows_same (rows old) (rows new) x.0 x.1 (same up) x.2);
+    unspent = λ e. kept.unspent (fresh e);
+    copies = λ e up. copies_over (rows old) (rows new) limits copy (same up) (kept.copies (fresh e) (was up));
+  }
+
+  -- after a request that was answered
+  pub kept_served : (new : K) (copy copy' : core.Kept) (limits : Limits) (stale : Bool) (old : Raw) (command : Command) (answer : Answer) → AreLimits limits → (is_up new → copy.setting.limits ≡ limits) → stale ≡ copy'.spent
+      → (is_up new → Steps copy.setting.limits old command answer (rows new)) → (is_up new → copy'.spent ≡ false → IsCopy (rows new) copy.setting.limits copy') → IsConsistent rows is_up new copy' limits stale
+  kept_served new copy copy' limits stale old command answer few set is steps copies = record {
+    few = few;
+    shows = λ up. let x = steps up in (x.base, x.after, x.shows);
+    unspent = λ e. sym is ∙ e;
+    copies = λ e up. subst (λ (l : Limits). IsCopy (rows new) l copy') (set up) (copies up (sym is ∙ e));
+  }
+
+  -- a load that a fault ends, in a store that shows a state
+  pub goes_unread : (failed : K → ℕ) (old new : K) (copy : core.Kept) (limits : Limits) (stale : Bool) (fault : Fault) (desk : Kept K) → IsRead rows is_up failed old new (let x : Result core.Kept Fault = Err fault in x)
+      → (is_up new → (fault ≡ faults.OutOfMemory) ⊎ ((fault ≡ faults.Store) ⊎ Loads (rows old) (Err fault))) → IsConsistent rows is_up old copy limits stale → stale ≡ true → record { keeper = old; limits = limits; stale = stale } ≡ desk
+      → Goes rows is_up failed desk (record { keeper = new; limits = limits; stale = stale }) (let x : Result (Unit {0}) Fault = Err fault in x)
+  goes_unread failed old new copy limits stale fault desk read none kept is same =
+      subst (λ (d : Kept K). Goes rows is_up failed d (record { keeper = new; limits = limits; stale = stale }) (let x : Result (Unit {0}) Fault = Err fault in x)) same
+      record {
+        limits = refl;
+        was = read.was;
+        later = read.later;
+        count = tt;
+        store = read.store;
+        stale = λ e. is;
+        fault = λ up. only up (none up);
+      }
+    where
+      only : is_up new → (fault ≡ faults.OutOfMemory) ⊎ ((fault ≡ faults.Store) ⊎ Loads (rows old) (Err fault)) → (fault ≡ faults.OutOfMemory) ⊎ (fault ≡ faults.Store)
+      only up (inl e) = inl e
+      only up (inr (inl e)) = inr e
+      only up (inr (inr faulty)) = let x = kept.shows (read.was up) in absurd (faulty_shows_none (rows old) fault faulty x.0 x.1 x.2)
+
+  -- a core that is handed out after it was made fresh
+  pub readied : (failed : K → ℕ) (old : Kept K) (keeper : K) (copy : core.Kept) (limits : Limits) (stale : Bool) (desk : Kept K) (lent : Bor core.Kept) → IsConsistent rows is_up keeper copy limits stale → record { keeper = keeper; limits = limits; stale = stale } ≡ desk
+      → Goes rows is_up failed old desk (let x : Result (Unit {0}) Fault = Ok tt in x) → Same rows is_up old desk → desk.stale ≡ false → lent.now ≡ copy → Readied rows is_up failed old (Ok lent) (record { keeper = keeper; limits = limits; stale = stale })
+  readied failed old keeper copy limits stale desk lent kept is goes same fresh lends =
+      subst (Readied rows is_up failed old (Ok lent)) (sym is) record {
+        goes = record { limits = goes.limits; was = goes.was; later = goes.later; count = goes.count; store = tt; stale = tt; fault = λ up. tt };
+        same = same;
+        fresh = fresh;
+        shown = record {
+          unspent = ap (λ (k : core.Kept). k.spent) lends ∙ kept.unspent now;
+          copies = λ up.
+              subst (λ (d : Kept K). IsCopy (rows d.keeper) d.limits lent.now) is
+              (subst (λ (k : core.Kept). IsCopy (rows keeper) limits k) (sym lends)
+              (kept.copies now (subst (λ (d : Kept K). is_up d.keeper) (sym is) up)));
+        };
+      }
+    where
+      now : stale ≡ false
+      now = ap (λ (d : Kept K). d.stale) is ∙ fresh
+
+-- Runs.
+
+run_push : (s : Setting) (commands : List Command) (answers : List Answer) (a b c : State) (command : Command) (answer : Answer) → Run s a commands answers b → Step s b command answer c → Run s a (commands ++ command ∷ []) (answers ++ answer ∷ []) c
+run_push s [] [] a b c command answer run step = (c, subst (λ (x : State). Step s x command answer c) run step, refl)
+run_push s [] (x ∷ answers) a b c command answer run step = absurd run
+run_push s (x ∷ commands) [] a b c command answer run step = absurd run
+run_push s (x ∷ commands) (y ∷ answers) a b c command answer run step = (run.0, run.1, run_push s commands answers run.0 b c command answer run.2 step)
+
+-- one more request
+pub goes_on_by : (limits : Limits) (first mid last : Raw) (commands : List Command) (answers : List Answer) (command : Command) (answer : Answer) → GoesOn limits first commands answers mid → Steps limits mid command answer last → GoesOn limits first (commands ++ command ∷ []) (answers ++ answer ∷ []) last
+goes_on_by limits first mid last commands answers command answer run step =
+    let one = shows_one mid step.base run.base step.before run.after step.showed run.shows in
+    let shows = subst (λ (b : List ℕ). Shows last b step.after) one.0 step.shows in
+    record {
+      base = run.base;
+      before = run.before;
+      after = step.after;
+      showed = run.showed;
+      run = run_push (setting run.base limits) commands answers run.before run.after step.after command answer run.run
+          (subst (λ (p : List ℕ × State). Step (setting p.0 limits) p.1 command answer step.after) (λ i. (one.0 i, one.1 i)) step.step);
+      shows = shows;
+      in_order = legal_is_in_order run.base step.after shows.legal;
+    }
+
+module _ {K : Type 0} (rows : K → Raw) (is_up : K → Type 0) (failed : K → ℕ) where
+  -- A run has come so far.
+  pub record Running (old now : Kept K) (done : List Command) (before after : List Answer) : Type 0 where
+    pub limits : now.limits ≡ old.limits
+    pub was : is_up now.keeper → is_up old.keeper
+    pub count : failed now.keeper ≡ failed old.keeper
+    pub given : List Answer
+    pub kept : after ≡ before ++ given
+    pub goes_on : is_up now.keeper → GoesOn old.limits (rows old.keeper) done given (rows now.keeper)
+
+  -- it begins
+  pub starts : (keeper : K) (copy : core.Kept) (limits : Limits) (stale : Bool) (desk : Kept K) (before : List Answer) → IsConsistent rows is_up keeper copy limits stale → record { keeper = keeper; limits = limits; stale = stale } ≡ desk → Running desk desk [] before before
+  starts keeper copy limits stale desk before consistent is =
+      subst (λ (d : Kept K). Running d d [] before before) is record {
+        limits = refl;
+        was = λ up. up;
+        count = refl;
+        given = [];
+        kept = sym (append-nil before);
+        goes_on = λ up. let x = consistent.shows up in record {
+          base = x.0;
+          before = x.1;
+          after = x.1;
+          showed = x.2;
+          run = refl;
+          shows = x.2;
+          in_order = legal_is_in_order x.0 x.1 x.2.legal;
+        };
+      }
+
+  -- one more request
+  pub running_on : (old mid new : Kept K) (done more : List Command) (before after last : List Answer) (command : Command) (answer : Answer) → Running old mid done before after → Goes rows is_up failed mid new (let x : Result Answer Fault = Ok answer in x)
+      → Performed rows is_up mid command (Ok answer) new → last ≡ after ++ answer ∷ [] → more ≡ done ++ command ∷ [] → Running old new more before last
+  running_on old mid new done more before after last command answer r goes performed pushed grown = record {
+    limits = goes.limits ∙ r.limits;
+    was = λ up. r.was (goes.was up);
+    count = goes.count ∙ r.count;
+    given = r.given ++ answer ∷ [];
+    kept = pushed ∙ ap (λ (l : List Answer). l ++ answer ∷ []) r.kept ∙ append_assoc before r.given (answer ∷ []);
+    goes_on = λ up.
+        let step = subst (λ (l : Limits). Steps l (rows mid.keeper) command answer (rows new.keeper)) r.limits (performed up) in
+        subst (λ (l : List Command). GoesOn old.limits (rows old.keeper) l (r.given ++ answer ∷ []) (rows new.keeper)) (sym grown)
+        (goes_on_by old.limits (rows old.keeper) (rows mid.keeper) (rows new.keeper) done r.given command answer (r.goes_on (goes.was up)) step);
+  }
+
+  -- it is over
+  pub ran_all : (old now : Kept K) (commands done : List Command) (before after : List Answer) → Running old now done before after → done ≡ commands → RanAll rows is_up old commands before after now
+  ran_all old now commands done before after r same = record {
+    answers = r.given;
+    kept = r.kept;
+    goes_on = λ up. subst (λ (l : List Command). GoesOn old.limits (rows old.keeper) l r.given (rows now.keeper)) same (r.goes_on up);
+  }
+
+  -- it stops before a request
+  pub ran_some : (old now last : Kept K) (commands : List Command) (n : ℕ) (before after told : List Answer) → Running old now (take n commands) before after → (is_up last.keeper → is_up now.keeper) → (is_up last.keeper → rows last.keeper ≡ rows now.keeper) → told ≡ after → RanPart rows is_up old commands before told last
+  ran_some old now last commands n before after told r was same is = record {
+    done = take n commands;
+    left = drop n commands;
+    answers = r.given;
+    all = sym (take-append-drop n commands);
+    kept = is ∙ r.kept;
+    goes_on = λ up. subst (λ (l : Raw). GoesOn old.limits (rows old.keeper) (take n commands) r.given l) (sym (same up)) (r.goes_on (was up));
+  }

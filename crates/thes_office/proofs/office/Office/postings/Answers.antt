@@ -1,0 +1,30 @@
+use Rattle.std.proofs.Common.{ap, sym, ◌∙◌}
+use Rattle.thes_office.specs.Listing.{rows_at}
+use Rattle.thes_office.specs.Office.{Kept}
+use Rattle.thes_office.proofs.ShowLemmas.{shows_same}
+use Rattle.thes_office.proofs.StepLemmas.{copies_own}
+use Rattle.thes_office.proofs.KeptLemmas.{kept_over}
+use Rattle.thes_office.proofs.ListLemmas.{some_none}
+use Rattle.thes_office.proofs.office.Office.postings.Goals as goal
+
+pub returns-in-Err-clause-lists : goal.returns-in-Err-clause-lists
+returns-in-Err-clause-lists g c up base s x =
+    some_none g.S.PostingSink.gives (g.K.Keeper.rows c.refresh.new.self.keeper) c.args.concept c.args.sink.now c.args.sink.now c.in-Err.fault (rows_at s c.args.concept)
+
+pub list-requires-clause-copies : goal.list-requires-clause-copies
+list-requires-clause-copies g c up =
+    copies_own (g.K.Keeper.rows c.self.inside.keeper) c.self.inside.limits c.self.inside.core (c.self.invariant.copies (ap (λ (d : Kept _). d.stale) c.self.view_is ∙ c.in_default.ensures.fresh) up)
+
+pub invariant_of-self : goal.invariant_of-self
+invariant_of-self g c =
+    kept_over g.K.Keeper.rows g.K.Keeper.is_up c.self.inside.keeper c.list.new.keeper c.self.inside.core c.self.inside.limits c.self.inside.stale c.self.inside.stale
+    c.self.invariant (λ e. e) c.list.ensures.asks.was c.list.ensures.asks.same
+
+pub invariant_of-self-in-Err-list : goal.invariant_of-self-in-Err-list
+invariant_of-self-in-Err-list g c =
+    kept_over g.K.Keeper.rows g.K.Keeper.is_up c.self.inside.keeper c.list.new.keeper c.self.inside.core c.self.inside.limits c.self.inside.stale c.eq-self-inside.result
+    c.self.invariant (λ e. ap (λ (d : Kept _). d.stale) c.self.view_is ∙ c.in_default.ensures.fresh) c.list.ensures.asks.was c.list.ensures.asks.same
+
+pub returns-in-Err-list-clause-lists : goal.returns-in-Err-list-clause-lists
+returns-in-Err-list-clause-lists g c up base s x =
+    c.in-Err-list.ensures.lists up base s (shows_same (g.K.Keeper.rows c.list.new.keeper) (g.K.Keeper.rows c.self.inside.keeper) base s (sym (c.list.ensures.asks.same up)) x)

@@ -1,0 +1,4 @@
+pub mod Shows
+pub mod Asks
+pub mod Listing
+pub mod Office

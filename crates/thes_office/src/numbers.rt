@@ -1,0 +1,53 @@
+//! The numbers of postings that a keeper hands out.
+ghost use Rattle.std.specs.Prelude.{◌≡◌, []};
+
+use std::alloc::Global;
+use std::marker::Model;
+use thes_base::fault::Fault;
+use thes_base::number::PostNo;
+use thes_rows::rows::PostingRow;
+use thes_store::sink::PostingSink;
+
+/// Keeps the numbers of the rows that come, in their order.
+#[derive(Debug, Drop)]
+pub struct Numbers {
+    list: Vec<PostNo>,
+}
+
+impl Model for Numbers {
+    ghost use Rattle.std.specs.Prelude.{List, ℕ};
+
+    ghost Value = { List ℕ };
+
+    ghost view = { λ a. a.list.items };
+}
+
+impl Numbers {
+    /// Starts without numbers.
+    pub fn new(alloc: Global) -> Numbers
+        ensures { result ≡ [] }
+    {
+        Numbers {
+            list: Vec::new(alloc),
+        }
+    }
+
+    /// Hands the numbers out.
+    pub fn into_list(self) -> Vec<PostNo>
+        ensures { result.items ≡ self }
+    {
+        let Numbers { list } = self;
+        list
+    }
+}
+
+impl PostingSink for Numbers {
+    ghost use Rattle.thes_office.specs.Asks.{PushesNumber};
+
+    ghost gives = { PushesNumber };
+
+    fn posting(&mut self, row: &PostingRow) -> Result<(), Fault> {
+        self.list.push(row.number)?;
+        Ok(())
+    }
+}

@@ -1,0 +1,182 @@
+//! The office.
+ghost use Rattle.std.specs.Prelude.{⊤, ◌≡◌, ◌⊎◌, ◌<◌, false, Err, OnOk, IfOk, IfErr, List, ℕ};
+ghost use Rattle.thes_base.specs.Headline.{IsInOrder};
+ghost use Rattle.thes_base.specs.State.{State};
+ghost use Rattle.thes_store.specs.Causes.{most};
+ghost use Rattle.thes_tables.specs.Loads.{Loads};
+ghost use Rattle.thes_office.specs.Office.{Goes, Performed, Ran, Same};
+ghost use Rattle.thes_office.specs.Shows.{Shows};
+
+use crate::facts::facts_of;
+use crate::loading::load;
+use crate::serving::perform_at;
+use std::alloc::Global;
+use std::marker::Model;
+use thes_base::data::Limits;
+use thes_base::fault::Fault;
+use thes_base::request::{Answer, Command};
+use thes_core::Core;
+use thes_store::keeper::Keeper;
+
+/// Answers requests over a keeper of the tables, of whose vocabulary, links and sums it holds a copy.
+#[derive(Drop)]
+pub struct Office<K: Keeper> {
+    pub(crate) alloc: Global,
+    pub(crate) keeper: K,
+    pub(crate) core: Core,
+    pub(crate) limits: Limits,
+    pub(crate) stale: bool,
+}
+
+impl<K: Keeper> Model for Office<K> {
+    ghost use Rattle.std.specs.Coded.{codes};
+    ghost use Rattle.thes_office.specs.Office.{Kept, IsConsistent};
+
+    ghost Value = { Kept K };
+
+    ghost coded = { Prim.hlevel (codes, K.code) };
+
+    ghost view = { λ a. record { keeper = a.keeper; limits = a.limits; stale = a.stale } };
+
+    ghost invariant = { λ a. IsConsistent K.rows K.is_up a.keeper a.core a.limits a.stale };
+}
+
+impl<K: Keeper> Office<K> {
+    ghost use Rattle.thes_office.specs.contracts.office.Office.{the_row};
+    ghost use mathlib.Core.Option.{none};
+    ghost use denote.Follow.{follows_so};
+    ghost use Rattle.std.specs.Borrow.{sem};
+    ghost use Rattle.thes_office.specs.Office.{Readied};
+
+    /// Opens an office over a keeper of tables that show a state. A fault hands the keeper back; another one than want of
+    /// memory or of the store is the verdict on the rows.
+    pub fn start(alloc: Global, mut keeper: K, limits: Limits) -> Result<Office<K>, (Fault, K)>
+        ensures limits { IfOk result (λ o. o.limits ≡ limits) }
+        ensures fresh { IfOk result (λ o. o.stale ≡ false) }
+        ensures same { IfOk result (λ o. K.is_up o.keeper → K.rows o.keeper ≡ K.rows keeper) }
+        ensures back { IfErr result (λ e. K.is_up e.1 → K.rows e.1 ≡ K.rows keeper) }
+        ensures shows { IfOk result (λ o. K.is_up o.keeper
+            → (base : List ℕ) × (s : State) × Shows (K.rows o.keeper) base s) }
+        ensures verdict { IfErr result (λ e. K.is_up e.1
+            → (e.0 ≡ Fault.OutOfMemory) ⊎ (e.0 ≡ Fault.Store) ⊎ Loads (K.rows keeper) (Err e.0)) }
+        ensures store { IfErr result (λ e. e.0 ≡ Fault.Store → (K.failed keeper < K.failed e.1)
+            ⊎ (K.failed keeper ≡ most)) }
+    {
+        match load(alloc, &mut keeper, limits) {
+            Ok(core) => Ok(Office {
+                alloc,
+                keeper,
+                core,
+                limits,
+                stale: false,
+            }),
+            Err(fault) => Err((fault, keeper)),
+        }
+    }
+
+    /// Tells whether the copy may differ from the tables. They show a state that is in order, also where it does.
+    pub fn is_stale(&self) -> bool
+        ensures value { result ≡ self.now.stale }
+        ensures shows { K.is_up self.now.keeper
+            → (base : List ℕ) × (s : State) × Shows (K.rows self.now.keeper) base s × IsInOrder base s }
+    {
+        self.stale
+    }
+
+    /// Hands the keeper back.
+    pub fn into_keeper(self) -> K
+        ensures { result ≡ self.keeper }
+    {
+        let Office {
+            alloc: _,
+            keeper,
+            core: _,
+            limits: _,
+            stale: _,
+        } = self;
+        keeper
+    }
+
+    // Loads again if the copy is stale.
+    pub(crate) fn refresh(&mut self) -> Result<(), Fault>
+        ensures goes { Goes K.rows K.is_up K.failed self.old self.new result }
+        ensures same { Same K.rows K.is_up self.old self.new }
+        ensures fresh { OnOk result (self.new.stale ≡ false) }
+    {
+        if !self.stale {
+            return Ok(());
+        }
+        match load(self.alloc, &mut self.keeper, self.limits) {
+            Ok(core) => self.core = core,
+            Err(fault) => return Err(fault),
+        }
+        self.stale = false;
+        Ok(())
+    }
+
+    // Performs a request where the copy is the tables' state.
+    fn serve(&mut self, command: &Command) -> Result<Answer, Fault>
+        requires { self.old.stale ≡ false }
+        ensures goes { Goes K.rows K.is_up K.failed self.old self.new result }
+        ensures performed { Performed K.rows K.is_up self.old command.now result self.new }
+    {
+        let facts = match facts_of(self.alloc, &mut self.keeper, command) {
+            Ok(facts) => facts,
+            Err(fault) => {
+                self.stale = fault == Fault::Store;
+                return Err(fault);
+            }
+        };
+        match perform_at(&mut self.keeper, &mut self.core, command, &facts) {
+            Ok(answer) => {
+                self.stale = self.core.is_spent();
+                Ok(answer)
+            }
+            Err(fault) => {
+                self.stale = fault == Fault::Store;
+                Err(fault)
+            }
+        }
+    }
+
+    /// Performs a request, and answers it as the machine does. A fault leaves the tables; what was committed is never answered
+    /// by a fault, also where memory for the copy runs out: then the copy is stale.
+    pub fn perform(&mut self, command: &Command) -> Result<Answer, Fault>
+        ensures goes { Goes K.rows K.is_up K.failed self.old self.new result }
+        ensures performed { Performed K.rows K.is_up self.old command.now result self.new }
+    {
+        self.refresh()?;
+        self.serve(command)
+    }
+
+    /// Performs requests in order, and adds their answers. For every list of requests the answers and the tables are those of
+    /// the machine; each posting accepted and not withdrawn then stands at exactly one live concept, the one its recorded
+    /// moves lead to from its first; the live concepts' counts add up to postings accepted less withdrawn; and the triples
+    /// meet the conditions of SKOS. A fault stops it: what was answered before stands.
+    pub fn run(&mut self, commands: &[Command], answers: &mut Vec<Answer>) -> Result<(), Fault>
+        ensures goes { Goes K.rows K.is_up K.failed self.old self.new result }
+        ensures ran { Ran K.rows K.is_up self.old commands.now answers.old.items answers.new.items result self.new }
+    {
+        // What the office keeps is known from here on.
+        let _stale = self.stale;
+        for command in commands {
+            if answers.try_reserve(1).is_err() {
+                return Err(Fault::OutOfMemory);
+            }
+            match self.perform(command) {
+                Ok(answer) => answers.push(answer).unwrap(),
+                Err(fault) => return Err(fault),
+            }
+        }
+        Ok(())
+    }
+
+    /// Hands out a core that holds the tables' state. It loads first where the copy may differ from the tables.
+    pub fn ready(&mut self) -> Result<&Core, Fault>
+        ensures* after { sem 𝓛 (follows_so (the_row K.row K.Keeper) (the_row K.row K.Keeper) self.entry.ghost_name none (λ _ _. ⊤)
+            (λ n. Readied K.rows K.is_up K.failed self.old result n)) }
+    {
+        self.refresh()?;
+        Ok(&self.core)
+    }
+}

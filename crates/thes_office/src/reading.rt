@@ -1,0 +1,129 @@
+//! What an office reads of postings.
+ghost use Rattle.std.specs.Prelude.{◌≡◌, false, IfOk};
+ghost use Rattle.thes_base.specs.Resources.{IsConcept};
+ghost use Rattle.thes_base.specs.Refusals.{unless_known};
+ghost use Rattle.thes_base.specs.Rows.{accepted};
+ghost use Rattle.thes_base.specs.Views.{totals_of};
+ghost use Rattle.thes_office.specs.Asks.{Asks, InShown, TellsHistory};
+ghost use Rattle.thes_office.specs.Listing.{Lists};
+ghost use Rattle.thes_office.specs.Office.{Goes, IsCopy, Same};
+
+use crate::office::Office;
+use thes_base::data::{History, ResourceKind, Totals};
+use thes_base::fault::{Fault, Refusal};
+use thes_base::number::{PostNo, ResNo};
+use thes_core::Core;
+use thes_store::keeper::{Keeper, Posting};
+use thes_store::sink::PostingSink;
+
+// The history of a posting.
+fn history_at<K: Keeper>(keeper: &mut K, number: PostNo) -> Result<Option<History>, Fault>
+    ensures told { IfOk result (λ told. K.is_up keeper.new → TellsHistory (K.rows keeper.old) number told) }
+    ensures asks { Asks K.rows K.is_up K.failed keeper.old keeper.new result }
+{
+    match keeper.posting(number) {
+        Ok(Some(told)) => {
+            let Posting { row, moves } = told;
+            Ok(Some(History {
+                number: row.number,
+                key: row.key,
+                rec: row.rec,
+                first: row.first,
+                moves,
+                withdrawn: row.withdrawn,
+            }))
+        }
+        Ok(None) => Ok(None),
+        Err(fault) => Err(fault),
+    }
+}
+
+// What refuses that the number is a concept's, live or dead.
+fn judge_concept(core: &Core, concept: ResNo) -> Option<Refusal>
+    requires { core.now.spent ≡ false }
+    ensures { let resources = core.now.resources in
+        unless_known (IsConcept resources) resources concept accepted result }
+{
+    match core.resource(concept).copied() {
+        None => Some(Refusal::UnknownResource),
+        Some(resource) if resource.kind != ResourceKind::Concept => Some(Refusal::WrongKind),
+        Some(_) => None,
+    }
+}
+
+// Hands the postings at a concept to a sink, or says what refuses that.
+fn list<K: Keeper, S: PostingSink>(
+    keeper: &mut K,
+    core: &Core,
+    concept: ResNo,
+    sink: &mut S,
+) -> Result<Option<Refusal>, Fault>
+    requires unspent { core.now.spent ≡ false }
+    requires copies { K.is_up keeper.old → IsCopy (K.rows keeper.old) core.now.setting.limits core.now }
+    ensures lists { K.is_up keeper.new → Lists S.gives (K.rows keeper.old) concept sink.old result sink.new }
+    ensures asks { Asks K.rows K.is_up K.failed keeper.old keeper.new result }
+{
+    if let Some(refusal) = judge_concept(core, concept) {
+        return Ok(Some(refusal));
+    }
+    match keeper.standing(concept, sink) {
+        Ok(()) => Ok(None),
+        Err(fault) => Err(fault),
+    }
+}
+
+impl<K: Keeper> Office<K> {
+    /// Tells how many postings were accepted, how many of them are withdrawn, and how many stand.
+    pub fn totals(&mut self) -> Result<Totals, Fault>
+        ensures goes { Goes K.rows K.is_up K.failed self.old self.new result }
+        ensures same { Same K.rows K.is_up self.old self.new }
+        ensures told { IfOk result (λ totals. K.is_up self.new.keeper
+            → InShown (K.rows self.new.keeper) (λ s. totals ≡ totals_of s.histories)) }
+    {
+        if let Err(fault) = self.refresh() {
+            return Err(fault);
+        }
+        Ok(self.core.totals())
+    }
+
+    /// Returns the history of a posting.
+    pub fn posting(&mut self, number: PostNo) -> Result<Option<History>, Fault>
+        ensures goes { Goes K.rows K.is_up K.failed self.old self.new result }
+        ensures same { Same K.rows K.is_up self.old self.new }
+        ensures told { IfOk result (λ told. K.is_up self.new.keeper
+            → TellsHistory (K.rows self.new.keeper) number told) }
+    {
+        self.refresh()?;
+        match history_at(&mut self.keeper, number) {
+            Ok(told) => Ok(told),
+            Err(fault) => {
+                self.stale = fault == Fault::Store;
+                Err(fault)
+            }
+        }
+    }
+
+    /// Hands the postings that stand at a concept to a sink, in the order of their numbers; or answers what refuses that.
+    /// After a fault the sink has the first ones of them.
+    pub fn postings<S: PostingSink>(
+        &mut self,
+        concept: ResNo,
+        sink: &mut S,
+    ) -> Result<Option<Refusal>, Fault>
+        ensures goes { Goes K.rows K.is_up K.failed self.old self.new result }
+        ensures same { Same K.rows K.is_up self.old self.new }
+        ensures lists { K.is_up self.new.keeper
+            → Lists S.gives (K.rows self.new.keeper) concept sink.old result sink.new }
+    {
+        if let Err(fault) = self.refresh() {
+            return Err(fault);
+        }
+        match list(&mut self.keeper, &self.core, concept, sink) {
+            Ok(refusal) => Ok(refusal),
+            Err(fault) => {
+                self.stale = fault == Fault::Store;
+                Err(fault)
+            }
+        }
+    }
+}

@@ -1,0 +1,46 @@
+//! One request to tables that show a state.
+ghost use Rattle.std.specs.Prelude.{◌≡◌, false, IfOk, OnErr};
+ghost use Rattle.thes_store.specs.Causes.{HasCause};
+ghost use Rattle.thes_office.specs.Asks.{TellsFacts};
+ghost use Rattle.thes_office.specs.Office.{AreLimits, IsCopy, Steps};
+
+use thes_base::fault::Fault;
+use thes_base::request::{Answer, Command};
+use thes_core::{Core, Facts, Verdict};
+use thes_store::keeper::Keeper;
+
+/// Performs a request where the core holds the state that the tables show. What was committed is answered; where memory for
+/// the core runs out then, the core is spent.
+pub fn perform_at<K: Keeper>(
+    keeper: &mut K,
+    core: &mut Core,
+    command: &Command,
+    facts: &Facts,
+) -> Result<Answer, Fault>
+    requires unspent { core.old.spent ≡ false }
+    requires few { K.is_up keeper.old → AreLimits core.old.setting.limits }
+    requires copies { K.is_up keeper.old → IsCopy (K.rows keeper.old) core.old.setting.limits core.old }
+    requires told { K.is_up keeper.old → TellsFacts (K.rows keeper.old) command.now facts.now }
+    ensures steps { let limits = core.old.setting.limits in IfOk result (λ answer.
+        K.is_up keeper.new → Steps limits (K.rows keeper.old) command.now answer (K.rows keeper.new)) }
+    ensures copies { K.is_up keeper.new → core.new.spent ≡ false
+        → IsCopy (K.rows keeper.new) core.old.setting.limits core.new }
+    ensures same { OnErr result (K.is_up keeper.new → K.rows keeper.new ≡ K.rows keeper.old) }
+    ensures kept { OnErr result (core.new ≡ core.old) }
+    ensures was { K.is_up keeper.new → K.is_up keeper.old }
+    ensures cause { HasCause (K.failed keeper.old) (K.failed keeper.new) result }
+{
+    match core.decide(command, facts)? {
+        Verdict::Settled(answer) => Ok(answer),
+        Verdict::Accepted(answer, delta) => {
+            if let Err(fault) = keeper.commit(&delta) {
+                return Err(fault);
+            }
+            // That its texts have their forms is known from here on.
+            command.forms();
+            // No fault comes after this line.
+            let _ = core.apply(command, facts);
+            Ok(answer)
+        }
+    }
+}

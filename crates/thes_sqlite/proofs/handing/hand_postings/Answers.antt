@@ -1,0 +1,33 @@
+use Rattle.std.proofs.Common.{◌≡◌, ◌∙◌, List, [], ◌∷◌, map, ap, sym, subst, refl, arith}
+use Rattle.std.specs.Prelude.{Result}
+use Rattle.thes_base.specs.declared.fault.Fault.{Fault}
+use Rattle.thes_rows.specs.declared.rows.PostingRow.{PostingRow}
+use Rattle.thes_rows.specs.Cells.{posting_cells}
+use Rattle.thes_store.specs.Handing.{Takes, Hands}
+use Rattle.thes_store.proofs.Places.{take_whole}
+use Rattle.thes_store.proofs.Handed.{part_taken, part_refused}
+use Rattle.thes_sqlite.proofs.LookedUp.{row_at, same_length}
+use Rattle.thes_sqlite.proofs.handing.hand_postings.Goals as goal
+
+pub loop-row-preserved : goal.loop-row-preserved
+loop-row-preserved g c = λ xs is.
+    let i = c.loop-row.row-index in
+    let h = row_at posting_cells xs c.args.rows.now i c.row-item.result is c.loop-row-test.true c.row-item.is in
+    part_taken g.P.PostingSink.gives (λ (l : List PostingRow). l) (λ xs ys. refl) xs i h.0 c.args.sink.now c.loop-row.sink
+    c.hand_posting.new.sink c.hand_posting.result c.in_default.field-0 h.1 h.2 (c.loop-row.invariant xs is)
+    c.in_default.is (c.hand_posting.ensures.hands h.0 h.3)
+
+pub returns-in-Err-clause-hands : goal.returns-in-Err-clause-hands
+returns-in-Err-clause-hands g c = λ xs is.
+    let i = c.loop-row.row-index in
+    let h = row_at posting_cells xs c.args.rows.now i c.row-item.result is c.loop-row-test.true c.row-item.is in
+    part_refused g.P.PostingSink.gives (λ (l : List PostingRow). l) (λ xs ys. refl) xs i h.0 c.in-Err.fault c.args.sink.now
+    c.loop-row.sink c.hand_posting.new.sink c.hand_posting.result h.1 h.2 (c.loop-row.invariant xs is) c.in-Err.is
+    (c.hand_posting.ensures.hands h.0 h.3)
+
+pub returns-clause-hands : goal.returns-clause-hands
+returns-clause-hands g c = λ xs is.
+    let ended = c.loop-row-test.false in
+    let same = same_length posting_cells xs c.args.rows.now is in
+    subst (λ (l : List PostingRow). Takes g.P.PostingSink.gives c.args.sink.now l c.loop-row.sink)
+    (take_whole xs c.loop-row.row-index (omega (arith, ended, same))) (c.loop-row.invariant xs is)

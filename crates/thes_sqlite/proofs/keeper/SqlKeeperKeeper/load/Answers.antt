@@ -1,0 +1,13 @@
+use Rattle.std.proofs.Common.{List, subst}
+use Rattle.std.specs.Prelude.{Option}
+use Rattle.thes_base.specs.declared.fault.Table.{Table}
+use Rattle.thes_rows.specs.declared.cells.Cell.{Cell}
+use Rattle.thes_store.specs.Handing.{Hands}
+use Rattle.thes_store.proofs.Handed.{all_tables}
+use Rattle.thes_sqlite.specs.Kept.{raw_of_keeper}
+use Rattle.thes_sqlite.proofs.keeper.SqlKeeperKeeper.load.Goals as goal
+
+pub returns-clause-hands : goal.returns-clause-hands
+returns-clause-hands g c = λ up.
+    subst (λ (l : List (Table × Option (List Cell))). Hands g.R.RowSink.gives c.args.sink.now l c.hand_tables.result c.hand_tables.new.sink)
+    (all_tables (raw_of_keeper g.S.Store c.args.self.now)) (c.hand_tables.ensures.hands up)

@@ -1,0 +1,19 @@
+-- The cells of values in a database that may hold anything.
+use Rattle.std.specs.Prelude.{negsuc, if◌then◌else◌}
+use Rattle.std.specs.Str.{is_utf8}
+use Rattle.sqlite.specs.declared.types.Value.{Value}
+use Rattle.sqlite.specs.declared.types.Value.TheVariants.{Null, Int, Text, Real, Blob}
+use Rattle.thes_rows.specs.declared.cells.Cell.{Cell}
+use Rattle.thes_rows.specs.declared.cells.Cell.TheVariants as cells
+
+-- the number that stands for a value that no row of a store has: no column takes it
+abbrev pub no_cell : Cell
+no_cell = cells.Int (negsuc 0)
+
+-- A number, a text of UTF-8 and null are cells. No other value is one.
+abbrev pub cell_of : Value → Cell
+cell_of Null = cells.Null
+cell_of (Int n) = cells.Int n
+cell_of (Text t) = if is_utf8 t then cells.Text t else no_cell
+cell_of (Real x) = no_cell
+cell_of (Blob b) = no_cell

@@ -1,0 +1,28 @@
+//! The faults of a keeper.
+ghost use Rattle.std.specs.Prelude.{◌≡◌};
+ghost use Rattle.thes_sqlite.specs.Faults.{IsKeeperFault, IsCounted};
+
+use sqlite::{Error, ErrorCode};
+use thes_base::fault::Fault;
+
+/// Tells which fault an error is: want of memory, or one of the store.
+pub(crate) fn fault_of(error: Error) -> Fault
+    ensures { IsKeeperFault result }
+{
+    match error {
+        Error::SqliteFailure(ErrorCode::OutOfMemory) => Fault::OutOfMemory,
+        _ => Fault::Store,
+    }
+}
+
+/// Counts a fault, if it is one of the store. At its greatest value the count stays.
+pub(crate) fn count_fault(failures: &mut u64, fault: Fault) -> Fault
+    requires { IsKeeperFault fault }
+    ensures same { result ≡ fault }
+    ensures counted { IsCounted failures.old failures.new result }
+{
+    if fault == Fault::Store {
+        *failures = failures.saturating_add(1);
+    }
+    fault
+}

@@ -1,0 +1,157 @@
+//! Times a keeper, for `bench/store`: so many postings as its first word says, a commit each; a merge that moves a tenth of
+//! them; so many look-ups by key and by number as its second word says; and a load. With a third word the
+//! postings and the merge are also made in the new database that it names. It prints what it timed, in microseconds.
+#![tactic(auto)]
+
+ghost use Rattle.thes_keeping.specs.Posted.{AwaitsPosting};
+
+mod database;
+mod failure;
+mod reading;
+
+use crate::database::{store_all, store_merge};
+use crate::failure::Failure;
+use crate::reading::{find_all, load_all, tell_all};
+use sqlite::{Alter, Connection};
+use std::alloc::Global;
+use std::process::ExitCode;
+use std::rt::{Clock, Env, HostRuntime};
+use std::time::Instant;
+use thes_base::number::ResNo;
+use thes_base::text::Base;
+use thes_keeping::keeping::{CONCEPTS, merge, post_all};
+use thes_sql::create::create_tables;
+use thes_store::keeper::Keeper;
+use thes_store::mem::MemKeeper;
+
+// Prints the time since a moment.
+fn tell<R: Clock + Print>(rt: &R, name: &str, begun: &Instant) -> Result<(), Failure> {
+    let micros = begun.elapsed(rt)?.as_micros();
+    println!(rt; "{name} {micros}")?;
+    Ok(())
+}
+
+// The number that a word spells, or 0.
+fn number_in(word: &str) -> u32 {
+    match ResNo::read(word) {
+        Ok(number) => number.get(),
+        Err(_) => 0,
+    }
+}
+
+// The number in a word, or 0 where it is none.
+fn number(words: &[String], place: usize) -> u32 {
+    match words.get(place) {
+        Some(word) => number_in(word.as_str()),
+        None => 0,
+    }
+}
+
+// Times so many posts, and the merge of a tenth of them.
+fn time_commits<R: Clock + Print + Alloc<A = Global>, K: Keeper>(
+    rt: &R,
+    keeper: &mut K,
+    posts: u32,
+) -> Result<(), Failure>
+    requires { AwaitsPosting K.rows K.is_up keeper.old 1 }
+{
+    let (alloc, source, target) = (rt.alloc(), ResNo::new(2), ResNo::new(3));
+    let begun = Instant::now(rt)?;
+    post_all(alloc, keeper, posts)?;
+    tell(rt, "posts", &begun)?;
+    let begun = Instant::now(rt)?;
+    merge(alloc, keeper, source, target, posts, posts / CONCEPTS)?;
+    tell(rt, "merge", &begun)
+}
+
+// Times so many look-ups of each kind, and a load.
+fn time_reads<R: Clock + Print + Alloc<A = Global>, K: Keeper>(
+    rt: &R,
+    keeper: &mut K,
+    posts: u32,
+    looks: u32,
+) -> Result<(), Failure> {
+    let begun = Instant::now(rt)?;
+    let _ = find_all(rt.alloc(), keeper, posts, looks)?;
+    tell(rt, "find", &begun)?;
+    let begun = Instant::now(rt)?;
+    let _ = tell_all(keeper, posts, looks)?;
+    tell(rt, "posting", &begun)?;
+    let begun = Instant::now(rt)?;
+    let _ = load_all(keeper)?;
+    tell(rt, "load", &begun)
+}
+
+// Times a keeper without postings.
+fn time_keeper<R: Clock + Print + Alloc<A = Global>, K: Keeper>(
+    rt: &R,
+    keeper: &mut K,
+    posts: u32,
+    looks: u32,
+) -> Result<(), Failure>
+    requires { AwaitsPosting K.rows K.is_up keeper.old 1 }
+{
+    time_commits(rt, keeper, posts)?;
+    time_reads(rt, keeper, posts, looks)
+}
+
+// Times the keeper in memory.
+fn time_memory<R: Clock + Print + Alloc<A = Global>>(
+    rt: &R,
+    posts: u32,
+    looks: u32,
+) -> Result<(), Failure> {
+    let posts = posts.min(1_000_000);
+    let base = Base::read(rt.alloc(), "http://example.org/")?;
+    let mut keeper = MemKeeper::new(rt.alloc(), base);
+    let timed = time_keeper(rt, &mut keeper, posts, looks);
+    drop(keeper);
+    timed
+}
+
+// Times the same commits in a database.
+fn time_stores<R: Clock + Print + Alloc<A = Global>, S: Alter>(
+    rt: &R,
+    conn: &mut Connection<S>,
+    posts: u32,
+) -> Result<(), Failure> {
+    let alloc = rt.alloc();
+    create_tables(conn, &Base::read(alloc, "http://example.org/")?)?;
+    let begun = Instant::now(rt)?;
+    store_all(alloc, conn, posts)?;
+    tell(rt, "stored", &begun)?;
+    let begun = Instant::now(rt)?;
+    store_merge(alloc, conn, ResNo::new(2), ResNo::new(3), posts)?;
+    tell(rt, "stored_merge", &begun)
+}
+
+// Times a new database.
+fn time_database(rt: &HostRuntime, posts: u32, path: &str) -> Result<(), Failure> {
+    let mut conn = Connection::open(rt, path)?;
+    let timed = time_stores(rt, &mut conn, posts);
+    drop(conn);
+    timed
+}
+
+// Times what the words ask for.
+fn obey(rt: &HostRuntime) -> Result<(), Failure> {
+    let words: Vec<String> = std::env::args(rt)?.collect(rt.alloc())?;
+    let posts = number(words.as_slice(), 1);
+    if posts == 0 {
+        return Ok(());
+    }
+    match words.get(3) {
+        Some(path) => time_database(rt, posts, path.as_str()),
+        None => time_memory(rt, posts, number(words.as_slice(), 2)),
+    }
+}
+
+fn main(rt: HostRuntime) -> ExitCode {
+    match obey(&rt) {
+        Ok(()) => ExitCode::from(0),
+        Err(failure) => {
+            let _ = println!(rt; "{failure:?}");
+            ExitCode::from(3)
+        }
+    }
+}
