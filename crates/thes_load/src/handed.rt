@@ -1,10 +1,13 @@
 //! What is handed in, table by table, and what is answered at the end.
 ghost use Rattle.std.specs.Prelude.{◌≤◌, IfOk};
 ghost use Rattle.thes_rows.specs.Cells.{Raw};
+ghost use Rattle.thes_load.specs.declared.stage.Stage.TheVariants as stage;
 ghost use Rattle.thes_load.specs.Progress.{stage_table, table_no, HasRead, HasRow, HasUnqueried};
 ghost use Rattle.thes_load.specs.Ending.{Ends};
 
 use crate::linked::LinkedVocab;
+use crate::moves::MoveLoad;
+use crate::postings::PlacedPostings;
 use crate::stage::Stage;
 use std::alloc::{AllocError, Global};
 use thes_base::fault::{Fault, Table};
@@ -25,10 +28,16 @@ impl Stage {
         ensures { IfOk result (λ next. HasRow self next table cells.now) }
     {
         let mut stage = self.reach(alloc, table)?;
-        if stage.read(alloc, cells)? {
-            Ok(stage)
-        } else {
-            Ok(Stage::Stopped(Fault::BadStore(table), table))
+        match stage.read(alloc, cells) {
+            Ok(true) => Ok(stage),
+            Ok(false) => {
+                drop(stage);
+                Ok(Stage::Stopped(Fault::BadStore(table), table))
+            }
+            Err(error) => {
+                drop(stage);
+                Err(error)
+            }
         }
     }
 
@@ -39,10 +48,10 @@ impl Stage {
     {
         let stage = self.reach(alloc, table)?;
         if stage.is_stopped() {
-            Ok(stage)
-        } else {
-            Ok(Stage::Stopped(Fault::BadStore(table), table))
+            return Ok(stage);
         }
+        drop(stage);
+        Ok(Stage::Stopped(Fault::BadStore(table), table))
     }
 
     /// Answers what the rows tell, or why they don't load.
@@ -50,16 +59,28 @@ impl Stage {
         ensures { IfOk result (λ answer. (raw : Raw) → HasRead self raw → Ends raw answer) }
     {
         match self.reach(alloc, Table::Move)? {
-            Stage::Move(linked, placed, load) => {
-                if load.close(placed.ats.as_slice()) {
-                    let book = placed.tally.close(load.taken);
-                    Ok(Ok(LoadedParts { linked, book }))
-                } else {
-                    Ok(Err(Fault::BadStore(Table::Move)))
-                }
-            }
+            Stage::Move(linked, placed, load) => Ok(close_moves(linked, placed, load)),
             Stage::Stopped(fault, _) => Ok(Err(fault)),
-            _ => Ok(Err(Fault::BadStore(Table::Move))),
+            other => {
+                drop(other);
+                Ok(Err(Fault::BadStore(Table::Move)))
+            }
         }
+    }
+}
+
+// Ends the rows of move, the last table.
+fn close_moves(
+    linked: LinkedVocab,
+    placed: PlacedPostings,
+    load: MoveLoad,
+) -> Result<LoadedParts, Fault>
+    ensures { (raw : Raw) → HasRead (stage.Move linked placed load) raw → Ends raw result }
+{
+    if load.close(placed.ats.as_slice()) {
+        let book = placed.tally.close(load.taken);
+        Ok(LoadedParts { linked, book })
+    } else {
+        Err(Fault::BadStore(Table::Move))
     }
 }

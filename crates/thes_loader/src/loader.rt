@@ -1,10 +1,11 @@
 //! A core of the rows of a store.
-ghost use Rattle.std.specs.Prelude.{◌≡◌, ◌⊎◌, false, None, Some, Err, IfOk, IfErr};
+ghost use Rattle.std.specs.Prelude.{◌≡◌, ◌⊎◌, false, None, Some, Err, IfOk, IfErr, MatchOption};
 ghost use Rattle.thes_base.specs.declared.fault.Fault.TheVariants as faults;
 ghost use Rattle.thes_rows.specs.Cells.{Raw};
 ghost use Rattle.thes_tables.specs.Loads.{Loads};
 ghost use Rattle.thes_loader.specs.Reading.{IsOfRows};
-ghost use Rattle.thes_loader.specs.Feeding.{IsBegun, KnowsRows, Follows, Feeds};
+ghost use Rattle.thes_load.specs.Progress.{is_stopped};
+ghost use Rattle.thes_loader.specs.Feeding.{IsBegun, IsInTurn, KnowsRows, Follows, Feeds};
 ghost use Rattle.thes_loader.specs.Loaded.{IsLoaded};
 
 use std::alloc::{AllocError, Global};
@@ -70,7 +71,7 @@ impl Loader {
         requires { IsOfRows stage }
         ensures { self.new ≡ record self.old { stage = stage } }
     {
-        self.stage = stage;
+        drop(mem::replace(&mut self.stage, stage));
     }
 
     /// Makes a core of the rows, or answers why they don't load.
@@ -102,22 +103,35 @@ impl Loader {
     }
 }
 
-// What becomes of a stage when a row of a table comes.
+// What a stage becomes where nothing of a table is read any more: it comes late, or a fault was found before.
+fn ended(stage: &Stage, table: Table) -> Option<Stage>
+    ensures { MatchOption result
+        (IsInTurn table stage.now × (is_stopped stage.now ≡ false))
+        (λ new. ((news : _) → Follows table news stage.now new) × IsOfRows new) }
+{
+    if stage.is_past(table) {
+        let at = stage.at();
+        return Some(Stage::Stopped(Fault::BadStore(table), at));
+    }
+    match stage {
+        Stage::Stopped(fault, _) => Some(Stage::Stopped(*fault, table)),
+        _ => None,
+    }
+}
+
+// What becomes of a stage when a row of a table comes. (A stage that is left is handed to `drop`: a proof would end each of
+// its variants at each way out.)
 fn next_row(stage: Stage, alloc: Global, table: Table, row: &[Cell]) -> Result<Stage, AllocError>
     requires { IsOfRows stage }
     ensures follows { IfOk result (Follows table (Some row.now) stage) }
     ensures rows { IfOk result IsOfRows }
 {
-    if stage.is_past(table) {
-        let at = stage.at();
-        return Ok(Stage::Stopped(Fault::BadStore(table), at));
-    }
-    match stage {
-        Stage::Stopped(fault, _) => Ok(Stage::Stopped(fault, table)),
-        reading => {
-            let next = reading.row(alloc, table, row)?;
-            Ok(next)
+    match ended(&stage, table) {
+        Some(ended) => {
+            drop(stage);
+            Ok(ended)
         }
+        None => stage.row(alloc, table, row),
     }
 }
 
@@ -127,16 +141,12 @@ fn next_unqueried(stage: Stage, alloc: Global, table: Table) -> Result<Stage, Al
     ensures follows { IfOk result (Follows table None stage) }
     ensures rows { IfOk result IsOfRows }
 {
-    if stage.is_past(table) {
-        let at = stage.at();
-        return Ok(Stage::Stopped(Fault::BadStore(table), at));
-    }
-    match stage {
-        Stage::Stopped(fault, _) => Ok(Stage::Stopped(fault, table)),
-        reading => {
-            let next = reading.unqueried(alloc, table)?;
-            Ok(next)
+    match ended(&stage, table) {
+        Some(ended) => {
+            drop(stage);
+            Ok(ended)
         }
+        None => stage.unqueried(alloc, table),
     }
 }
 

@@ -5,7 +5,7 @@ use Rattle.thes_load.specs.declared.stage.Stage.TheVariants as stage
 use Rattle.thes_load.specs.Progress.{pushed, HasRead, ReadsRow}
 use Rattle.thes_load.proofs.stage.Stage.row.Goals as goal
 
-pub returns-else-branch : goal.returns-else-branch
-returns-else-branch c =
-    let bad : ReadsRow c.in_ok-stage.stage c.read.new.self c.args.cells.now false = subst (ReadsRow c.in_ok-stage.stage c.read.new.self c.args.cells.now) c.if-branch.false c.in_ok-read.ensures in
+pub returns-in-Ok-false : goal.returns-in-Ok-false
+returns-in-Ok-false c =
+    let bad : ReadsRow c.in_ok-stage.stage c.read.new.self c.args.cells.now false = subst (ReadsRow c.in_ok-stage.stage c.read.new.self c.args.cells.now) c.in-Ok-false.field-0-test c.in-Ok-false.ensures in
     (refl, λ raw h. subst (λ (at : Table). HasRead (stage.Stopped (BadStore at) at) (pushed at c.args.cells.now raw)) c.in_ok-stage.ensures.0 (bad raw (c.in_ok-stage.ensures.1 raw h)))

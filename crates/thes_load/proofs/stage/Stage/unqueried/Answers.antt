@@ -11,7 +11,7 @@ returns-then-is_stopped c =
     let s = c.in_ok-stage.stage in
     (c.in_ok-stage.ensures.0, λ raw h. subst (λ (at : Table). HasRead s (unqueried at raw)) c.in_ok-stage.ensures.0 (stopped_lost s (sym c.is_stopped.ensures ∙ c.if-is_stopped.true) raw (c.in_ok-stage.ensures.1 raw h)))
 
-pub returns-else-is_stopped : goal.returns-else-is_stopped
-returns-else-is_stopped c =
+pub returns : goal.returns
+returns c =
     let s = c.in_ok-stage.stage in
     (refl, λ raw h. subst (λ (at : Table). HasRead (stage.Stopped (BadStore at) at) (unqueried at raw)) c.in_ok-stage.ensures.0 (table_lost s (sym c.is_stopped.ensures ∙ c.if-is_stopped.false) raw (c.in_ok-stage.ensures.1 raw h)))
