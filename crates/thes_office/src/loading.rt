@@ -25,7 +25,10 @@ pub fn load<K: Keeper>(alloc: Global, keeper: &mut K, limits: Limits) -> Result<
             Ok(core) => Ok(core),
             Err(fault) => Err(verdict(fault)),
         },
-        Err(fault) => Err(fault),
+        Err(fault) => {
+            drop(loader);
+            Err(fault)
+        }
     }
 }
 
