@@ -60,6 +60,29 @@ def seconds_of(requests):
     return best
 
 
+def least(words, runs=RUNS, **streams):
+    """The seconds of CPU of the fastest of some runs of the program, none of which may meet a fault."""
+    best = None
+    for _ in range(runs):
+        before = spent()
+        ran = subprocess.run([PROGRAM, *map(str, words)], stdout=subprocess.DEVNULL, check=False, **streams)
+        seconds = spent() - before
+        if ran.returncode > 1:
+            sys.exit(f"{PROGRAM} {' '.join(map(str, words))} ended with {ran.returncode}")
+        best = seconds if best is None else min(best, seconds)
+    return best
+
+
+def store_of(requests, path):
+    """Makes a store in a file by these requests, none of which may be refused, and returns the seconds of CPU."""
+    script = "".join(requests).encode()
+    before = spent()
+    ran = subprocess.run([PROGRAM, "--db", path, "script"], input=script, stdout=subprocess.DEVNULL, check=False)
+    if ran.returncode != 0:
+        sys.exit(f"the requests of {path} were not all performed: status {ran.returncode}")
+    return spent() - before
+
+
 def build():
     """Builds the program, so that no run is timed with its build."""
     subprocess.run([LAUNCHER, "--help"], stdout=subprocess.DEVNULL, check=True)
