@@ -3,3 +3,4 @@ pub mod Loaded
 pub mod Feeding
 pub mod Handed
 pub mod Sorted
+pub mod Arranged

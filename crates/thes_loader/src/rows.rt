@@ -6,6 +6,7 @@ ghost use Rattle.thes_tables.specs.Loads.{Loads};
 ghost use Rattle.thes_store.specs.Handing.{Takes, handed_of};
 ghost use Rattle.thes_loader.specs.Feeding.{KnowsRows, Feeds};
 ghost use Rattle.thes_loader.specs.Loaded.{IsLoaded};
+ghost use Rattle.thes_loader.specs.Arranged.{HoldsRows, AreRefused};
 ghost use Rattle.thes_loader.specs.Sorted.{first_number, table_of, raw_of, IsSorted, AreSorted};
 
 use crate::loader::Loader;
@@ -135,13 +136,16 @@ fn read_rows(alloc: Global, rows: &Rows, limits: Limits) -> Result<Loader, Fault
     Ok(loader)
 }
 
-/// Makes a core of lists of rows, or answers why they don't load. Numbered tables are put in the order of their numbers first.
+/// Makes a core of lists of rows, or answers why they don't load. Numbered tables are put in the order of their numbers first,
+/// so that the answer doesn't depend on the order of the lists.
 pub fn from_rows(alloc: Global, rows: Rows, limits: Limits) -> Result<Core, Fault>
     ensures ok { IfOk result (λ core. (sorted : Raw) × AreSorted (raw_of rows) sorted × IsLoaded sorted core) }
+    ensures legal { IfOk result (HoldsRows (raw_of rows)) }
     ensures limits { IfOk result (λ core. core.setting.limits ≡ limits) }
     ensures spent { IfOk result (λ core. core.spent ≡ false) }
     ensures err { IfErr result (λ fault. (fault ≡ faults.OutOfMemory)
         ⊎ ((sorted : Raw) × AreSorted (raw_of rows) sorted × Loads sorted (Err fault))) }
+    ensures refused { IfErr result (λ fault. (fault ≡ faults.OutOfMemory) ⊎ AreRefused (raw_of rows) fault) }
 {
     let mut sorted = rows;
     sorted.sort()?;
