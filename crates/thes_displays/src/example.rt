@@ -1,11 +1,18 @@
 //! How a file stores a display, and how it is made.
+ghost use Rattle.std.specs.Prelude.{◌≡◌, false};
+ghost use Rattle.thes_base.specs.Pipe.{IsFresh};
+
 use crate::store::{invalid, machine_after};
 use std::alloc::{AllocError, Global};
 use std::io;
+use std::io::Write;
+use thes_base::fault::PipeFault;
 use thes_base::number::ResNo;
 use thes_base::pipe::Pipe;
 use thes_base::text::Tag;
+use thes_core::Core;
 use thes_display::shown::{Shown, alphabetical, hierarchical};
+use thes_machine::Machine;
 
 /// Requests, the words of a display, and the display that is stored for them.
 #[derive(Drop)]
@@ -45,18 +52,49 @@ fn push_requests(requests: &mut String, lines: &str) -> Result<(), AllocError> {
     Ok(())
 }
 
-/// Makes the display of an example, or says by what name it is refused.
-pub fn show(alloc: Global, example: &Example) -> io::Result<String> {
-    let mut words = example.words.split(' ');
-    let kind = words.next().unwrap_or("");
-    let scheme = ResNo::read(words.next().unwrap_or("")).map_err(|_| invalid())?;
-    let tag = Tag::read(alloc, words.next().unwrap_or("")).map_err(|_| invalid())?;
-    let machine = machine_after(alloc, example.requests.as_str())?;
-    let core = machine.core();
+// The core of a machine, and nothing of its state.
+fn core_of(machine: &Machine) -> &Core
+    requires { machine.now.spent ≡ false }
+    ensures { result.now.spent ≡ false }
+{
+    machine.core()
+}
+
+// Each display stands in a function of its own, which promises nothing of it: a proof that meets its contract takes long.
+fn show_alphabetical<W: Write>(
+    alloc: Global,
+    core: &Core,
+    scheme: ResNo,
+    tag: &Tag,
+    writer: &mut Pipe<W>,
+) -> Result<Shown, PipeFault>
+    requires unspent { core.now.spent ≡ false }
+    requires writer { IsFresh writer.old }
+{
+    alphabetical(alloc, core, scheme, tag, writer)
+}
+
+fn show_hierarchical<W: Write>(
+    alloc: Global,
+    core: &Core,
+    scheme: ResNo,
+    tag: &Tag,
+    writer: &mut Pipe<W>,
+) -> Result<Shown, PipeFault>
+    requires unspent { core.now.spent ≡ false }
+    requires writer { IsFresh writer.old }
+{
+    hierarchical(alloc, core, scheme, tag, writer)
+}
+
+// The text of the display of this kind, or the name of its refusal.
+fn text_in(alloc: Global, kind: &str, core: &Core, scheme: ResNo, tag: &Tag) -> io::Result<String>
+    requires { core.now.spent ≡ false }
+{
     let mut writer = Pipe::new(Vec::new(alloc));
     let shown = match kind {
-        "alphabetical" => alphabetical(alloc, core, scheme, &tag, &mut writer),
-        "hierarchical" => hierarchical(alloc, core, scheme, &tag, &mut writer),
+        "alphabetical" => show_alphabetical(alloc, core, scheme, tag, &mut writer),
+        "hierarchical" => show_hierarchical(alloc, core, scheme, tag, &mut writer),
         _ => return Err(invalid()),
     };
     match shown {
@@ -64,4 +102,17 @@ pub fn show(alloc: Global, example: &Example) -> io::Result<String> {
         Ok(Shown::No(refusal)) => Ok(format!(in alloc; "{}\n", refusal.name())?),
         Err(_) => Err(invalid()),
     }
+}
+
+/// Makes the display of an example, or says by what name it is refused. The machine ends by one call: a function in which it
+/// ended at each way out took two minutes to prove.
+pub fn show(alloc: Global, example: &Example) -> io::Result<String> {
+    let mut words = example.words.split(' ');
+    let kind = words.next().unwrap_or("");
+    let scheme = ResNo::read(words.next().unwrap_or("")).map_err(|_| invalid())?;
+    let tag = Tag::read(alloc, words.next().unwrap_or("")).map_err(|_| invalid())?;
+    let machine = machine_after(alloc, example.requests.as_str())?;
+    let text = text_in(alloc, kind, core_of(&machine), scheme, &tag);
+    drop(machine);
+    text
 }

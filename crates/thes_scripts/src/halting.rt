@@ -91,6 +91,18 @@ fn first_wrong(alloc: Global, stored: &Stored, failing: Failing) -> io::Result<O
 
 fn fate_after(alloc: Global, stored: &Stored, failing: Failing, calls: u32) -> io::Result<Fate> {
     let mut store = Store::new(alloc, stored.limits)?;
+    let fate = fate_in(alloc, &mut store, stored, failing, calls);
+    drop(store);
+    fate
+}
+
+fn fate_in(
+    alloc: Global,
+    store: &mut Store,
+    stored: &Stored,
+    failing: Failing,
+    calls: u32,
+) -> io::Result<Fate> {
     let reader = failing.reader(stored.requests.as_str(), calls);
     let (writer, ended) = store.serve(alloc, reader, failing.writer(alloc, calls));
     let written = text_of(writer.bytes)?;
@@ -101,7 +113,7 @@ fn fate_after(alloc: Global, stored: &Stored, failing: Failing, calls: u32) -> i
         return Ok(Fate::Wrong);
     }
     let performed = failing.performed(written.as_str());
-    resumed(alloc, &mut store, stored, performed)
+    resumed(alloc, store, stored, performed)
 }
 
 fn whole(written: String, ended: Result<Ended, PipeFault>, wanted: &str) -> io::Result<Fate> {

@@ -10,16 +10,33 @@ use thes_machine::{Answer, Command};
 
 /// The answers of a new store that performs the requests of a script in one call. Each must be a command.
 pub fn list_answers(alloc: Global, stored: &Stored) -> io::Result<String> {
-    let mut commands: Vec<Command> = Vec::new(alloc);
-    for line in stored.requests.as_str().lines() {
-        commands.push(command(alloc, line)?)?;
-    }
     let mut store = Store::new(alloc, stored.limits)?;
     let mut answers: Vec<Answer> = Vec::new(alloc);
-    if store.perform(commands.as_slice(), &mut answers).is_err() {
-        return Err(io::Error::from(ErrorKind::OutOfMemory));
-    }
+    let performed = perform(alloc, &mut store, stored, &mut answers);
+    drop(store);
+    performed?;
     text_of(lines(alloc, answers.as_slice())?)
+}
+
+fn perform(
+    alloc: Global,
+    store: &mut Store,
+    stored: &Stored,
+    answers: &mut Vec<Answer>,
+) -> io::Result<()> {
+    let mut commands: Vec<Command> = Vec::new(alloc);
+    let read = push_commands(alloc, stored.requests.as_str(), &mut commands);
+    let performed = store.perform(commands.as_slice(), answers);
+    drop(commands);
+    read?;
+    performed.map_err(|_| io::Error::from(ErrorKind::OutOfMemory))
+}
+
+fn push_commands(alloc: Global, requests: &str, commands: &mut Vec<Command>) -> io::Result<()> {
+    for line in requests.lines() {
+        commands.push(command(alloc, line)?)?;
+    }
+    Ok(())
 }
 
 /// The command that a line asks for.

@@ -143,20 +143,24 @@ fn held(alloc: Global, machine: &Machine, words: &str) -> Option<String>
 
 // The fault of form of a text that is no request.
 fn fault(alloc: Global, text: &str) -> Option<String> {
-    match read_request(&mut Memory::new(alloc), text.as_bytes()) {
-        Err(ReadStop::Form(fault)) => String::from_str(alloc, fault.name()).ok(),
-        _ => None,
+    let stop = read_request(&mut Memory::new(alloc), text.as_bytes()).err()?;
+    match stop {
+        ReadStop::Form(fault) => String::from_str(alloc, fault.name()).ok(),
+        ReadStop::OutOfMemory => None,
     }
 }
 
 // The link that a request would make.
 fn link(alloc: Global, words: &str) -> Option<Link> {
-    match &command(alloc, words).ok()? {
-        Command::Link(kind, a, b) => Some(Link {
-            kind: *kind,
-            a: *a,
-            b: *b,
-        }),
-        _ => None,
-    }
+    let command = command(alloc, words).ok()?;
+    let link = link_of(&command);
+    drop(command);
+    link
+}
+
+fn link_of(command: &Command) -> Option<Link> {
+    let Command::Link(kind, a, b) = *command else {
+        return None;
+    };
+    Some(Link { kind, a, b })
 }

@@ -1,6 +1,7 @@
 //! How a file stores a script.
 use std::alloc::{AllocError, Global};
 use thes_base::data::Limits;
+use thes_base::number::ResNo;
 
 /// How a script is run.
 #[derive(Clone, Copy, Debug, PartialEq, Eq)]
@@ -77,7 +78,7 @@ impl<'a> Stored<'a> {
     // Takes the name of a limit and its number, and says whether there is such a limit.
     fn take_limit(&mut self, words: &str) -> bool {
         let (name, number) = words.split_once(' ').unwrap_or((words, ""));
-        let number = number.parse().unwrap_or(0);
+        let number = number_in(number);
         match name {
             "resources" => self.limits.resources = number,
             "labels" => self.limits.labels = number,
@@ -88,6 +89,10 @@ impl<'a> Stored<'a> {
         }
         true
     }
+}
+
+fn number_in(text: &str) -> u32 {
+    ResNo::read(text).map_or(0, ResNo::get)
 }
 
 /// Adds a line to a text.

@@ -1,22 +1,77 @@
-//! The worked examples on resources and labels: each call once with ample memory, and what it answers.
+//! The worked examples on resources and labels, each a table of steps: what is asked of a desk, and what it answers. The tables
+//! stand apart from the functions that read them, since a proof that sees a table computes with it.
 use crate::desk::{Answer, Change, Desk, no};
 use Answer::{Done, Gained, No, Number};
+use Call::{
+    Collection, Concept, Deprecate, LabelChange, Outside, Relabel, Replace, Scheme, TakeLabels,
+};
 use Change::{Add, Remove};
+use Fact::{
+    Counts, Dead, Holder, IriOf, IsLive, Labels, LiveOf, NoResource, NumberOf, Preferred,
+    TakenCount,
+};
 use LabelKind::{Alt, Hidden, Pref, Scope};
+use Step::{Do, See};
 use std::alloc::Global;
 use std::process::Abort;
 use std::test::Fail;
 use thes_base::data::{Label, LabelKind, Resource, ResourceKind};
-use thes_base::fault::Refusal;
+use thes_base::fault::{ReadStop, Refusal};
+use thes_base::number::ResNo;
 
-// Scheme 1, Animals, with the concepts 2, Cats, 3, Mammals, and 4, Pets.
-fn start(alloc: Global) -> Result<Desk, Fail> {
-    let mut desk = Desk::new(alloc)?;
-    desk.scheme("Animals")?;
-    desk.concept(1, "Cats")?;
-    desk.concept(1, "Mammals")?;
-    desk.concept(1, "Pets")?;
-    Ok(desk)
+// A call that changes a desk.
+#[derive(Clone, Copy)]
+enum Call {
+    Scheme(&'static str),
+    Concept(u32, &'static str),
+    Collection(u32, &'static str),
+    Outside(&'static str),
+    LabelChange(Change, u32, LabelKind, &'static str, &'static str),
+    // Another preferred label, and whether the old one is kept.
+    Relabel(u32, &'static str, &'static str, bool),
+    TakeLabels(u32, u32),
+    Deprecate(u32),
+    Replace(u32, u32),
+}
+
+// What a desk shows.
+#[derive(Clone, Copy)]
+enum Fact {
+    Counts(u64, u64),
+    NoResource(u32),
+    // A dead concept: its number, its scheme, and what replaces it.
+    Dead(u32, u32, u32),
+    IsLive(u32, bool),
+    LiveOf(u32, &'static [u32]),
+    Labels(u32, &'static [(LabelKind, &'static str, &'static str)]),
+    TakenCount(u32, u32, u64),
+    Preferred(u32, &'static str, Option<&'static str>),
+    Holder(u32, &'static str, &'static str, Option<u32>),
+    NumberOf(&'static str, Option<u32>),
+    IriOf(u32, Option<&'static str>),
+}
+
+// A call and its answer, or what is to be seen then.
+#[derive(Clone, Copy)]
+enum Step {
+    Do(Call, Answer),
+    See(Fact),
+}
+
+fn answer(desk: &mut Desk, call: Call) -> Result<Answer, ReadStop> {
+    match call {
+        Scheme(text) => desk.scheme(text),
+        Concept(scheme, text) => desk.concept(scheme, text),
+        Collection(scheme, text) => desk.collection(scheme, text),
+        Outside(iri) => desk.outside(iri),
+        LabelChange(change, owner, kind, tag, text) => {
+            desk.change_label(change, owner, kind, tag, text)
+        }
+        Relabel(owner, tag, text, keep) => desk.relabel(owner, tag, text, keep),
+        TakeLabels(source, target) => Ok(desk.take_labels(source, target)?),
+        Deprecate(n) => Ok(desk.deprecate(n)),
+        Replace(source, target) => Ok(desk.replace(source, target)),
+    }
 }
 
 // Whether these are the labels, in their order.
@@ -27,234 +82,264 @@ fn are(labels: &[Label], wanted: &[(LabelKind, &str, &str)]) -> bool {
         })
 }
 
-// Asks for concepts in turn, each with the answer that is wanted.
-fn concepts(rt: &impl Abort, desk: &mut Desk, rows: &[(u32, &str, Answer)]) -> Result<(), Fail> {
-    for (scheme, text, wanted) in rows {
-        assert_eq!(rt; desk.concept(*scheme, text)?, *wanted, "{text}");
+// Whether these are the numbers, in their order.
+fn are_numbers(found: &[ResNo], wanted: &[u32]) -> bool {
+    found.len() == wanted.len() && found.iter().zip(wanted.iter()).all(|(n, m)| n.get() == *m)
+}
+
+fn is_number(found: Option<ResNo>, wanted: Option<u32>) -> bool {
+    match (found, wanted) {
+        (Some(n), Some(m)) => n == no(m),
+        (None, None) => true,
+        _ => false,
+    }
+}
+
+fn dead(scheme: u32, target: u32) -> Resource {
+    Resource {
+        kind: ResourceKind::Concept,
+        scheme: Some(no(scheme)),
+        live: false,
+        replaced: Some(no(target)),
+    }
+}
+
+fn holds(desk: &Desk, fact: Fact) -> Result<bool, ReadStop> {
+    Ok(match fact {
+        Counts(resources, labels) => desk.counts() == (resources, labels),
+        NoResource(n) => desk.resource(n).is_none(),
+        Dead(n, scheme, target) => desk.resource(n) == Some(dead(scheme, target)),
+        IsLive(n, live) => desk.is_live(n) == live,
+        LiveOf(scheme, numbers) => are_numbers(desk.live_of(scheme), numbers),
+        Labels(owner, labels) => are(desk.labels_of(owner), labels),
+        TakenCount(source, target, count) => desk.taken_count(source, target) == count,
+        Preferred(owner, tag, text) => desk.preferred(owner, tag)? == text,
+        Holder(scheme, tag, text, n) => is_number(desk.holder(scheme, tag, text)?, n),
+        NumberOf(iri, n) => is_number(desk.number_of(iri)?, n),
+        IriOf(n, iri) => desk.iri_of(n) == iri,
+    })
+}
+
+// Takes each step of a table.
+fn take(rt: &impl Abort, desk: &mut Desk, steps: &[Step]) -> Result<(), Fail> {
+    for (i, step) in steps.iter().enumerate() {
+        match *step {
+            Do(call, wanted) => assert_eq!(rt; answer(desk, call)?, wanted, "at step {i}"),
+            See(fact) => assert!(rt; holds(desk, fact)?, "at step {i}"),
+        }
     }
     Ok(())
 }
 
-// The same of outside concepts.
-fn outsides(rt: &impl Abort, desk: &mut Desk, rows: &[(&str, Answer)]) -> Result<(), Fail> {
-    for (iri, wanted) in rows {
-        assert_eq!(rt; desk.outside(iri)?, *wanted, "{iri}");
+// Scheme 1, Animals, with the concepts 2, Cats, 3, Mammals, and 4, Pets.
+static START: [Step; 4] = [
+    Do(Scheme("Animals"), Number(1)),
+    Do(Concept(1, "Cats"), Number(2)),
+    Do(Concept(1, "Mammals"), Number(3)),
+    Do(Concept(1, "Pets"), Number(4)),
+];
+
+// Takes the steps of a table behind those of the start.
+fn expect(rt: &impl Abort, alloc: Global, steps: &[Step]) -> Result<(), Fail> {
+    let mut desk = Desk::new(alloc)?;
+    for table in [&START, steps] {
+        take(rt, &mut desk, table)?;
     }
     Ok(())
 }
 
-// A label by its owner, kind, language and text, and an answer.
-type Row<'a> = (u32, LabelKind, &'a str, &'a str, Answer);
-
-fn change_each(rt: &impl Abort, desk: &mut Desk, change: Change, rows: &[Row]) -> Result<(), Fail> {
-    for (owner, kind, tag, text, wanted) in rows {
-        assert_eq!(rt;
-            desk.change_label(change, *owner, *kind, tag, text)?,
-            *wanted,
-            "{text}"
-        );
-    }
-    Ok(())
-}
-
-// Another preferred label, whether the old one is kept, and an answer.
-type Name<'a> = (u32, &'a str, &'a str, bool, Answer);
-
-fn relabel_each(rt: &impl Abort, desk: &mut Desk, rows: &[Name]) -> Result<(), Fail> {
-    for (owner, tag, text, keep, wanted) in rows {
-        assert_eq!(rt; desk.relabel(*owner, tag, text, *keep)?, *wanted, "{text}");
-    }
-    Ok(())
-}
+static NOTHING: [Step; 2] = [See(Counts(0, 0)), See(NoResource(1))];
 
 #[test]
 fn nothing_at_first(rt: HostRuntime) -> Result<(), Fail> {
-    let desk = Desk::new(rt.alloc())?;
-    assert_eq!(rt; desk.counts(), (0, 0));
-    assert_eq!(rt; desk.resource(1), None);
-    Ok(())
+    take(&rt, &mut Desk::new(rt.alloc())?, &NOTHING)
 }
+
+static NUMBERED: [Step; 3] = [
+    Do(Collection(1, "House animals"), Number(5)),
+    Do(Outside("http://example.org/x"), Number(6)),
+    See(Counts(6, 5)),
+];
 
 #[test]
 fn resources_are_numbered(rt: HostRuntime) -> Result<(), Fail> {
-    let mut desk = start(rt.alloc())?;
-    assert_eq!(rt; desk.collection(1, "House animals")?, Number(5));
-    assert_eq!(rt; desk.outside("http://example.org/x")?, Number(6));
-    assert_eq!(rt; desk.counts(), (6, 5));
-    Ok(())
+    expect(&rt, rt.alloc(), &NUMBERED)
 }
+
+static REFUSED: [Step; 4] = [
+    Do(Concept(1, "Pets"), No(Refusal::PreferredTaken)),
+    Do(Concept(9, "Dogs"), No(Refusal::UnknownResource)),
+    Do(Concept(2, "Dogs"), No(Refusal::WrongKind)),
+    Do(Collection(2, "Dogs"), No(Refusal::WrongKind)),
+];
 
 #[test]
 fn resources_are_refused(rt: HostRuntime) -> Result<(), Fail> {
-    let mut desk = start(rt.alloc())?;
-    let rows = [
-        (1, "Pets", No(Refusal::PreferredTaken)),
-        (9, "Dogs", No(Refusal::UnknownResource)),
-        (2, "Dogs", No(Refusal::WrongKind)),
-    ];
-    concepts(&rt, &mut desk, &rows)?;
-    assert_eq!(rt; desk.collection(2, "Dogs")?, No(Refusal::WrongKind));
-    Ok(())
+    expect(&rt, rt.alloc(), &REFUSED)
 }
+
+static OUTSIDE: [Step; 5] = [
+    Do(Outside("http://example.org/x"), Number(5)),
+    Do(
+        Outside("http://example.org/x"),
+        No(Refusal::OutsideKnown(5)),
+    ),
+    Do(
+        Outside("https://thesaurus.example/id/9"),
+        No(Refusal::WrongKind),
+    ),
+    See(NumberOf("http://example.org/x", Some(5))),
+    See(IriOf(5, Some("http://example.org/x"))),
+];
 
 #[test]
 fn outside_concepts(rt: HostRuntime) -> Result<(), Fail> {
-    let mut desk = start(rt.alloc())?;
-    let iri = "http://example.org/x";
-    let own = "https://thesaurus.example/id/9";
-    let known = Refusal::OutsideKnown(5);
-    let rows = [
-        (iri, Number(5)),
-        (iri, No(known)),
-        (own, No(Refusal::WrongKind)),
-    ];
-    outsides(&rt, &mut desk, &rows)?;
-    assert_eq!(rt; desk.number_of(iri)?, Some(no(5)));
-    assert_eq!(rt; desk.iri_of(5), Some(iri));
-    Ok(())
+    expect(&rt, rt.alloc(), &OUTSIDE)
 }
+
+static LABELS_REFUSED: [Step; 10] = [
+    Do(LabelChange(Add, 2, Alt, "en", "Cats"), No(Refusal::S13)),
+    Do(LabelChange(Add, 2, Pref, "en", "Felines"), No(Refusal::S14)),
+    Do(
+        LabelChange(Add, 2, Pref, "en", "Cats"),
+        No(Refusal::LabelThere),
+    ),
+    Do(LabelChange(Add, 2, Pref, "EN-GB", "Moggies"), Done),
+    Do(
+        LabelChange(Add, 2, Pref, "en-gb", "Mousers"),
+        No(Refusal::S14),
+    ),
+    Do(
+        LabelChange(Add, 3, Pref, "EN-gb", "Moggies"),
+        No(Refusal::PreferredTaken),
+    ),
+    Do(LabelChange(Add, 3, Pref, "de", "Moggies"), Done),
+    Do(LabelChange(Add, 2, Scope, "en", "Cats"), Done),
+    See(Preferred(2, "en-gb", Some("Moggies"))),
+    See(Preferred(2, "de", None)),
+];
 
 #[test]
 fn labels_are_refused(rt: HostRuntime) -> Result<(), Fail> {
-    let mut desk = start(rt.alloc())?;
-    let rows = [
-        (2, Alt, "en", "Cats", No(Refusal::S13)),
-        (2, Pref, "en", "Felines", No(Refusal::S14)),
-        (2, Pref, "en", "Cats", No(Refusal::LabelThere)),
-        (2, Pref, "EN-GB", "Moggies", Done),
-        (2, Pref, "en-gb", "Mousers", No(Refusal::S14)),
-        (3, Pref, "EN-gb", "Moggies", No(Refusal::PreferredTaken)),
-        (3, Pref, "de", "Moggies", Done),
-        (2, Scope, "en", "Cats", Done),
-    ];
-    change_each(&rt, &mut desk, Add, &rows)?;
-    assert_eq!(rt; desk.preferred(2, "en-gb")?, Some("Moggies"));
-    assert_eq!(rt; desk.preferred(2, "de")?, None);
-    Ok(())
+    expect(&rt, rt.alloc(), &LABELS_REFUSED)
 }
+
+static LABELS_DROPPED: [Step; 6] = [
+    Do(LabelChange(Add, 3, Pref, "de", "Katzen"), Done),
+    Do(
+        LabelChange(Remove, 2, Pref, "en", "Cats"),
+        No(Refusal::LastPreferred),
+    ),
+    Do(
+        LabelChange(Remove, 2, Alt, "en", "Cats"),
+        No(Refusal::NoSuchLabel),
+    ),
+    Do(LabelChange(Remove, 3, Pref, "en", "Mammals"), Done),
+    Do(
+        LabelChange(Remove, 3, Pref, "de", "Katzen"),
+        No(Refusal::LastPreferred),
+    ),
+    See(Labels(3, &[(Pref, "de", "Katzen")])),
+];
 
 #[test]
 fn labels_are_dropped(rt: HostRuntime) -> Result<(), Fail> {
-    let mut desk = start(rt.alloc())?;
-    change_each(&rt, &mut desk, Add, &[(3, Pref, "de", "Katzen", Done)])?;
-    let rows = [
-        (2, Pref, "en", "Cats", No(Refusal::LastPreferred)),
-        (2, Alt, "en", "Cats", No(Refusal::NoSuchLabel)),
-        (3, Pref, "en", "Mammals", Done),
-        (3, Pref, "de", "Katzen", No(Refusal::LastPreferred)),
-    ];
-    change_each(&rt, &mut desk, Remove, &rows)?;
-    assert!(rt; are(desk.labels_of(3), &[(Pref, "de", "Katzen")]));
-    Ok(())
+    expect(&rt, rt.alloc(), &LABELS_DROPPED)
 }
+
+static RELABELLED: [Step; 6] = [
+    Do(Relabel(2, "en", "Cats", true), No(Refusal::S13)),
+    Do(Relabel(2, "en", "Cats", false), Done),
+    Do(Relabel(2, "en", "Pets", false), No(Refusal::PreferredTaken)),
+    Do(Relabel(2, "de", "Katzen", false), No(Refusal::NoSuchLabel)),
+    Do(Relabel(2, "en", "Felines", true), Done),
+    See(Labels(2, &[(Pref, "en", "Felines"), (Alt, "en", "Cats")])),
+];
 
 #[test]
 fn preferred_labels_are_replaced(rt: HostRuntime) -> Result<(), Fail> {
-    let mut desk = start(rt.alloc())?;
-    let rows = [
-        (2, "en", "Cats", true, No(Refusal::S13)),
-        (2, "en", "Cats", false, Done),
-        (2, "en", "Pets", false, No(Refusal::PreferredTaken)),
-        (2, "de", "Katzen", false, No(Refusal::NoSuchLabel)),
-        (2, "en", "Felines", true, Done),
-    ];
-    relabel_each(&rt, &mut desk, &rows)?;
-    assert!(rt;
-        are(
-            desk.labels_of(2),
-            &[(Pref, "en", "Felines"), (Alt, "en", "Cats")]
-        )
-    );
-    Ok(())
+    expect(&rt, rt.alloc(), &RELABELLED)
 }
+
+static HELD: [Step; 3] = [
+    Do(Relabel(2, "en", "Felines", true), Done),
+    See(Holder(1, "en", "Felines", Some(2))),
+    See(Holder(1, "en", "Cats", None)),
+];
 
 #[test]
 fn holders_of_replaced_labels(rt: HostRuntime) -> Result<(), Fail> {
-    let mut desk = start(rt.alloc())?;
-    assert_eq!(rt; desk.relabel(2, "en", "Felines", true)?, Done);
-    assert_eq!(rt; desk.holder(1, "en", "Felines")?, Some(no(2)));
-    assert_eq!(rt; desk.holder(1, "en", "Cats")?, None);
-    Ok(())
+    expect(&rt, rt.alloc(), &HELD)
 }
 
 // A merge, as far as labels and resources go.
+static MERGED: [Step; 5] = [
+    See(TakenCount(2, 3, 1)),
+    Do(TakeLabels(2, 3), Gained(1)),
+    Do(Replace(2, 3), Done),
+    See(Counts(4, 5)),
+    See(Labels(3, &[(Pref, "en", "Mammals"), (Alt, "en", "Cats")])),
+];
+
 #[test]
 fn merged_labels(rt: HostRuntime) -> Result<(), Fail> {
-    let mut desk = start(rt.alloc())?;
-    assert_eq!(rt; desk.taken_count(2, 3), 1);
-    assert_eq!(rt; desk.take_labels(2, 3)?, Gained(1));
-    assert_eq!(rt; desk.replace(2, 3), Done);
-    assert_eq!(rt; desk.counts(), (4, 5));
-    assert!(rt;
-        are(
-            desk.labels_of(3),
-            &[(Pref, "en", "Mammals"), (Alt, "en", "Cats")]
-        )
-    );
-    Ok(())
+    expect(&rt, rt.alloc(), &MERGED)
 }
+
+static MERGED_NAMES: [Step; 5] = [
+    Do(LabelChange(Add, 2, Hidden, "en", "Kitty"), Done),
+    Do(LabelChange(Add, 3, Alt, "en", "Kitty"), Done),
+    Do(TakeLabels(2, 3), Gained(1)),
+    See(Labels(
+        3,
+        &[
+            (Pref, "en", "Mammals"),
+            (Alt, "en", "Cats"),
+            (Alt, "en", "Kitty"),
+        ],
+    )),
+    See(Labels(2, &[(Pref, "en", "Cats"), (Hidden, "en", "Kitty")])),
+];
 
 #[test]
 fn merged_names_stand_once(rt: HostRuntime) -> Result<(), Fail> {
-    let mut desk = start(rt.alloc())?;
-    let rows = [
-        (2, Hidden, "en", "Kitty", Done),
-        (3, Alt, "en", "Kitty", Done),
-    ];
-    change_each(&rt, &mut desk, Add, &rows)?;
-    assert_eq!(rt; desk.take_labels(2, 3)?, Gained(1));
-    let wanted = [
-        (Pref, "en", "Mammals"),
-        (Alt, "en", "Cats"),
-        (Alt, "en", "Kitty"),
-    ];
-    assert!(rt; are(desk.labels_of(3), &wanted));
-    assert!(rt;
-        are(
-            desk.labels_of(2),
-            &[(Pref, "en", "Cats"), (Hidden, "en", "Kitty")]
-        )
-    );
-    Ok(())
+    expect(&rt, rt.alloc(), &MERGED_NAMES)
 }
+
+static DEAD: [Step; 4] = [
+    Do(Replace(2, 3), Done),
+    See(IsLive(2, false)),
+    See(Dead(2, 1, 3)),
+    Do(Relabel(2, "en", "Felines", false), No(Refusal::NotLive)),
+];
 
 #[test]
 fn dead_concepts(rt: HostRuntime) -> Result<(), Fail> {
-    let mut desk = start(rt.alloc())?;
-    assert_eq!(rt; desk.replace(2, 3), Done);
-    assert!(rt; !desk.is_live(2));
-    let dead = Resource {
-        kind: ResourceKind::Concept,
-        scheme: Some(no(1)),
-        live: false,
-        replaced: Some(no(3)),
-    };
-    assert_eq!(rt; desk.resource(2), Some(dead));
-    assert_eq!(rt;
-        desk.relabel(2, "en", "Felines", false)?,
-        No(Refusal::NotLive)
-    );
-    Ok(())
+    expect(&rt, rt.alloc(), &DEAD)
 }
+
+static FREED: [Step; 4] = [
+    Do(Deprecate(3), Done),
+    See(Holder(1, "en", "Mammals", None)),
+    Do(Concept(1, "Mammals"), Number(5)),
+    See(Holder(1, "en", "Mammals", Some(5))),
+];
 
 #[test]
 fn a_death_frees_the_name(rt: HostRuntime) -> Result<(), Fail> {
-    let mut desk = start(rt.alloc())?;
-    assert_eq!(rt; desk.deprecate(3), Done);
-    assert_eq!(rt; desk.holder(1, "en", "Mammals")?, None);
-    assert_eq!(rt; desk.concept(1, "Mammals")?, Number(5));
-    assert_eq!(rt; desk.holder(1, "en", "Mammals")?, Some(no(5)));
-    Ok(())
+    expect(&rt, rt.alloc(), &FREED)
 }
+
+static LIVE: [Step; 6] = [
+    See(LiveOf(1, &[2, 3, 4])),
+    See(LiveOf(2, &[])),
+    Do(Collection(1, "House animals"), Number(5)),
+    Do(Concept(1, "Dogs"), Number(6)),
+    Do(Deprecate(3), Done),
+    See(LiveOf(1, &[2, 4, 6])),
+];
 
 #[test]
 fn live_concepts_of_a_scheme(rt: HostRuntime) -> Result<(), Fail> {
-    let mut desk = start(rt.alloc())?;
-    assert!(rt; desk.live_of(1) == [no(2), no(3), no(4)].as_slice());
-    assert!(rt; desk.live_of(2).is_empty());
-    assert_eq!(rt; desk.collection(1, "House animals")?, Number(5));
-    assert_eq!(rt; desk.concept(1, "Dogs")?, Number(6));
-    assert_eq!(rt; desk.deprecate(3), Done);
-    assert!(rt; desk.live_of(1) == [no(2), no(4), no(6)].as_slice());
-    Ok(())
+    expect(&rt, rt.alloc(), &LIVE)
 }
