@@ -1,11 +1,13 @@
 """Runs the built program for the tests beside this file: `./thesaurus`, or the program that the first word of the command line names."""
+import functools
 import json
 import subprocess
 import sys
 from pathlib import Path
 from typing import NamedTuple
 
-PROGRAM = Path(sys.argv[1] if len(sys.argv) > 1 else Path(__file__).parent.parent / "thesaurus").resolve()
+LAUNCHER = Path(__file__).resolve().parent.parent / "thesaurus"
+PROGRAM = Path(sys.argv[1]).resolve() if len(sys.argv) > 1 else LAUNCHER
 
 
 class Ended(NamedTuple):
@@ -14,11 +16,40 @@ class Ended(NamedTuple):
     err: bytes
 
 
-def run(words, given=b"", **streams):
+@functools.cache
+def built():
+    """The program itself, which the launcher builds where that is needed, and then runs."""
+    if PROGRAM != LAUNCHER:
+        return PROGRAM
+    subprocess.run([LAUNCHER, "--help"], stdout=subprocess.DEVNULL, check=True)
+    return LAUNCHER.parent / "crates" / "thes_cli" / "out" / "thes_cli"
+
+
+def run(words, given=b"", program=PROGRAM, **streams):
     """Runs the program with these words and this standard input, or other streams, and returns how it ended."""
     how = {"stdout": subprocess.PIPE, "stderr": subprocess.PIPE, **({} if "stdin" in streams else {"input": given})}
-    ran = subprocess.run([PROGRAM, *words], **{**how, **streams})
-    return Ended(ran.returncode, ran.stdout or b"", ran.stderr)
+    ran = subprocess.run([program, *words], check=False, **{**how, **streams})
+    return Ended(ran.returncode, ran.stdout or b"", ran.stderr or b"")
+
+
+def over(path, command, given=b"", *options, **how):
+    """Runs a command of the program itself over the store in a file."""
+    return run(["--db", path, *options, command], given, built(), **how)
+
+
+def fault_of(path, name):
+    """How the program ends where the store in a file has a fault."""
+    return Ended(3, b"", f"thesaurus: store {path}\nthesaurus: fault {name}\n".encode())
+
+
+def lines_of(requests):
+    """The script of requests that are written as JSON."""
+    return "".join(f"{json.dumps(it, ensure_ascii=False)}\n" for it in requests).encode()
+
+
+def values_of(out):
+    """The answers in what was written, but for one that was cut."""
+    return [json.loads(it) for it in out.splitlines(keepends=True) if it.endswith(b"\n")]
 
 
 def answers_to(requests):
