@@ -32,7 +32,7 @@ def started(path):
 
 def rows_beside(path):
     """What SQLite itself reads in a copy of the two files."""
-    with tempfile.TemporaryDirectory(dir=path.parent) as room:
+    with tempfile.TemporaryDirectory() as room:
         for file in path.parent.glob(f"{path.name}*"):
             shutil.copy(file, room)
         return read_rows(Path(room) / path.name)
@@ -42,13 +42,13 @@ def stands(path, states, answers, told):
     """The state whose rows are in the file: that behind the requests that were answered, or the one after; or why it is none."""
     if told != answers[: len(told)]:
         return None, f"answers {told[-3:]}, and not {answers[: len(told)][-3:]}"
-    beside = rows_beside(path)
+    left = rows_beside(path)
     ended = over(path, "check")
-    rows = read_rows(path)
+    rows = rows_beside(path)
     for state in states[len(told) : len(told) + 2]:
         if rows == rows_of(state):
-            if beside != rows:
-                return None, "SQLite reads other rows than the program leaves"
+            if left != rows:
+                return None, "SQLite reads other rows than the next run leaves"
             if ended != (0, f"{judge(rows)[0]}\n".encode(), b""):
                 return None, f"the check: {ended}"
             return state, None

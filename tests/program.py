@@ -10,6 +10,10 @@ LAUNCHER = Path(__file__).resolve().parent.parent / "thesaurus"
 PROGRAM = Path(sys.argv[1]).resolve() if len(sys.argv) > 1 else LAUNCHER
 
 
+# Where files are made that needn't outlast a power cut: in memory, where there is such a folder.
+MEMORY = next((it for it in ("/dev/shm",) if Path(it).is_dir()), None)
+
+
 class Ended(NamedTuple):
     status: int
     out: bytes
@@ -32,19 +36,24 @@ def run(words, given=b"", program=PROGRAM, **streams):
     return Ended(ran.returncode, ran.stdout or b"", ran.stderr or b"")
 
 
-def over(path, command, given=b"", *options, **how):
-    """Runs a command of the program itself over the store in a file."""
-    return run(["--db", path, *options, command], given, built(), **how)
+def over(path, command, given=b"", *options, after=(), **how):
+    """Runs a command of the program itself over the store in a file; options stand before the command, or after it."""
+    return run(["--db", path, *options, command, *after], given, built(), **how)
 
 
-def fault_of(path, name):
+def fault(path, name):
     """How the program ends where the store in a file has a fault."""
     return Ended(3, b"", f"thesaurus: store {path}\nthesaurus: fault {name}\n".encode())
 
 
-def lines_of(requests):
-    """The script of requests that are written as JSON."""
-    return "".join(f"{json.dumps(it, ensure_ascii=False)}\n" for it in requests).encode()
+def text_of(value):
+    """A value as the program writes it: compact JSON, its members in order."""
+    return json.dumps(value, ensure_ascii=False, separators=(",", ":"), sort_keys=True).encode()
+
+
+def lines_of(values):
+    """The lines of a script, or of its answers."""
+    return b"".join(text_of(it) + b"\n" for it in values)
 
 
 def values_of(out):
