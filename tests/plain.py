@@ -309,6 +309,13 @@ class Plain:
 
     # views
 
+    def queries(self):
+        """All that there is to ask, and of each kind one number too many."""
+        asked = [{"get": "totals"}]
+        for number in range(1, len(self.resources) + 2):
+            asked += [{"get": "concept", "number": number}, {"get": "postings", "concept": number}]
+        return asked + [{"get": "posting", "number": number} for number in range(1, len(self.postings) + 2)]
+
     def show(self, request):
         """The answer to a query."""
         word, number = request["get"], request.get("concept") or request.get("number")
