@@ -1,3 +1,5 @@
 pub mod CommandLineLemmas
-pub mod WorkLemmas
+pub mod ScriptLemmas
+pub mod ReadyLemmas
+pub mod NewStoreLemmas
 pub mod PrintLemmas

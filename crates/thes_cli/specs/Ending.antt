@@ -48,3 +48,13 @@ Prints contents old new text =
     Appends (written contents old) (written contents new) text
     ⊎ (AppendsFront (written contents old) (written contents new) text
     × ((failed_of new ≡ true) ⊎ (denied_of new ≡ true)))
+
+-- a fault of the store in a file is told after the file; or alone, where there is no memory for both lines
+abbrev pub TellsOf : {E : Type 0} → (E → Option (List ℕ)) → Pipe E → Pipe E → List ℕ → PipeFault → Type 0
+TellsOf contents old new file fault =
+    Prints contents old new (file_line file ++ fault_line fault) ⊎ Prints contents old new (fault_line fault)
+
+-- a fault of a store, which is in a file or in memory
+abbrev pub TellsAt : {E : Type 0} → (E → Option (List ℕ)) → Pipe E → Pipe E → Option (List ℕ) → PipeFault → Type 0
+TellsAt contents old new None fault = Prints contents old new (fault_line fault)
+TellsAt contents old new (Some file) fault = TellsOf contents old new file fault

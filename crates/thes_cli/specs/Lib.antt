@@ -1,4 +1,12 @@
 pub mod Ending
 pub mod Parting
 pub mod CommandLine
+pub mod Streams
+pub mod Opening
+pub mod Scripting
+pub mod Checking
+pub mod Exporting
+pub mod Displaying
+pub mod Importing
 pub mod Work
+pub mod Stores

@@ -1,0 +1,7 @@
+use Rattle.thes_cli.proofs.ReadyLemmas.{export_written}
+use Rattle.thes_cli.proofs.exporting.write_export.Goals as goal
+
+pub returns : goal.returns
+returns g c =
+    export_written g.K.Keeper.rows g.K.Keeper.is_up g.K.Keeper.failed g.W.Write.contents c.args.output.now c.export.new.writer c.args.office.now c.ready.follows.lender-at-none c.ready.result c.in_ok-core.core c.export.result
+    c.ready.follows.holds-at-none c.in_ok-core.was c.export.ensures.ok c.export.ensures.stopped c.export.ensures.calls

@@ -1,0 +1,21 @@
+use Rattle.std.proofs.Common.{inl, inr}
+use Rattle.thes_cli.proofs.work.work.Goals as goal
+
+pub returns-in-Ok : goal.returns-in-Ok
+returns-in-Ok g c = inl record {
+  before = c.in-Ok.office;
+  opened = record { limits = c.in-Ok.ensures.limits; same = c.in-Ok.ensures.same; shows = c.in-Ok.ensures.shows };
+  after = c.work_over.result.1;
+  does = c.work_over.ensures;
+  kept = c.into_keeper.ensures;
+}
+
+pub returns-in-Err : goal.returns-in-Err
+returns-in-Err g c = inr record {
+  fault = c.in-Err.fault;
+  unopened = record { same = c.in-Err.ensures.back; verdict = c.in-Err.ensures.verdict; store = c.in-Err.ensures.store };
+  input = refl;
+  output = refl;
+  tells = c.tell_at.ensures.told;
+  status_is = c.tell_at.ensures.status;
+}
