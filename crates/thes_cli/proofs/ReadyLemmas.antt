@@ -57,6 +57,13 @@ module _ {K : Type 0} (rows : K → Raw) (is_up : K → Type 0) (failed : K → 
         sizes = λ up. held_shown (rows new.keeper) new.limits copy.now (λ s. z ≡ sizes_of s) (here.shown.copies up) so;
       }
 
+  -- a call that failed, told of another answer
+  unready : {A B : Type 0} (old new : Kept K) (fault : Fault) → Goes rows is_up failed old new (let x : Result A Fault = Err fault in x) → Goes rows is_up failed old new (let x : Result B Fault = Err fault in x)
+  unready old new fault goes = record { limits = goes.limits; was = goes.was; later = goes.later; count = tt; store = goes.store; stale = goes.stale; fault = goes.fault }
+
+  failed_as : (old new : Kept K) (result : Result (Bor core.Kept) Fault) (fault : Fault) → Readied rows is_up failed old result new → result ≡ Err fault → Readied rows is_up failed old (Err fault) new
+  failed_as old new result fault ready is = subst (λ (r : Result (Bor core.Kept) Fault). Readied rows is_up failed old r new) is ready
+
   module _ {W : Type 0} (out : W → Option (List ℕ)) (output output' : Pipe W) where
     pub export_written : (old new : Kept K) (result : Result (Bor core.Kept) Fault) (copy : Bor core.Kept) (ended : Result (Unit {0}) PipeFault) → Readied rows is_up failed old result new → result ≡ Ok copy
         → ((s : State) → Holds copy.now s → OnOk ended (export.IsExported out copy.now.setting.base s output output'))
@@ -102,3 +109,15 @@ module _ {K : Type 0} (rows : K → Raw) (is_up : K → Type 0) (failed : K → 
             calls,
           );
         }
+
+    pub export_unready : (old new : Kept K) (result : Result (Bor core.Kept) Fault) (fault : Fault) (ended : Result (Unit {0}) PipeFault) → Readied rows is_up failed old result new → result ≡ Err fault
+        → ended ≡ Err (pipe.Fault fault) → output' ≡ output → WritesExport rows is_up failed out old output ended new output'
+    export_unready old new result fault ended ready is told same =
+        let here = failed_as old new result fault ready is in
+        record { ready = Err fault; goes = unready old new fault here.goes; same = here.same; writes = (told, same) }
+
+    pub display_unready : (kind : Display) (scheme : ℕ) (tag : List ℕ) (old new : Kept K) (result : Result (Bor core.Kept) Fault) (fault : Fault) (ended : Result Shown PipeFault)
+        → Readied rows is_up failed old result new → result ≡ Err fault → ended ≡ Err (pipe.Fault fault) → output' ≡ output → ShowsDisplay rows is_up failed out kind scheme tag old output ended new output'
+    display_unready kind scheme tag old new result fault ended ready is told same =
+        let here = failed_as old new result fault ready is in
+        record { ready = Err fault; goes = unready old new fault here.goes; same = here.same; shows = (told, same) }

@@ -88,7 +88,7 @@ pub fn display_store<K: Keeper, W: Write, E: Write>(
 ) -> u8
     requires output { IsFresh output.old }
     requires errors { IsFresh errors.old }
-    ensures { DisplaysStore K.rows K.is_up K.failed W.contents E.contents display scheme tag.now
+    ensures { DisplaysStore K.rows K.is_up K.failed W.contents display scheme tag.now E.contents
         office.old output.old output.new errors.old errors.new result office.new }
 {
     let shown = write_display(alloc, office, display, scheme, tag, output);

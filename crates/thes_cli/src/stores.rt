@@ -5,7 +5,7 @@ ghost use Rattle.thes_cli.specs.Stores.{WorksInDatabase, WorksInNewDatabase};
 ghost use Rattle.thes_cli.specs.Streams.{streams};
 
 use crate::ending::tell_of;
-use crate::work::{Work, work};
+use crate::work::{Work, work_over};
 use sqlite::{Alter, Connection, Error, ErrorCode};
 use std::alloc::Global;
 use std::io::{Read, Write};
@@ -43,7 +43,7 @@ pub fn work_in_database<S: Alter, F: Read + Drop, R: Read, W: Write, E: Write>(
         result.0 result.1 (streams input.new output.new errors.new) }
 {
     let keeper = SqlKeeper::adopt(alloc, conn);
-    let (status, keeper) = work(alloc, task, Some(file), keeper, input, output, errors);
+    let (status, keeper) = work_over(alloc, task, Some(file), keeper, input, output, errors);
     (status, keeper.into_connection())
 }
 

@@ -30,6 +30,7 @@ pub struct Asked {
 }
 
 /// What is done over a store.
+#[derive(Drop)]
 pub enum Work<F> {
     /// Answers a script.
     Script,
@@ -44,7 +45,7 @@ pub enum Work<F> {
 }
 
 // Does it over an office, and returns the exit status with the office.
-fn work_over<K: Keeper, F: Read + Drop, R: Read, W: Write, E: Write>(
+fn do_work<K: Keeper, F: Read + Drop, R: Read, W: Write, E: Write>(
     alloc: Global,
     task: Work<F>,
     mut office: Office<K>,
@@ -75,7 +76,7 @@ fn work_over<K: Keeper, F: Read + Drop, R: Read, W: Write, E: Write>(
 
 /// Opens the store that a keeper has, with the usual limits, and works over it; and returns the exit status with the keeper.
 /// The file that the store is in is named where it can't be opened.
-pub fn work<K: Keeper, F: Read + Drop, R: Read, W: Write, E: Write>(
+pub fn work_over<K: Keeper, F: Read + Drop, R: Read, W: Write, E: Write>(
     alloc: Global,
     task: Work<F>,
     file: Option<&str>,
@@ -88,12 +89,12 @@ pub fn work<K: Keeper, F: Read + Drop, R: Read, W: Write, E: Write>(
     requires output { IsFresh output.old }
     requires errors { IsFresh errors.old }
     ensures { Works K.rows K.is_up K.failed F.remaining R.remaining W.contents E.contents task
-        (option_copied file) keeper (streams input.old output.old errors.old)
+        (option_copied file.entry) keeper (streams input.old output.old errors.old)
         result.0 result.1 (streams input.new output.new errors.new) }
 {
     match Office::start(alloc, keeper, Limits::default()) {
         Ok(office) => {
-            let (status, office) = work_over(alloc, task, office, input, output, errors);
+            let (status, office) = do_work(alloc, task, office, input, output, errors);
             (status, office.into_keeper())
         }
         Err((fault, keeper)) => (tell_at(alloc, errors, file, fault), keeper),
@@ -118,6 +119,6 @@ pub fn work_in_memory<F: Read + Drop, R: Read, W: Write, E: Write>(
     // That the base has its form is known from here on.
     let _ = base.as_str();
     let keeper = MemKeeper::new(alloc, base);
-    let (status, _) = work(alloc, task, None, keeper, input, output, errors);
+    let (status, _) = work_over(alloc, task, None, keeper, input, output, errors);
     status
 }

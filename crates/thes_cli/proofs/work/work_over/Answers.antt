@@ -1,12 +1,12 @@
-use Rattle.std.proofs.Common.{inl, inr}
-use Rattle.thes_cli.proofs.work.work.Goals as goal
+use Rattle.std.proofs.Common.{inl, inr, refl}
+use Rattle.thes_cli.proofs.work.work_over.Goals as goal
 
 pub returns-in-Ok : goal.returns-in-Ok
 returns-in-Ok g c = inl record {
   before = c.in-Ok.office;
   opened = record { limits = c.in-Ok.ensures.limits; same = c.in-Ok.ensures.same; shows = c.in-Ok.ensures.shows };
-  after = c.work_over.result.1;
-  does = c.work_over.ensures;
+  after = c.do_work.result.1;
+  does = c.do_work.ensures;
   kept = c.into_keeper.ensures;
 }
 
