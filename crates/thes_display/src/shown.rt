@@ -29,8 +29,8 @@ pub enum Shown {
     No(Refusal),
 }
 
-// Why there is no such scheme, if there is none.
-fn judge_scheme(core: &Core, scheme: ResNo) -> Option<Refusal>
+/// Judges whether there is such a scheme, and tells why not.
+pub fn judge_scheme(core: &Core, scheme: ResNo) -> Option<Refusal>
     requires { core.now.spent ≡ false }
     ensures { let resources = core.now.resources in
         MatchOption result (IsScheme resources scheme) (IsNoScheme resources scheme) }

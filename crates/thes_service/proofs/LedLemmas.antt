@@ -42,7 +42,7 @@ module _ {K : Type 0} (rows : K → Raw) (is_up : K → Type 0) (failed : K → 
   }
 
   -- a call that leaves the tables
-  led_same : {T : Type 0} (old mid new : Kept K) (result : Result T Fault) → IsLedOn rows is_up failed old mid → Goes rows is_up failed mid new result → Same rows is_up mid new → IsLedOn rows is_up failed old new
+  pub led_same : {T : Type 0} (old mid new : Kept K) (result : Result T Fault) → IsLedOn rows is_up failed old mid → Goes rows is_up failed mid new result → Same rows is_up mid new → IsLedOn rows is_up failed old new
   led_same old mid new result led goes same = record {
     limits = goes.limits ∙ led.limits;
     was = λ up. led.was (goes.was up);
@@ -52,7 +52,7 @@ module _ {K : Type 0} (rows : K → Raw) (is_up : K → Type 0) (failed : K → 
   }
 
   -- a request that is answered
-  led_step : (old mid new : Kept K) (command : Command) (answer : Answer) → IsLedOn rows is_up failed old mid → Goes rows is_up failed mid new (let x : Result Answer Fault = Ok answer in x)
+  pub led_step : (old mid new : Kept K) (command : Command) (answer : Answer) → IsLedOn rows is_up failed old mid → Goes rows is_up failed mid new (let x : Result Answer Fault = Ok answer in x)
       → (is_up new.keeper → Steps mid.limits (rows mid.keeper) command answer (rows new.keeper)) → IsLedOn rows is_up failed old new
   led_step old mid new command answer led goes steps = record {
     limits = goes.limits ∙ led.limits;
@@ -63,7 +63,7 @@ module _ {K : Type 0} (rows : K → Raw) (is_up : K → Type 0) (failed : K → 
         (x.0 ++ command ∷ [], x.1 ++ answer ∷ [], goes_on_by old.limits (rows old.keeper) (rows mid.keeper) (rows new.keeper) x.0 x.1 command answer x.2 step);
   }
 
-  led_kept : (old mid new : Kept K) → IsLedOn rows is_up failed old mid → new ≡ mid → IsLedOn rows is_up failed old new
+  pub led_kept : (old mid new : Kept K) → IsLedOn rows is_up failed old mid → new ≡ mid → IsLedOn rows is_up failed old new
   led_kept old mid new led same = subst (IsLedOn rows is_up failed old) (sym same) led
 
   served : (line : List ℕ) (o : Outcome) (old mid new : Kept K) → OfficeServes rows is_up failed mid line o new → IsLedOn rows is_up failed old mid → IsLedOn rows is_up failed old new

@@ -6,6 +6,7 @@ use Rattle.serde_json.specs.Data.{Data}
 use Rattle.thes_base.specs.declared.data.Limits.{Limits}
 use Rattle.thes_base.specs.declared.fault.Fault.{Fault}
 use Rattle.thes_base.specs.declared.fault.Refusal.{Refusal}
+use Rattle.thes_base.specs.Legal.{Legal}
 use Rattle.thes_base.specs.State.{State}
 use Rattle.thes_base.specs.Views.{standing_histories}
 use Rattle.thes_rows.specs.Cells.{Raw}
@@ -17,6 +18,7 @@ use Rattle.thes_store.specs.Handing.{Takes}
 use Rattle.thes_office.specs.Asks.{InShown}
 use Rattle.thes_office.specs.Listing.{Lists, rows_at}
 use Rattle.thes_office.specs.Office.{Goes, IsCopy, Kept, Readied}
+use Rattle.thes_office.specs.Shows.{Shows}
 use Rattle.thes_office.proofs.ShowLemmas.{shows_one}
 use Rattle.thes_exchange.specs.declared.desk.Viewed.{Viewed}
 use Rattle.thes_exchange.specs.declared.desk.Viewed.TheVariants as viewed
@@ -27,12 +29,18 @@ use Rattle.thes_exchange.specs.Listing.{entries}
 use Rattle.thes_exchange.specs.ViewTexts.{entry_data, line_text, listing_data, postings_data}
 use Rattle.thes_service.specs.Desk.{OfficeShows}
 use Rattle.thes_service.specs.Rows.{ListsRow}
+use Rattle.thes_service.specs.Service.{TellsOfState}
 use Rattle.thes_service.specs.declared.rows.Rows.{Rows}
 
--- what is so in each state that a copy holds is so in the state that the rows show
+-- what is so in each legal state that a copy holds is so in the state that the rows show, with its base
+held_based : (raw : Raw) (limits : Limits) (copy : core.Kept) (P : List ℕ → State → Type 0) → IsCopy raw limits copy → ((s : State) → Holds copy s → Legal copy.setting.base s → P copy.setting.base s) → (base : List ℕ) (s : State) → Shows raw base s → P base s
+held_based raw limits copy P is so base s x =
+    let one = shows_one raw copy.setting.base base is.state s is.shows x in
+    subst (λ (p : List ℕ × State). P p.0 p.1) (λ i. (one.0 i, one.1 i)) (so is.state is.holds is.shows.legal)
+
+-- and so where the base doesn't matter
 pub held_shown : (raw : Raw) (limits : Limits) (copy : core.Kept) (P : State → Type 0) → IsCopy raw limits copy → ((s : State) → Holds copy s → P s) → InShown raw P
-held_shown raw limits copy P is so base s x =
-    subst P (shows_one raw copy.setting.base base is.state s is.shows x).1 (so is.state is.holds)
+held_shown raw limits copy P is so = held_based raw limits copy (λ base. P) is (λ s holds legal. so s holds)
 
 -- The postings at a concept.
 
@@ -80,4 +88,14 @@ module _ {K : Type 0} (rows : K → Raw) (is_up : K → Type 0) (failed : K → 
         goes = goes_on_to old new copy told here.goes;
         same = here.same;
         viewed = λ up. held_shown (rows new.keeper) new.limits copy.now (λ s. IsViewed s (asked.Concept n) (Ok told)) (here.shown.copies up) so;
+      }
+
+  -- what is told of each state that a core holds, which was handed out
+  pub told_ready : {A : Type 0} (IsSo : List ℕ → State → A → Type 0) (old new : Kept K) (result : Result (Bor core.Kept) Fault) (copy : Bor core.Kept) (told : A) → Readied rows is_up failed old result new → result ≡ Ok copy
+      → ((s : State) → Holds copy.now s → Legal copy.now.setting.base s → IsSo copy.now.setting.base s told) → TellsOfState rows is_up failed IsSo old (Ok told) new
+  told_ready IsSo old new result copy told ready is so =
+      let here = subst (λ (r : Result (Bor core.Kept) Fault). Readied rows is_up failed old r new) is ready in record {
+        goes = goes_on_to old new copy told here.goes;
+        same = here.same;
+        told = λ up. held_based (rows new.keeper) new.limits copy.now (λ base s. IsSo base s told) (here.shown.copies up) so;
       }

@@ -1,10 +1,16 @@
-//! An office over a keeper as a desk.
+//! An office over a keeper as a desk, and as all that a connection may ask for.
 #![tactic(auto)]
 
+mod displaying;
+mod exporting;
 pub mod front_desk;
+mod importing;
 mod rows;
 pub mod script;
+pub mod server;
+pub mod service;
 mod viewing;
 
 pub use front_desk::FrontDesk;
 pub use script::office_script;
+pub use server::office_serve;
