@@ -1,5 +1,5 @@
 -- What the program does with what the words of the command line ask for.
-use Rattle.std.specs.Prelude.{◌≡◌, ◌⊎◌, false, ℕ, List, Option, MatchResult, MatchOption, Result}
+use Rattle.std.specs.Prelude.{◌≡◌, ◌⊎◌, false, ℕ, List, Option, MatchResult, MatchOption, Result, codes}
 use Rattle.thes_base.specs.Headline.{IsInOrder}
 use Rattle.thes_base.specs.Pipe.{KeepsToLimit}
 use Rattle.thes_base.specs.State.{empty_state}
@@ -16,7 +16,7 @@ use Rattle.thes_exchange.specs.declared.script.Ended.{Ended}
 use Rattle.thes_cli.specs.Ending.{last_fault, status_of, fault_line, sizes_line, Prints}
 use Rattle.thes_cli.specs.Parting.{PrintsError, PrintsText}
 use Rattle.thes_cli.specs.declared.words.Task.{Task}
-use Rattle.thes_cli.specs.declared.words.Task.TheVariants.{Script, Check}
+use Rattle.thes_cli.specs.declared.words.Task.TheVariants.{Script, Import, Export, Display, Serve, Check}
 
 -- the limits of a store that is given none
 abbrev pub default_limits : Limits
@@ -34,6 +34,10 @@ pub record IsNewStore (base : List ℕ) (store : Kept) : Type 0 where
   pub base_is : store.setting.base ≡ base
   pub limits : store.setting.limits ≡ default_limits
   pub unspent : store.spent ≡ false
+
+-- what is told of a command that is not there yet
+abbrev pub absent_line : List ℕ
+absent_line = codes "thesaurus: this command is not there yet\n"
 
 -- how much an empty store holds
 abbrev pub no_sizes : Sizes
@@ -73,6 +77,10 @@ module _ {R W : Type 0} (remaining : R → Option (List ℕ)) (out : W → Optio
       (λ fault. Prints err errors errors' (fault_line fault))
       × (status ≡ status_of result)
 
+  -- A command that is not there yet is told, and nothing is done.
+  abbrev pub TellsAbsent : ℕ → Type 0
+  TellsAbsent status = (input' ≡ input) × PrintsError out err output output' errors errors' absent_line 2 status
+
   -- A script was run and its end told, or how much a new store holds.
   abbrev pub Works : Task → List ℕ → ℕ → Type 0
   Works Script base status =
@@ -80,3 +88,7 @@ module _ {R W : Type 0} (remaining : R → Option (List ℕ)) (out : W → Optio
       × AnswersScript remaining out input input' output output' base result × Closes result status
   Works Check base status =
       (input' ≡ input) × ChecksStore out err output output' errors errors' status
+  Works (Import file) base status = TellsAbsent status
+  Works Export base status = TellsAbsent status
+  Works (Display shown) base status = TellsAbsent status
+  Works (Serve serving) base status = TellsAbsent status

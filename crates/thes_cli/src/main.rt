@@ -1,6 +1,7 @@
 //! The program. It hands the words of the command line, its streams and its file on, and ends with a status.
 #![tactic(auto)]
 
+mod commands;
 mod ending;
 mod parting;
 mod stores;
@@ -53,7 +54,7 @@ fn work_in_file<R: Read, W: Write, E: Write>(
 {
     let alloc = rt.alloc();
     let made = is_blank(rt, file).then_some(base);
-    if made.is_some() && task == Task::Check {
+    if made.is_some() && matches!(task, Task::Check) {
         return tell_of(alloc, errors, file, Fault::Store);
     }
     match Connection::open(rt, file) {

@@ -7,6 +7,7 @@ ghost use Rattle.thes_base.specs.Pipe.{IsFresh};
 
 use crate::ending::{close, print_out, sizes_line, tell_of};
 use crate::words::Task;
+use crate::work::tell_absent;
 use sqlite::{Alter, Connection, Error, ErrorCode};
 use std::alloc::Global;
 use std::io::{Read, Write};
@@ -99,6 +100,9 @@ fn work_over<K: Keeper, R: Read, W: Write, E: Write>(
         Task::Check => {
             let status = tell_sizes(alloc, file, &mut office, output, errors);
             (status, office.into_keeper())
+        }
+        Task::Import(_) | Task::Export | Task::Display(_) | Task::Serve(_) => {
+            (tell_absent(errors), office.into_keeper())
         }
     }
 }

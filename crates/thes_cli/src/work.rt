@@ -1,9 +1,10 @@
 //! What the program does with a new store in memory.
 ghost use Rattle.std.specs.Prelude.{◌≡◌};
 ghost use Rattle.thes_base.specs.Pipe.{IsFresh, KeepsToLimit};
-ghost use Rattle.thes_cli.specs.Work.{IsNewStore, AnswersScript, ChecksStore, Works};
+ghost use Rattle.thes_cli.specs.Ending.{Prints};
+ghost use Rattle.thes_cli.specs.Work.{absent_line, IsNewStore, AnswersScript, ChecksStore, Works};
 
-use crate::ending::{close, print_out, sizes_line, tell};
+use crate::ending::{close, print, print_out, sizes_line, tell};
 use crate::words::Task;
 use std::alloc::Global;
 use std::io::{Read, Write};
@@ -14,6 +15,18 @@ use thes_base::text::Base;
 use thes_exchange::core_desk::core_script;
 use thes_exchange::script::Ended;
 use thes_machine::Machine;
+
+const ABSENT: &str = "thesaurus: this command is not there yet\n";
+
+/// Tells that a command is not there yet, and returns the status of words that are no command.
+pub fn tell_absent<E: Write>(errors: &mut Pipe<E>) -> u8
+    requires { IsFresh errors.old }
+    ensures line { Prints E.contents errors.old errors.new absent_line }
+    ensures status { result ≡ 2 }
+{
+    print(errors, ABSENT.as_bytes());
+    2
+}
 
 // Makes an empty store.
 fn new_store(alloc: Global, base: Base) -> Machine
@@ -76,5 +89,6 @@ pub fn work<R: Read, W: Write, E: Write>(
             close(errors, &ended)
         }
         Task::Check => check(alloc, base, output, errors),
+        Task::Import(_) | Task::Export | Task::Display(_) | Task::Serve(_) => tell_absent(errors),
     }
 }
