@@ -2,4 +2,8 @@ pub mod CommandLineLemmas
 pub mod ScriptLemmas
 pub mod ReadyLemmas
 pub mod NewStoreLemmas
+pub mod ReadingLemmas
+pub mod WalkedLemmas
+pub mod CompletingLemmas
+pub mod WorkLemmas
 pub mod PrintLemmas

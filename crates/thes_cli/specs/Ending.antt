@@ -27,6 +27,10 @@ status_of (Ok ended) = status_with (option_map faults.Fault ended.fault) ended.r
 abbrev pub fault_line : PipeFault → List ℕ
 fault_line fault = codes "thesaurus: fault " ++ pipe_text fault ++ codes "\n"
 
+-- the line of a socket that can't be opened, and of a connection that can't be accepted
+abbrev pub net_line : List ℕ
+net_line = codes "thesaurus: fault Net\n"
+
 -- the line of the file that a store is in
 abbrev pub file_line : List ℕ → List ℕ
 file_line file = codes "thesaurus: store " ++ file ++ codes "\n"

@@ -1,5 +1,6 @@
 pub mod Ending
 pub mod Parting
+pub mod Commands
 pub mod CommandLine
 pub mod Streams
 pub mod Opening
@@ -8,5 +9,6 @@ pub mod Checking
 pub mod Exporting
 pub mod Displaying
 pub mod Importing
+pub mod Serving
 pub mod Work
 pub mod Stores

@@ -185,6 +185,15 @@ pub fn tell<E: Write>(errors: &mut Pipe<E>, fault: PipeFault) -> u8
     tell_text(errors, fault_line(fault).as_bytes())
 }
 
+/// Prints that a socket can't be opened or a connection can't be accepted, and returns the status for it.
+pub fn tell_net<E: Write>(errors: &mut Pipe<E>) -> u8
+    requires { IsFresh errors.old }
+    ensures line { Prints E.contents errors.old errors.new ends.net_line }
+    ensures status { result ≡ 3 }
+{
+    tell_text(errors, b"thesaurus: fault Net\n")
+}
+
 /// Prints the fault that a script met, if any, and returns the exit status.
 pub fn close<E: Write>(errors: &mut Pipe<E>, ended: &Result<Ended, PipeFault>) -> u8
     requires { IsFresh errors.old }

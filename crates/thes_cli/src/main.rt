@@ -2,33 +2,36 @@
 #![tactic(auto)]
 
 mod checking;
+mod commands;
 mod displaying;
 mod ending;
 mod exporting;
 mod importing;
 mod parting;
 mod scripting;
+mod serving;
 mod stores;
 mod words;
 mod work;
 
 ghost use Rattle.thes_base.specs.Pipe.{IsFresh};
 
-use ending::{tell, tell_of};
+use ending::{tell, tell_net, tell_of};
 use parting::part;
 use sqlite::Connection;
 use std::alloc::Global;
 use std::fs;
 use std::fs::File;
-use std::io;
 use std::io::{ErrorKind, Read, Write};
+use std::net::{Ipv4Addr, TcpListener};
 use std::process::ExitCode;
 use std::rt::Env;
+use serving::Listening;
 use stores::{fault_of, work_in_database, work_in_new_database};
 use thes_base::fault::{Fault, PipeFault};
 use thes_base::pipe::Pipe;
 use thes_base::text::Base;
-use words::{Job, Parting, Task, plan_args};
+use words::{Job, Parting, Serving, Task, plan_args};
 use work::{Work, work_in_memory};
 
 // What the command line asks for.
@@ -44,11 +47,46 @@ fn is_blank(rt: &HostRuntime, file: &str) -> bool {
     }
 }
 
-// What a task is over a store, with the file that it names opened.
-fn opened(rt: &HostRuntime, task: Task) -> io::Result<Work<File>> {
+// What a task names, and can't be opened.
+enum Unopened {
+    File,
+    Socket,
+}
+
+// Prints what can't be opened, and returns the status for it.
+fn tell_unopened<E: Write>(errors: &mut Pipe<E>, unopened: &Unopened) -> u8
+    requires { IsFresh errors.old }
+{
+    match unopened {
+        Unopened::File => tell(errors, PipeFault::Read),
+        Unopened::Socket => tell_net(errors),
+    }
+}
+
+// Opens a socket on this machine alone.
+fn listening(rt: &HostRuntime, serving: Serving) -> Result<Listening<TcpListener>, Unopened> {
+    match TcpListener::bind(rt, (Ipv4Addr::LOCALHOST, serving.port)) {
+        Ok(listener) => Ok(Listening {
+            listener,
+            port: serving.port,
+            count: serving.count,
+        }),
+        Err(_) => Err(Unopened::Socket),
+    }
+}
+
+// What a task is over a store, with the file or the socket that it names opened.
+fn opened(rt: &HostRuntime, task: Task) -> Result<Work<File, TcpListener>, Unopened> {
     match task {
         Task::Script => Ok(Work::Script),
         Task::Check => Ok(Work::Check),
+        Task::Export => Ok(Work::Export),
+        Task::Display(shown) => Ok(Work::Display(shown)),
+        Task::Import(file) => match File::open(rt, file.as_str()) {
+            Ok(file) => Ok(Work::Import(file)),
+            Err(_) => Err(Unopened::File),
+        },
+        Task::Serve(serving) => Ok(Work::Serve(listening(rt, serving)?)),
     }
 }
 
@@ -75,12 +113,13 @@ fn work_in_file<R: Read, W: Write, E: Write>(
         Ok(conn) => conn,
         Err(error) => return tell_of(alloc, errors, file, fault_of(error)),
     };
-    let Ok(task) = opened(rt, task) else {
-        return tell(errors, PipeFault::Read);
+    let task = match opened(rt, task) {
+        Ok(task) => task,
+        Err(unopened) => return tell_unopened(errors, &unopened),
     };
     let (status, conn) = match made {
-        Some(base) => work_in_new_database(alloc, task, file, conn, base, input, output, errors),
-        None => work_in_database(alloc, task, file, conn, input, output, errors),
+        Some(base) => work_in_new_database::<HostRuntime, _, _, _, _, _>(alloc, task, file, conn, base, input, output, errors),
+        None => work_in_database::<HostRuntime, _, _, _, _, _>(alloc, task, file, conn, input, output, errors),
     };
     // What was answered stands in the log; where it can't be copied now, the next program does that.
     let _ = conn.close();
@@ -104,8 +143,8 @@ fn perform<R: Read, W: Write, E: Write>(
         return work_in_file(rt, task, file.as_str(), &base, input, output, errors);
     }
     match opened(rt, task) {
-        Ok(task) => work_in_memory(rt.alloc(), task, base, input, output, errors),
-        Err(_) => tell(errors, PipeFault::Read),
+        Ok(task) => work_in_memory::<HostRuntime, _, _, _, _>(rt.alloc(), task, base, input, output, errors),
+        Err(unopened) => tell_unopened(errors, &unopened),
     }
 }
 

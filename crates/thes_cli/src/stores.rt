@@ -9,6 +9,7 @@ use crate::work::{Work, work_over};
 use sqlite::{Alter, Connection, Error, ErrorCode};
 use std::alloc::Global;
 use std::io::{Read, Write};
+use std::net::Net;
 use thes_base::fault::Fault;
 use thes_base::pipe::Pipe;
 use thes_base::text::Base;
@@ -25,9 +26,9 @@ pub fn fault_of(error: Error) -> Fault {
 
 /// Works over the store in a database, and returns the exit status with the connection. The file is named where the store
 /// can't be opened.
-pub fn work_in_database<S: Alter, F: Read + Drop, R: Read, W: Write, E: Write>(
+pub fn work_in_database<N: Net, S: Alter, F: Read + Drop, R: Read, W: Write, E: Write>(
     alloc: Global,
-    task: Work<F>,
+    task: Work<F, N::Listener>,
     file: &str,
     conn: Connection<S>,
     input: &mut Pipe<R>,
@@ -43,14 +44,14 @@ pub fn work_in_database<S: Alter, F: Read + Drop, R: Read, W: Write, E: Write>(
         result.0 result.1 (streams input.new output.new errors.new) }
 {
     let keeper = SqlKeeper::adopt(alloc, conn);
-    let (status, keeper) = work_over(alloc, task, Some(file), keeper, input, output, errors);
+    let (status, keeper) = work_over::<N, SqlKeeper<S>, F, R, W, E>(alloc, task, Some(file), keeper, input, output, errors);
     (status, keeper.into_connection())
 }
 
 /// Works over a new store with this base, in a database that has no tables yet.
-pub fn work_in_new_database<S: Alter, F: Read + Drop, R: Read, W: Write, E: Write>(
+pub fn work_in_new_database<N: Net, S: Alter, F: Read + Drop, R: Read, W: Write, E: Write>(
     alloc: Global,
-    task: Work<F>,
+    task: Work<F, N::Listener>,
     file: &str,
     mut conn: Connection<S>,
     base: &Base,
@@ -67,7 +68,7 @@ pub fn work_in_new_database<S: Alter, F: Read + Drop, R: Read, W: Write, E: Writ
         result.0 result.1 (streams input.new output.new errors.new) }
 {
     match create_tables(&mut conn, base) {
-        Ok(_) => work_in_database(alloc, task, file, conn, input, output, errors),
+        Ok(_) => work_in_database::<N, S, F, R, W, E>(alloc, task, file, conn, input, output, errors),
         Err(error) => (tell_of(alloc, errors, file, fault_of(error)), conn),
     }
 }

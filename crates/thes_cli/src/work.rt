@@ -10,28 +10,21 @@ use crate::ending::tell_at;
 use crate::exporting::export_store;
 use crate::importing::import_file;
 use crate::scripting::answer_script;
+use crate::serving::{Listening, serve_store};
+use crate::words::Shown;
 use std::alloc::Global;
 use std::io::{Read, Write};
+use std::net::Net;
 use thes_base::data::Limits;
-use thes_base::number::ResNo;
 use thes_base::pipe::Pipe;
-use thes_base::text::{Base, Tag};
-use thes_http::service::Display;
+use thes_base::text::Base;
 use thes_office::Office;
 use thes_store::keeper::Keeper;
 use thes_store::mem::MemKeeper;
 
-/// A display of a scheme in a language.
-#[derive(Drop)]
-pub struct Asked {
-    pub display: Display,
-    pub scheme: ResNo,
-    pub tag: Tag,
-}
-
 /// What is done over a store.
 #[derive(Drop)]
-pub enum Work<F> {
+pub enum Work<F, L> {
     /// Answers a script.
     Script,
     /// Tells how much the store holds.
@@ -39,15 +32,17 @@ pub enum Work<F> {
     /// Writes the vocabulary as N-Triples.
     Export,
     /// Writes a display.
-    Display(Asked),
+    Display(Shown),
     /// Performs the postings of this file.
     Import(F),
+    /// Serves connections that come to this socket.
+    Serve(Listening<L>),
 }
 
 // Does it over an office, and returns the exit status with the office.
-fn do_work<K: Keeper, F: Read + Drop, R: Read, W: Write, E: Write>(
+fn do_work<N: Net, K: Keeper, F: Read + Drop, R: Read, W: Write, E: Write>(
     alloc: Global,
-    task: Work<F>,
+    task: Work<F, N::Listener>,
     mut office: Office<K>,
     input: &mut Pipe<R>,
     output: &mut Pipe<W>,
@@ -62,13 +57,16 @@ fn do_work<K: Keeper, F: Read + Drop, R: Read, W: Write, E: Write>(
 {
     let status = match task {
         Work::Script => return answer_script(alloc, office, input, output, errors),
+        Work::Serve(listening) => {
+            return serve_store::<N, K, W, E>(alloc, &listening, office, output, errors);
+        }
         Work::Check => check_store(alloc, &mut office, output, errors),
         Work::Export => export_store(alloc, &mut office, output, errors),
-        Work::Display(Asked {
+        Work::Display(Shown {
             display,
             scheme,
-            tag,
-        }) => display_store(alloc, &mut office, display, scheme, &tag, output, errors),
+            lang,
+        }) => display_store(alloc, &mut office, display, scheme, &lang, output, errors),
         Work::Import(file) => import_file(alloc, file, &mut office, output, errors),
     };
     (status, office)
@@ -76,9 +74,9 @@ fn do_work<K: Keeper, F: Read + Drop, R: Read, W: Write, E: Write>(
 
 /// Opens the store that a keeper has, with the usual limits, and works over it; and returns the exit status with the keeper.
 /// The file that the store is in is named where it can't be opened.
-pub fn work_over<K: Keeper, F: Read + Drop, R: Read, W: Write, E: Write>(
+pub fn work_over<N: Net, K: Keeper, F: Read + Drop, R: Read, W: Write, E: Write>(
     alloc: Global,
-    task: Work<F>,
+    task: Work<F, N::Listener>,
     file: Option<&str>,
     keeper: K,
     input: &mut Pipe<R>,
@@ -94,7 +92,7 @@ pub fn work_over<K: Keeper, F: Read + Drop, R: Read, W: Write, E: Write>(
 {
     match Office::start(alloc, keeper, Limits::default()) {
         Ok(office) => {
-            let (status, office) = do_work(alloc, task, office, input, output, errors);
+            let (status, office) = do_work::<N, K, F, R, W, E>(alloc, task, office, input, output, errors);
             (status, office.into_keeper())
         }
         Err((fault, keeper)) => (tell_at(alloc, errors, file, fault), keeper),
@@ -102,9 +100,9 @@ pub fn work_over<K: Keeper, F: Read + Drop, R: Read, W: Write, E: Write>(
 }
 
 /// Works over a new store in memory, with the usual limits, and returns the exit status.
-pub fn work_in_memory<F: Read + Drop, R: Read, W: Write, E: Write>(
+pub fn work_in_memory<N: Net, F: Read + Drop, R: Read, W: Write, E: Write>(
     alloc: Global,
-    task: Work<F>,
+    task: Work<F, N::Listener>,
     base: Base,
     input: &mut Pipe<R>,
     output: &mut Pipe<W>,
@@ -119,6 +117,6 @@ pub fn work_in_memory<F: Read + Drop, R: Read, W: Write, E: Write>(
     // That the base has its form is known from here on.
     let _ = base.as_str();
     let keeper = MemKeeper::new(alloc, base);
-    let (status, _) = work_over(alloc, task, None, keeper, input, output, errors);
+    let (status, _) = work_over::<N, MemKeeper, F, R, W, E>(alloc, task, None, keeper, input, output, errors);
     status
 }
