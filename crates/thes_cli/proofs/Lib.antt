@@ -5,5 +5,4 @@ pub mod NewStoreLemmas
 pub mod ReadingLemmas
 pub mod WalkedLemmas
 pub mod CompletingLemmas
-pub mod WorkLemmas
 pub mod PrintLemmas
