@@ -1,11 +1,12 @@
 -- A new store shows the empty state.
-use Rattle.std.proofs.Common.{◌≡◌, ◌⊎◌, ◌∙◌, inl, inr, ap, refl, sym, subst, ℕ, List, [], Option, None, Some, Ok, Err, true, arith}
+use Rattle.std.proofs.Common.{◌≡◌, ◌⊎◌, ◌∙◌, inl, inr, ap, refl, sym, subst, ℕ, List, [], Option, None, Some, Ok, Err, true, arith, suc}
 use Rattle.std.specs.Prelude.{◌<◌, length}
 use Rattle.std.specs.FinSet as set
 use Rattle.std.specs.FinMap as dict
 use Rattle.thes_base.specs.Forms.{IsBase}
 use Rattle.thes_base.specs.Labels.{label_cmp}
-use Rattle.thes_base.specs.Links.{link_cmp}
+use Rattle.thes_base.specs.Links.{HeldIn, link_cmp}
+use Rattle.thes_base.specs.declared.data.Link.{Link}
 use Rattle.thes_base.specs.Postings.{accepted_count, withdrawn_count, move_count}
 use Rattle.thes_base.specs.Resources.{numbered}
 use Rattle.thes_base.specs.State.{State, empty_state}
@@ -14,7 +15,7 @@ use Rattle.thes_base.specs.declared.fault.Fault.{Fault}
 use Rattle.thes_base.specs.declared.fault.Fault.TheVariants as faults
 use Rattle.thes_base.specs.declared.fault.PipeFault.TheVariants as pipe
 use Rattle.thes_rows.specs.Cells.{listed}
-use Rattle.thes_rows.specs.Tables.{Tables, no_rows}
+use Rattle.thes_rows.specs.Tables.{Tables, hier_link, no_rows}
 use Rattle.thes_store.specs.Causes.{most}
 use Rattle.thes_tables.specs.Loads.{Loads}
 use Rattle.thes_office.proofs.ShowLemmas.{faulty_shows_none}
@@ -30,6 +31,9 @@ none_at : {A : Type 0} (n : ℕ) (x : A) → numbered [] n ≡ Some x → ⊥
 none_at zero x e = cc
 none_at (suc n) x e = cc
 
+no_link : (l : Link) → HeldIn set.empty l → ⊥
+no_link l h = let e = set.contains-empty link_cmp l in cc
+
 pub new_store_shows : (base : List ℕ) → IsBase base → Shows (listed (no_rows base)) base empty_state
 new_store_shows base form = record {
   tables = no_rows base;
@@ -39,8 +43,8 @@ new_store_shows base form = record {
     resource = refl;
     outside = record { same = refl; ascends = tt };
     label = record { sound = λ row is. absurd is; complete = λ row h. absurd (let e = set.contains-empty label_cmp row in cc); once = tt };
-    link = record { sound = λ row is. absurd is; complete = λ row h. absurd (let held = h.0 in let e = set.contains-empty link_cmp row in cc); once = tt };
-    hier = record { sound = λ row is. absurd is; complete = λ row h. absurd (let e = set.contains-empty link_cmp _ in cc); once = tt };
+    link = record { sound = λ row is. absurd is; complete = λ row h. absurd (no_link row h.0); once = tt };
+    hier = record { sound = λ row is. absurd is; complete = λ row h. absurd (no_link (hier_link row) h); once = tt };
     posting = refl;
     move = record { rises = tt; sound = λ row is. absurd is; complete = λ row h. absurd (none_at _ h.0 h.1) };
   };

@@ -1,5 +1,5 @@
 //! A display of a scheme of a store in a language.
-ghost use Rattle.std.specs.Prelude.{◌≡◌, false, IfOk, IfErr};
+ghost use Rattle.std.specs.Prelude.{◌≡◌, false, Ok, IfOk, IfErr};
 ghost use Rattle.thes_base.specs.Pipe.{IsFresh};
 ghost use Rattle.thes_base.specs.State.{State};
 ghost use Rattle.thes_core.specs.Kept.{Holds};
@@ -61,17 +61,27 @@ fn write_display<K: Keeper, W: Write>(
     write_held(alloc, core, display, scheme, tag, output)
 }
 
+// Tells what became of a display, and returns the status.
+fn tell_done<E: Write>(errors: &mut Pipe<E>, shown: Shown) -> u8
+    requires { IsFresh errors.old }
+    ensures { EndsShown E.contents errors.old errors.new (Ok shown) result }
+{
+    match shown {
+        Shown::Written => 0,
+        Shown::No(refusal) => {
+            print_error(errors, refusal_line(refusal).as_bytes());
+            1
+        }
+    }
+}
+
 // Tells how a display ended, and returns the status.
 fn tell_shown<E: Write>(errors: &mut Pipe<E>, shown: Result<Shown, PipeFault>) -> u8
     requires { IsFresh errors.old }
     ensures { EndsShown E.contents errors.old errors.new shown result }
 {
     match shown {
-        Ok(Shown::Written) => 0,
-        Ok(Shown::No(refusal)) => {
-            print_error(errors, refusal_line(refusal).as_bytes());
-            1
-        }
+        Ok(shown) => tell_done(errors, shown),
         Err(fault) => tell(errors, fault),
     }
 }

@@ -1,4 +1,5 @@
 //! A posting file that is performed over a store.
+ghost use Rattle.std.specs.Prelude.{Ok};
 ghost use Rattle.thes_base.specs.Pipe.{IsFresh};
 ghost use Rattle.thes_cli.specs.Importing.{EndsImport, Imports, ImportsStore};
 
@@ -26,17 +27,27 @@ fn import_rows<K: Keeper, F: Read, W: Write>(
     import(alloc, file, output, office)
 }
 
-// Tells how an import ended, and returns the status.
-fn tell_import<E: Write>(errors: &mut Pipe<E>, ended: &Result<Ended, Stopped>) -> u8
+// Tells whether all rows were performed, and returns the status.
+fn tell_done<E: Write>(errors: &mut Pipe<E>, ended: Ended) -> u8
     requires { IsFresh errors.old }
-    ensures { EndsImport E.contents errors.old errors.new ended.now result }
+    ensures { EndsImport E.contents errors.old errors.new (Ok ended) result }
 {
     match ended {
-        Ok(Ended::Rows(counts)) => u8::from(counts.refused > 0),
-        Ok(Ended::Malformed) => {
+        Ended::Rows(counts) => u8::from(counts.refused > 0),
+        Ended::Malformed => {
             print_error(errors, form_line(FormFault::BadShape).as_bytes());
             1
         }
+    }
+}
+
+// Tells how an import ended, and returns the status.
+fn tell_import<E: Write>(errors: &mut Pipe<E>, ended: Result<Ended, Stopped>) -> u8
+    requires { IsFresh errors.old }
+    ensures { EndsImport E.contents errors.old errors.new ended result }
+{
+    match ended {
+        Ok(ended) => tell_done(errors, ended),
         Err(stopped) => tell(errors, stopped.fault),
     }
 }
@@ -56,5 +67,5 @@ pub fn import_file<K: Keeper, F: Read + Drop, W: Write, E: Write>(
 {
     let mut given = Pipe::new(file);
     let ended = import_rows(alloc, &mut given, office, output);
-    tell_import(errors, &ended)
+    tell_import(errors, ended)
 }

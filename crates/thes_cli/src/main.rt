@@ -48,13 +48,14 @@ fn is_blank(rt: &HostRuntime, file: &str) -> bool {
 }
 
 // What a task names, and can't be opened.
+#[derive(Clone, Copy)]
 enum Unopened {
     File,
     Socket,
 }
 
 // Prints what can't be opened, and returns the status for it.
-fn tell_unopened<E: Write>(errors: &mut Pipe<E>, unopened: &Unopened) -> u8
+fn tell_unopened<E: Write>(errors: &mut Pipe<E>, unopened: Unopened) -> u8
     requires { IsFresh errors.old }
 {
     match unopened {
@@ -115,7 +116,7 @@ fn work_in_file<R: Read, W: Write, E: Write>(
     };
     let task = match opened(rt, task) {
         Ok(task) => task,
-        Err(unopened) => return tell_unopened(errors, &unopened),
+        Err(unopened) => return tell_unopened(errors, unopened),
     };
     let (status, conn) = match made {
         Some(base) => work_in_new_database::<HostRuntime, _, _, _, _, _>(alloc, task, file, conn, base, input, output, errors),
@@ -144,7 +145,7 @@ fn perform<R: Read, W: Write, E: Write>(
     }
     match opened(rt, task) {
         Ok(task) => work_in_memory::<HostRuntime, _, _, _, _>(rt.alloc(), task, base, input, output, errors),
-        Err(unopened) => tell_unopened(errors, &unopened),
+        Err(unopened) => tell_unopened(errors, unopened),
     }
 }
 

@@ -7,10 +7,10 @@ use Rattle.thes_cli.proofs.stores.work_in_database.Goals as goal
 
 pub returns : goal.returns
 returns g c = record {
-  keeper = c.work_over.result.1;
+  keeper = c.work_over-status.result.1;
   works = subst (λ (k : Kept _).
       Works (raw_of_keeper g.S.Store) (IsServing g.S.Store) (λ k. k.failures) g.F.Read.remaining g.R.Read.remaining g.W.Write.contents g.E.Write.contents c.args.task (Some c.args.file.now) k
-      (streams c.args.input.now c.args.output.now c.args.errors.now) c.work_over.result.0 c.work_over.result.1 (streams c.work_over.new.input c.work_over.new.output c.work_over.new.errors))
-      c.adopt.ensures.is c.work_over.ensures;
+      (streams c.args.input.now c.args.output.now c.args.errors.now) c.work_over-status.result.0 c.work_over-status.result.1 (streams c.work_over-status.new.input c.work_over-status.new.output c.work_over-status.new.errors))
+      c.adopt-keeper.ensures.is c.work_over-status.ensures;
   kept = c.into_connection.ensures;
 }

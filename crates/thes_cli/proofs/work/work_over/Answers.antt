@@ -1,12 +1,12 @@
-use Rattle.std.proofs.Common.{inl, inr, refl}
+use Rattle.std.proofs.Common.{◌∙◌, inl, inr, refl}
 use Rattle.thes_cli.proofs.work.work_over.Goals as goal
 
 pub returns-in-Ok : goal.returns-in-Ok
 returns-in-Ok g c = inl record {
   before = c.in-Ok.office;
-  opened = record { limits = c.in-Ok.ensures.limits; same = c.in-Ok.ensures.same; shows = c.in-Ok.ensures.shows };
-  after = c.do_work.result.1;
-  does = c.do_work.ensures;
+  opened = record { limits = c.in-Ok.ensures.limits ∙ c.default.ensures; same = c.in-Ok.ensures.same; shows = c.in-Ok.ensures.shows };
+  after = c.do_work-status.result.1;
+  does = c.do_work-status.ensures;
   kept = c.into_keeper.ensures;
 }
 
