@@ -75,8 +75,8 @@ only_memory base fault left shows un = elim (un.verdict tt) [
   | inr (inr faulty) ↦ absurd (faulty_shows_none (listed (no_rows base)) fault faulty base empty_state shows)
 ]
 
-module _ {F L R W E : Type 0} (given : F → Option (List ℕ)) (remaining : R → Option (List ℕ)) (out : W → Option (List ℕ)) (err : E → Option (List ℕ)) where
-  pub works_in_memory : (task : Work F L) (base : List ℕ) (old : Streams R W E) (status : ℕ) (left : Tables) (new : Streams R W E) → IsBase base
+module _ {F R W E : Type 0} (given : F → Option (List ℕ)) (remaining : R → Option (List ℕ)) (out : W → Option (List ℕ)) (err : E → Option (List ℕ)) where
+  pub works_in_memory : {L : Type 0} (task : Work F L) (base : List ℕ) (old : Streams R W E) (status : ℕ) (left : Tables) (new : Streams R W E) → IsBase base
       → Works listed (λ k. Unit {0}) (λ k. 0) given remaining out err task None (no_rows base) old status left new
       → WorksInMemory given remaining out err task base old status new
   works_in_memory task base old status left new form (inl opened) = record { shows = new_store_shows base form; nothing = empty_sizes; left = left; works = inl opened }

@@ -19,16 +19,16 @@ use Rattle.thes_cli.specs.declared.work.Work.{Work}
 abbrev pub adopted : {S : Type 0} → Held S → Kept S
 adopted conn = record { conn = conn; failures = 0; first = conn }
 
-module _ {S F L R W E : Type 0} (store : Ghosts S) (given : F → Option (List ℕ)) (remaining : R → Option (List ℕ))
+module _ {S F R W E : Type 0} (store : Ghosts S) (given : F → Option (List ℕ)) (remaining : R → Option (List ℕ))
     (out : W → Option (List ℕ)) (err : E → Option (List ℕ)) where
   -- It was done over the tables of the database.
-  pub record WorksInDatabase (task : Work F L) (file : List ℕ) (conn : Held S) (old : Streams R W E) (status : ℕ) (back : Held S) (new : Streams R W E) : Type 0 where
+  pub record WorksInDatabase {L : Type 0} (task : Work F L) (file : List ℕ) (conn : Held S) (old : Streams R W E) (status : ℕ) (back : Held S) (new : Streams R W E) : Type 0 where
     pub keeper : Kept S
     pub works : Works (raw_of_keeper store) (IsServing store) (λ k. k.failures) given remaining out err task (Some file) (adopted conn) old status keeper new
     pub kept : back ≡ keeper.conn
 
   -- The tables of a new store were made, if the database had none, and it was done over them.
-  pub record MakesStore (task : Work F L) (file base : List ℕ) (conn : Held S) (old : Streams R W E) (status : ℕ) (back : Held S) (new : Streams R W E) : Type 0 where
+  pub record MakesStore {L : Type 0} (task : Work F L) (file base : List ℕ) (conn : Held S) (old : Streams R W E) (status : ℕ) (back : Held S) (new : Streams R W E) : Type 0 where
     pub made : Held S
     pub tables : HasCleanDisk (state store made) → IsEmpty schema_0 (state store conn).now
         → Keeps (state store made).committed (no_rows base) × Keeps (state store made).now (no_rows base)
@@ -42,6 +42,6 @@ module _ {S F L R W E : Type 0} (store : Ghosts S) (given : F → Option (List �
     pub tells : TellsOf err old.errors new.errors file (pipe.Fault fault)
     pub status_is : status ≡ 3
 
-  abbrev pub WorksInNewDatabase : Work F L → List ℕ → List ℕ → Held S → Streams R W E → ℕ → Held S → Streams R W E → Type 0
+  abbrev pub WorksInNewDatabase : {L : Type 0} → Work F L → List ℕ → List ℕ → Held S → Streams R W E → ℕ → Held S → Streams R W E → Type 0
   WorksInNewDatabase task file base conn old status back new =
       MakesStore task file base conn old status back new ⊎ TellsUnmade file old status new

@@ -20,10 +20,10 @@ use Rattle.thes_cli.specs.Streams.{Streams}
 use Rattle.thes_cli.specs.declared.work.Work.{Work}
 use Rattle.thes_cli.specs.declared.work.Work.TheVariants.{Script, Check, Export, Display, Import, Serve}
 
-module _ {K F L R W E : Type 0} (rows : K → Raw) (is_up : K → Type 0) (failed : K → ℕ)
+module _ {K F R W E : Type 0} (rows : K → Raw) (is_up : K → Type 0) (failed : K → ℕ)
     (given : F → Option (List ℕ)) (remaining : R → Option (List ℕ)) (out : W → Option (List ℕ)) (err : E → Option (List ℕ)) where
   -- what is done over a store that was opened
-  abbrev pub Does : Work F L → Kept K → Streams R W E → ℕ → Kept K → Streams R W E → Type 0
+  abbrev pub Does : {L : Type 0} → Work F L → Kept K → Streams R W E → ℕ → Kept K → Streams R W E → Type 0
   Does Script before old status after new =
       AnswersScript rows is_up failed remaining out err before old status after new
   Does Check before old status after new =
@@ -46,7 +46,7 @@ module _ {K F L R W E : Type 0} (rows : K → Raw) (is_up : K → Type 0) (faile
       old.output new.output old.errors new.errors status after
 
   -- The store was opened, and it was done; the keeper is handed back.
-  pub record WorksOpened (work : Work F L) (keeper : K) (old : Streams R W E) (status : ℕ) (back : K) (new : Streams R W E) : Type 0 where
+  pub record WorksOpened {L : Type 0} (work : Work F L) (keeper : K) (old : Streams R W E) (status : ℕ) (back : K) (new : Streams R W E) : Type 0 where
     pub before : Kept K
     pub opened : IsOpened rows is_up failed keeper before
     pub after : Kept K
@@ -62,11 +62,11 @@ module _ {K F L R W E : Type 0} (rows : K → Raw) (is_up : K → Type 0) (faile
     pub tells : TellsAt err old.errors new.errors file (pipe.Fault fault)
     pub status_is : status ≡ 3
 
-  abbrev pub Works : Work F L → Option (List ℕ) → K → Streams R W E → ℕ → K → Streams R W E → Type 0
+  abbrev pub Works : {L : Type 0} → Work F L → Option (List ℕ) → K → Streams R W E → ℕ → K → Streams R W E → Type 0
   Works work file keeper old status back new =
       WorksOpened work keeper old status back new ⊎ TellsUnopened file keeper old status back new
 
-module _ {F L R W E : Type 0} (given : F → Option (List ℕ)) (remaining : R → Option (List ℕ)) (out : W → Option (List ℕ)) (err : E → Option (List ℕ)) where
+module _ {F R W E : Type 0} (given : F → Option (List ℕ)) (remaining : R → Option (List ℕ)) (out : W → Option (List ℕ)) (err : E → Option (List ℕ)) where
   -- no store could be made, which is told
   pub record TellsNoMemory (old : Streams R W E) (status : ℕ) (new : Streams R W E) : Type 0 where
     pub input : new.input ≡ old.input
@@ -75,7 +75,7 @@ module _ {F L R W E : Type 0} (given : F → Option (List ℕ)) (remaining : R �
     pub status_is : status ≡ 3
 
   -- It was done over a new store in memory, which has this base and holds the empty state; or memory ran out first.
-  pub record WorksInMemory (work : Work F L) (base : List ℕ) (old : Streams R W E) (status : ℕ) (new : Streams R W E) : Type 0 where
+  pub record WorksInMemory {L : Type 0} (work : Work F L) (base : List ℕ) (old : Streams R W E) (status : ℕ) (new : Streams R W E) : Type 0 where
     pub shows : Shows (listed (no_rows base)) base empty_state
     pub nothing : sizes_of empty_state ≡ no_sizes
     pub left : Tables

@@ -1,8 +1,8 @@
 //! Connections that are served over a store.
-ghost use Rattle.std.specs.Prelude.{◌≡◌};
+ghost use Rattle.std.specs.Prelude.{◌≡◌, OnOk, OnErr};
 ghost use Rattle.thes_base.specs.Pipe.{IsFresh};
 ghost use Rattle.thes_cli.specs.Serving as serving;
-ghost use Rattle.thes_cli.specs.Serving.{EndsServing, ServesAll, ServesStore};
+ghost use Rattle.thes_cli.specs.Serving.{EndsUnserved, EndsWell, ServesAll, ServesStore};
 
 use crate::ending::{print, tell, tell_net};
 use std::alloc::Global;
@@ -37,7 +37,8 @@ fn listening_line(port: u16) -> Line
 // Tells how serving ended, and returns the status.
 fn tell_served<E: Write>(errors: &mut Pipe<E>, ended: &io::Result<()>) -> u8
     requires { IsFresh errors.old }
-    ensures { EndsServing E.contents errors.old errors.new ended.now result }
+    ensures ok { OnOk ended.now (EndsWell errors.old errors.new result) }
+    ensures err { OnErr ended.now (EndsUnserved E.contents errors.old errors.new result) }
 {
     match ended {
         Ok(()) => 0,
