@@ -1,5 +1,5 @@
 -- A new store shows the empty state.
-use Rattle.std.proofs.Common.{◌≡◌, ◌⊎◌, ◌∙◌, inl, inr, ap, refl, sym, subst, ℕ, List, [], Option, None, Some, Ok, Err, true, arith, suc}
+use Rattle.std.proofs.Common.{◌≡◌, ◌⊎◌, ◌∙◌, inl, inr, ap, refl, sym, subst, ℕ, List, [], Option, None, Some, Ok, Err, true, arith, zero, suc}
 use Rattle.std.specs.Prelude.{◌<◌, length}
 use Rattle.std.specs.FinSet as set
 use Rattle.std.specs.FinMap as dict

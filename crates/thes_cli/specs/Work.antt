@@ -39,7 +39,6 @@ module _ {K F R W E : Type 0} (rows : K → Raw) (is_up : K → Type 0) (failed 
   Does (Import file) before old status after new =
       (new.input ≡ old.input)
       × ImportsStore rows is_up failed given out err file before old.output new.output old.errors new.errors status after
-
   Does (Serve listening) before old status after new =
       (new.input ≡ old.input)
       × ServesStore rows is_up failed err out listening.port listening.count before

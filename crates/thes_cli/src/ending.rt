@@ -165,7 +165,12 @@ pub fn tell_of<E: Write>(alloc: Global, errors: &mut Pipe<E>, file: &str, fault:
 }
 
 /// Prints a fault of a store, after the file if it is in one, and returns the status for it.
-pub fn tell_at<E: Write>(alloc: Global, errors: &mut Pipe<E>, file: Option<&str>, fault: Fault) -> u8
+pub fn tell_at<E: Write>(
+    alloc: Global,
+    errors: &mut Pipe<E>,
+    file: Option<&str>,
+    fault: Fault,
+) -> u8
     requires { IsFresh errors.old }
     ensures told { TellsAt E.contents errors.old errors.new (option_copied file.entry) (faults.Fault fault) }
     ensures status { result ≡ 3 }

@@ -18,6 +18,7 @@ ghost use Rattle.thes_base.specs.Pipe.{IsFresh};
 
 use ending::{tell, tell_net, tell_of};
 use parting::part;
+use serving::Listening;
 use sqlite::Connection;
 use std::alloc::Global;
 use std::fs;
@@ -26,7 +27,6 @@ use std::io::{ErrorKind, Read, Write};
 use std::net::{Ipv4Addr, TcpListener};
 use std::process::ExitCode;
 use std::rt::Env;
-use serving::Listening;
 use stores::{fault_of, work_in_database, work_in_new_database};
 use thes_base::fault::{Fault, PipeFault};
 use thes_base::pipe::Pipe;
@@ -119,8 +119,12 @@ fn work_in_file<R: Read, W: Write, E: Write>(
         Err(unopened) => return tell_unopened(errors, unopened),
     };
     let (status, conn) = match made {
-        Some(base) => work_in_new_database::<HostRuntime, _, _, _, _, _>(alloc, task, file, conn, base, input, output, errors),
-        None => work_in_database::<HostRuntime, _, _, _, _, _>(alloc, task, file, conn, input, output, errors),
+        Some(base) => work_in_new_database::<HostRuntime, _, _, _, _, _>(
+            alloc, task, file, conn, base, input, output, errors,
+        ),
+        None => work_in_database::<HostRuntime, _, _, _, _, _>(
+            alloc, task, file, conn, input, output, errors,
+        ),
     };
     // What was answered stands in the log; where it can't be copied now, the next program does that.
     let _ = conn.close();
@@ -144,7 +148,14 @@ fn perform<R: Read, W: Write, E: Write>(
         return work_in_file(rt, task, file.as_str(), &base, input, output, errors);
     }
     match opened(rt, task) {
-        Ok(task) => work_in_memory::<HostRuntime, _, _, _, _>(rt.alloc(), task, base, input, output, errors),
+        Ok(task) => work_in_memory::<HostRuntime, _, _, _, _>(
+            rt.alloc(),
+            task,
+            base,
+            input,
+            output,
+            errors,
+        ),
         Err(unopened) => tell_unopened(errors, unopened),
     }
 }

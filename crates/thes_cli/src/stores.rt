@@ -44,7 +44,15 @@ pub fn work_in_database<N: Net, S: Alter, F: Read + Drop, R: Read, W: Write, E: 
         result.0 result.1 (streams input.new output.new errors.new) }
 {
     let keeper = SqlKeeper::adopt(alloc, conn);
-    let (status, keeper) = work_over::<N, SqlKeeper<S>, F, R, W, E>(alloc, task, Some(file), keeper, input, output, errors);
+    let (status, keeper) = work_over::<N, SqlKeeper<S>, F, R, W, E>(
+        alloc,
+        task,
+        Some(file),
+        keeper,
+        input,
+        output,
+        errors,
+    );
     (status, keeper.into_connection())
 }
 
@@ -68,7 +76,9 @@ pub fn work_in_new_database<N: Net, S: Alter, F: Read + Drop, R: Read, W: Write,
         result.0 result.1 (streams input.new output.new errors.new) }
 {
     match create_tables(&mut conn, base) {
-        Ok(_) => work_in_database::<N, S, F, R, W, E>(alloc, task, file, conn, input, output, errors),
+        Ok(_) => work_in_database::<N, S, F, R, W, E>(
+            alloc, task, file, conn, input, output, errors,
+        ),
         Err(error) => (tell_of(alloc, errors, file, fault_of(error)), conn),
     }
 }

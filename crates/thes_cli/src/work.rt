@@ -62,11 +62,13 @@ fn do_work<N: Net, K: Keeper, F: Read + Drop, R: Read, W: Write, E: Write>(
         }
         Work::Check => check_store(alloc, &mut office, output, errors),
         Work::Export => export_store(alloc, &mut office, output, errors),
-        Work::Display(Shown {
-            display,
-            scheme,
-            lang,
-        }) => display_store(alloc, &mut office, display, scheme, &lang, output, errors),
+        Work::Display(
+            Shown {
+                display,
+                scheme,
+                lang,
+            },
+        ) => display_store(alloc, &mut office, display, scheme, &lang, output, errors),
         Work::Import(file) => import_file(alloc, file, &mut office, output, errors),
     };
     (status, office)
@@ -92,7 +94,9 @@ pub fn work_over<N: Net, K: Keeper, F: Read + Drop, R: Read, W: Write, E: Write>
 {
     match Office::start(alloc, keeper, Limits::default()) {
         Ok(office) => {
-            let (status, office) = do_work::<N, K, F, R, W, E>(alloc, task, office, input, output, errors);
+            let (status, office) = do_work::<N, K, F, R, W, E>(
+                alloc, task, office, input, output, errors,
+            );
             (status, office.into_keeper())
         }
         Err((fault, keeper)) => (tell_at(alloc, errors, file, fault), keeper),
@@ -117,6 +121,8 @@ pub fn work_in_memory<N: Net, F: Read + Drop, R: Read, W: Write, E: Write>(
     // That the base has its form is known from here on.
     let _ = base.as_str();
     let keeper = MemKeeper::new(alloc, base);
-    let (status, _) = work_over::<N, MemKeeper, F, R, W, E>(alloc, task, None, keeper, input, output, errors);
+    let (status, _) = work_over::<N, MemKeeper, F, R, W, E>(
+        alloc, task, None, keeper, input, output, errors,
+    );
     status
 }
