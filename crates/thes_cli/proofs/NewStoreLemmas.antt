@@ -1,15 +1,13 @@
 -- A new store shows the empty state.
-use Rattle.std.proofs.Common.{◌≡◌, ◌⊎◌, ◌∙◌, inl, inr, ap, refl, sym, subst, ℕ, List, [], Option, None, Some, Ok, Err, true, arith, zero, suc}
-use Rattle.std.specs.Prelude.{◌<◌, length}
+use Rattle.std.proofs.Common.{◌≡◌, ◌⊎◌, inl, inr, refl, subst, ℕ, List, [], Option, None, Some, arith, zero, suc}
+use Rattle.std.specs.Prelude.{◌<◌}
 use Rattle.std.specs.FinSet as set
-use Rattle.std.specs.FinMap as dict
 use Rattle.thes_base.specs.Forms.{IsBase}
 use Rattle.thes_base.specs.Labels.{label_cmp}
 use Rattle.thes_base.specs.Links.{HeldIn, link_cmp}
 use Rattle.thes_base.specs.declared.data.Link.{Link}
-use Rattle.thes_base.specs.Postings.{accepted_count, withdrawn_count, move_count}
 use Rattle.thes_base.specs.Resources.{numbered}
-use Rattle.thes_base.specs.State.{State, empty_state}
+use Rattle.thes_base.specs.State.{empty_state}
 use Rattle.thes_base.proofs.MachineLemmas.{legal_empty}
 use Rattle.thes_base.specs.declared.fault.Fault.{Fault}
 use Rattle.thes_base.specs.declared.fault.Fault.TheVariants as faults
@@ -17,14 +15,13 @@ use Rattle.thes_base.specs.declared.fault.PipeFault.TheVariants as pipe
 use Rattle.thes_rows.specs.Cells.{listed}
 use Rattle.thes_rows.specs.Tables.{Tables, hier_link, no_rows}
 use Rattle.thes_store.specs.Causes.{most}
-use Rattle.thes_tables.specs.Loads.{Loads}
 use Rattle.thes_office.proofs.ShowLemmas.{faulty_shows_none}
 use Rattle.thes_office.specs.Shows.{Shows}
 use Rattle.thes_cli.specs.Checking.{no_sizes, sizes_of}
 use Rattle.thes_cli.specs.Ending.{fault_line, Prints}
 use Rattle.thes_cli.specs.Opening.{IsUnopened}
 use Rattle.thes_cli.specs.Streams.{Streams}
-use Rattle.thes_cli.specs.Work.{TellsNoMemory, TellsUnopened, Works, WorksInMemory, WorksOpened}
+use Rattle.thes_cli.specs.Work.{Works, WorksInMemory}
 use Rattle.thes_cli.specs.declared.work.Work.{Work}
 
 none_at : {A : Type 0} (n : ℕ) (x : A) → numbered [] n ≡ Some x → ⊥

@@ -1,4 +1,4 @@
-use Rattle.std.proofs.Common.{◌≡◌, ◌∙◌, List, ℕ, Ok, Result, inl, subst, sym}
+use Rattle.std.proofs.Common.{◌∙◌, List, ℕ, Result, inl, subst, sym}
 use Rattle.thes_base.specs.declared.fault.Fault.{Fault}
 use Rattle.thes_core.specs.declared.reading.Sizes.{Sizes}
 use Rattle.thes_cli.specs.Checking.{TellsSizes}
