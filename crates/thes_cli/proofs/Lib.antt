@@ -1,3 +1,8 @@
 pub mod CommandLineLemmas
-pub mod WorkLemmas
+pub mod ScriptLemmas
+pub mod ReadyLemmas
+pub mod NewStoreLemmas
+pub mod ReadingLemmas
+pub mod WalkedLemmas
+pub mod CompletingLemmas
 pub mod PrintLemmas

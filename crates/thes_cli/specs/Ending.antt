@@ -27,6 +27,10 @@ status_of (Ok ended) = status_with (option_map faults.Fault ended.fault) ended.r
 abbrev pub fault_line : PipeFault → List ℕ
 fault_line fault = codes "thesaurus: fault " ++ pipe_text fault ++ codes "\n"
 
+-- the line of a socket that can't be opened, and of a connection that can't be accepted
+abbrev pub net_line : List ℕ
+net_line = codes "thesaurus: fault Net\n"
+
 -- the line of the file that a store is in
 abbrev pub file_line : List ℕ → List ℕ
 file_line file = codes "thesaurus: store " ++ file ++ codes "\n"
@@ -48,3 +52,13 @@ Prints contents old new text =
     Appends (written contents old) (written contents new) text
     ⊎ (AppendsFront (written contents old) (written contents new) text
     × ((failed_of new ≡ true) ⊎ (denied_of new ≡ true)))
+
+-- a fault of the store in a file is told after the file; or alone, where there is no memory for both lines
+abbrev pub TellsOf : {E : Type 0} → (E → Option (List ℕ)) → Pipe E → Pipe E → List ℕ → PipeFault → Type 0
+TellsOf contents old new file fault =
+    Prints contents old new (file_line file ++ fault_line fault) ⊎ Prints contents old new (fault_line fault)
+
+-- a fault of a store, which is in a file or in memory
+abbrev pub TellsAt : {E : Type 0} → (E → Option (List ℕ)) → Pipe E → Pipe E → Option (List ℕ) → PipeFault → Type 0
+TellsAt contents old new None fault = Prints contents old new (fault_line fault)
+TellsAt contents old new (Some file) fault = TellsOf contents old new file fault

@@ -1,4 +1,14 @@
 pub mod Ending
 pub mod Parting
+pub mod Commands
 pub mod CommandLine
+pub mod Streams
+pub mod Opening
+pub mod Scripting
+pub mod Checking
+pub mod Exporting
+pub mod Displaying
+pub mod Importing
+pub mod Serving
 pub mod Work
+pub mod Stores

@@ -1,82 +1,83 @@
--- What the program does with what the words of the command line ask for.
-use Rattle.std.specs.Prelude.{◌≡◌, ◌⊎◌, false, ℕ, List, Option, MatchResult, MatchOption, Result}
-use Rattle.thes_base.specs.Headline.{IsInOrder}
-use Rattle.thes_base.specs.Pipe.{KeepsToLimit}
+-- What the program does over a store.
+use Rattle.std.specs.Prelude.{◌≡◌, ◌⊎◌, ℕ, List, Option}
 use Rattle.thes_base.specs.State.{empty_state}
-use Rattle.thes_base.specs.declared.data.Limits.{Limits}
+use Rattle.thes_base.specs.declared.fault.Fault.{Fault}
 use Rattle.thes_base.specs.declared.fault.Fault.TheVariants.{OutOfMemory}
-use Rattle.thes_base.specs.declared.fault.PipeFault.{PipeFault}
-use Rattle.thes_base.specs.declared.fault.PipeFault.TheVariants.{Fault}
-use Rattle.thes_base.specs.declared.pipe.Pipe.{Pipe}
-use Rattle.thes_core.specs.declared.reading.Sizes.{Sizes}
-use Rattle.thes_machine.specs.Kept.{Kept}
-use Rattle.thes_exchange.specs.CoreDesk.{CoreServes, is_unspent, IsLed}
-use Rattle.thes_exchange.specs.Script.{scene, Completes, Stops}
-use Rattle.thes_exchange.specs.declared.script.Ended.{Ended}
-use Rattle.thes_cli.specs.Ending.{last_fault, status_of, fault_line, sizes_line, Prints}
-use Rattle.thes_cli.specs.Parting.{PrintsError, PrintsText}
-use Rattle.thes_cli.specs.declared.words.Task.{Task}
-use Rattle.thes_cli.specs.declared.words.Task.TheVariants.{Script, Check}
+use Rattle.thes_base.specs.declared.fault.PipeFault.TheVariants as pipe
+use Rattle.thes_rows.specs.Cells.{Raw, listed}
+use Rattle.thes_rows.specs.Tables.{Tables, no_rows}
+use Rattle.thes_office.specs.Office.{Kept}
+use Rattle.thes_office.specs.Shows.{Shows}
+use Rattle.thes_cli.specs.Checking.{no_sizes, sizes_of, ChecksStore}
+use Rattle.thes_cli.specs.Displaying.{DisplaysStore}
+use Rattle.thes_cli.specs.Ending.{fault_line, Prints, TellsAt}
+use Rattle.thes_cli.specs.Exporting.{ExportsStore}
+use Rattle.thes_cli.specs.Importing.{ImportsStore}
+use Rattle.thes_cli.specs.Opening.{IsOpened, IsUnopened}
+use Rattle.thes_cli.specs.Scripting.{AnswersScript}
+use Rattle.thes_cli.specs.Serving.{ServesStore}
+use Rattle.thes_cli.specs.Streams.{Streams}
+use Rattle.thes_cli.specs.declared.work.Work.{Work}
+use Rattle.thes_cli.specs.declared.work.Work.TheVariants.{Script, Check, Export, Display, Import, Serve}
 
--- the limits of a store that is given none
-abbrev pub default_limits : Limits
-default_limits = record {
-  resources = 20000;
-  labels = 200000;
-  links = 200000;
-  postings = 100000;
-  moves = 1000000;
-}
+module _ {K F R W E : Type 0} (rows : K → Raw) (is_up : K → Type 0) (failed : K → ℕ)
+    (given : F → Option (List ℕ)) (remaining : R → Option (List ℕ)) (out : W → Option (List ℕ)) (err : E → Option (List ℕ)) where
+  -- what is done over a store that was opened
+  abbrev pub Does : {L : Type 0} → Work F L → Kept K → Streams R W E → ℕ → Kept K → Streams R W E → Type 0
+  Does Script before old status after new =
+      AnswersScript rows is_up failed remaining out err before old status after new
+  Does Check before old status after new =
+      (new.input ≡ old.input)
+      × ChecksStore rows is_up failed out err before old.output new.output old.errors new.errors status after
+  Does Export before old status after new =
+      (new.input ≡ old.input)
+      × ExportsStore rows is_up failed out err before old.output new.output old.errors new.errors status after
+  Does (Display shown) before old status after new =
+      (new.input ≡ old.input)
+      × DisplaysStore rows is_up failed out shown.display shown.scheme shown.lang err before
+      old.output new.output old.errors new.errors status after
+  Does (Import file) before old status after new =
+      (new.input ≡ old.input)
+      × ImportsStore rows is_up failed given out err file before old.output new.output old.errors new.errors status after
+  Does (Serve listening) before old status after new =
+      (new.input ≡ old.input)
+      × ServesStore rows is_up failed err out listening.port listening.count before
+      old.output new.output old.errors new.errors status after
 
--- an empty store with this base
-pub record IsNewStore (base : List ℕ) (store : Kept) : Type 0 where
-  pub empty : store.state ≡ empty_state
-  pub base_is : store.setting.base ≡ base
-  pub limits : store.setting.limits ≡ default_limits
-  pub unspent : store.spent ≡ false
+  -- The store was opened, and it was done; the keeper is handed back.
+  pub record WorksOpened {L : Type 0} (work : Work F L) (keeper : K) (old : Streams R W E) (status : ℕ) (back : K) (new : Streams R W E) : Type 0 where
+    pub before : Kept K
+    pub opened : IsOpened rows is_up failed keeper before
+    pub after : Kept K
+    pub does : Does work before old status after new
+    pub kept : back ≡ after.keeper
 
--- how much an empty store holds
-abbrev pub no_sizes : Sizes
-no_sizes = record { resources = 0; labels = 0; links = 0; accepted = 0; withdrawn = 0; moves = 0 }
+  -- It could not be opened, which is told.
+  pub record TellsUnopened (file : Option (List ℕ)) (keeper : K) (old : Streams R W E) (status : ℕ) (back : K) (new : Streams R W E) : Type 0 where
+    pub fault : Fault
+    pub unopened : IsUnopened rows is_up failed keeper fault back
+    pub input : new.input ≡ old.input
+    pub output : new.output ≡ old.output
+    pub tells : TellsAt err old.errors new.errors file (pipe.Fault fault)
+    pub status_is : status ≡ 3
 
-module _ {R W : Type 0} (remaining : R → Option (List ℕ)) (out : W → Option (List ℕ))
-    (input input' : Pipe R) (output output' : Pipe W) where
-  -- The lines of the input were answered by the machine, from a new store on. The state that it leads to is in order.
-  pub record AnswersScript (base : List ℕ) (result : Result Ended PipeFault) : Type 0 where
-    pub before : Kept
-    pub new_store : IsNewStore base before
-    pub after : Kept
-    pub script : MatchResult result
-        (Completes remaining out CoreServes is_unspent (scene input output before)
-        (scene input' output' after))
-        (Stops remaining out CoreServes is_unspent (scene input output before)
-        (scene input' output' after))
-    pub led : IsLed before after
-    pub in_order : after.spent ≡ false → IsInOrder after.setting.base after.state
-    pub calls : KeepsToLimit input input' output output'
+  abbrev pub Works : {L : Type 0} → Work F L → Option (List ℕ) → K → Streams R W E → ℕ → K → Streams R W E → Type 0
+  Works work file keeper old status back new =
+      WorksOpened work keeper old status back new ⊎ TellsUnopened file keeper old status back new
 
-module _ {W E : Type 0} (out : W → Option (List ℕ)) (err : E → Option (List ℕ))
-    (output output' : Pipe W) (errors errors' : Pipe E) where
-  -- how much an empty store holds was told, or that there is no memory for that
-  abbrev pub ChecksStore : ℕ → Type 0
-  ChecksStore status =
-      PrintsText out err output output' errors errors' (sizes_line no_sizes) status
-      ⊎ PrintsError out err output output' errors errors' (fault_line (Fault OutOfMemory)) 3 status
+module _ {F R W E : Type 0} (given : F → Option (List ℕ)) (remaining : R → Option (List ℕ)) (out : W → Option (List ℕ)) (err : E → Option (List ℕ)) where
+  -- no store could be made, which is told
+  pub record TellsNoMemory (old : Streams R W E) (status : ℕ) (new : Streams R W E) : Type 0 where
+    pub input : new.input ≡ old.input
+    pub output : new.output ≡ old.output
+    pub tells : Prints err old.errors new.errors (fault_line (pipe.Fault OutOfMemory))
+    pub status_is : status ≡ 3
 
-module _ {R W : Type 0} (remaining : R → Option (List ℕ)) (out : W → Option (List ℕ))
-    (input input' : Pipe R) (output output' : Pipe W)
-    {E : Type 0} (err : E → Option (List ℕ)) (errors errors' : Pipe E) where
-  -- the fault of a script is told, if there was one, and the status is that of its end
-  abbrev pub Closes : Result Ended PipeFault → ℕ → Type 0
-  Closes result status =
-      MatchOption (last_fault result) (errors' ≡ errors)
-      (λ fault. Prints err errors errors' (fault_line fault))
-      × (status ≡ status_of result)
-
-  -- A script was run and its end told, or how much a new store holds.
-  abbrev pub Works : Task → List ℕ → ℕ → Type 0
-  Works Script base status =
-      (result : Result Ended PipeFault)
-      × AnswersScript remaining out input input' output output' base result × Closes result status
-  Works Check base status =
-      (input' ≡ input) × ChecksStore out err output output' errors errors' status
+  -- It was done over a new store in memory, which has this base and holds the empty state; or memory ran out first.
+  pub record WorksInMemory {L : Type 0} (work : Work F L) (base : List ℕ) (old : Streams R W E) (status : ℕ) (new : Streams R W E) : Type 0 where
+    pub shows : Shows (listed (no_rows base)) base empty_state
+    pub nothing : sizes_of empty_state ≡ no_sizes
+    pub left : Tables
+    pub works :
+        WorksOpened listed (λ k. Unit {0}) (λ k. 0) given remaining out err work (no_rows base) old status left new
+        ⊎ TellsNoMemory old status new

@@ -1,16 +1,18 @@
 //! How the program ends after a script.
-ghost use Rattle.std.specs.Prelude.{◌≡◌, ◌⊎◌, ◌++◌, true, string_bytes, IfOk, OnOk, MatchBool, MatchOption};
+ghost use Rattle.std.specs.Prelude.{◌≡◌, ◌⊎◌, ◌++◌, true, string_bytes, IfOk, OnOk, MatchBool, MatchOption, option_copied};
 ghost use Rattle.std.specs.Io.KnownBytes.{Appends};
 ghost use Rattle.thes_base.specs.Pipe.{IsFresh, failed_of, denied_of, written, AppendsFront};
 ghost use Rattle.thes_cli.specs.Ending as ends;
-ghost use Rattle.thes_cli.specs.Ending.{Prints};
+ghost use Rattle.thes_cli.specs.Ending.{Prints, TellsAt, TellsOf};
+ghost use Rattle.thes_base.specs.declared.fault.PipeFault.TheVariants as faults;
+ghost use Rattle.thes_cli.specs.Displaying as showing;
 ghost use Rattle.thes_cli.specs.Parting as parting;
 ghost use Rattle.thes_cli.specs.Parting.{PrintsText};
 
 use itoa::Buffer;
 use std::alloc::{AllocError, Global};
 use std::io::Write;
-use thes_base::fault::{Fault, FormFault, PipeFault};
+use thes_base::fault::{Fault, FormFault, PipeFault, Refusal};
 use thes_base::pipe::{Budget, Pipe};
 use thes_core::reading::Sizes;
 use thes_exchange::line::Line;
@@ -46,6 +48,16 @@ fn fault_line(fault: PipeFault) -> Line
         line.push(" ");
         line.push(table.name());
     }
+    line.push("\n");
+    line
+}
+
+/// The line of a refusal.
+pub fn refusal_line(refusal: Refusal) -> Line
+    ensures { result ≡ showing.refusal_line refusal }
+{
+    let mut line = Line::of("thesaurus: ");
+    line.push(refusal.name());
     line.push("\n");
     line
 }
@@ -120,34 +132,53 @@ fn fault_lines(alloc: Global, file: &str, fault: PipeFault) -> Result<Vec<u8>, A
     Ok(lines)
 }
 
+/// Prints a text, or a front of it where the writer stops.
+pub fn print_error<E: Write>(errors: &mut Pipe<E>, text: &[u8])
+    requires { IsFresh errors.old }
+    ensures { Prints E.contents errors.old errors.new text.now }
+{
+    print(errors, text);
+}
+
 // Prints a text that tells a fault, and returns the status for one.
 fn tell_text<E: Write>(errors: &mut Pipe<E>, text: &[u8]) -> u8
     requires { IsFresh errors.old }
     ensures text { Prints E.contents errors.old errors.new text.now }
     ensures status { result ≡ 3 }
 {
-    print(errors, text);
+    print_error(errors, text);
     3
-}
-
-// Prints a fault of the store in a file, after the file; or alone, where there is no memory for both lines.
-fn tell_in<E: Write>(alloc: Global, errors: &mut Pipe<E>, file: &str, fault: PipeFault) -> u8
-    requires { IsFresh errors.old }
-    ensures { result ≡ 3 }
-{
-    match fault_lines(alloc, file, fault) {
-        Ok(lines) => tell_text(errors, lines.as_slice()),
-        Err(_) => tell(errors, fault),
-    }
 }
 
 /// Prints a fault of the store in a file, after the file, and returns the status for it. Where there is no memory for both
 /// lines it prints the fault alone.
 pub fn tell_of<E: Write>(alloc: Global, errors: &mut Pipe<E>, file: &str, fault: Fault) -> u8
     requires { IsFresh errors.old }
-    ensures { result ≡ 3 }
+    ensures told { TellsOf E.contents errors.old errors.new file.now (faults.Fault fault) }
+    ensures status { result ≡ 3 }
 {
-    tell_in(alloc, errors, file, PipeFault::Fault(fault))
+    let fault = PipeFault::Fault(fault);
+    match fault_lines(alloc, file, fault) {
+        Ok(lines) => tell_text(errors, lines.as_slice()),
+        Err(_) => tell(errors, fault),
+    }
+}
+
+/// Prints a fault of a store, after the file if it is in one, and returns the status for it.
+pub fn tell_at<E: Write>(
+    alloc: Global,
+    errors: &mut Pipe<E>,
+    file: Option<&str>,
+    fault: Fault,
+) -> u8
+    requires { IsFresh errors.old }
+    ensures told { TellsAt E.contents errors.old errors.new (option_copied file.entry) (faults.Fault fault) }
+    ensures status { result ≡ 3 }
+{
+    match file {
+        Some(file) => tell_of(alloc, errors, file, fault),
+        None => tell(errors, PipeFault::Fault(fault)),
+    }
 }
 
 /// Prints a fault, and returns the status for it, which tells of the fault even where it can't be printed.
@@ -156,8 +187,16 @@ pub fn tell<E: Write>(errors: &mut Pipe<E>, fault: PipeFault) -> u8
     ensures line { Prints E.contents errors.old errors.new (ends.fault_line fault) }
     ensures status { result ≡ 3 }
 {
-    print(errors, fault_line(fault).as_bytes());
-    3
+    tell_text(errors, fault_line(fault).as_bytes())
+}
+
+/// Prints that a socket can't be opened or a connection can't be accepted, and returns the status for it.
+pub fn tell_net<E: Write>(errors: &mut Pipe<E>) -> u8
+    requires { IsFresh errors.old }
+    ensures line { Prints E.contents errors.old errors.new ends.net_line }
+    ensures status { result ≡ 3 }
+{
+    tell_text(errors, b"thesaurus: fault Net\n")
 }
 
 /// Prints the fault that a script met, if any, and returns the exit status.

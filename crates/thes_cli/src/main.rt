@@ -1,28 +1,38 @@
-//! The program. It hands the words of the command line, its streams and its file on, and ends with a status.
+//! The program. It hands the words of the command line, its streams and its files on, and ends with a status.
 #![tactic(auto)]
 
+mod checking;
+mod commands;
+mod displaying;
 mod ending;
+mod exporting;
+mod importing;
 mod parting;
+mod scripting;
+mod serving;
 mod stores;
 mod words;
 mod work;
 
 ghost use Rattle.thes_base.specs.Pipe.{IsFresh};
 
-use ending::tell_of;
+use ending::{tell, tell_net, tell_of};
 use parting::part;
+use serving::Listening;
 use sqlite::Connection;
 use std::alloc::Global;
 use std::fs;
+use std::fs::File;
 use std::io::{ErrorKind, Read, Write};
+use std::net::{Ipv4Addr, TcpListener};
 use std::process::ExitCode;
 use std::rt::Env;
-use stores::{fault_of, work_in_database};
-use thes_base::fault::Fault;
+use stores::{fault_of, work_in_database, work_in_new_database};
+use thes_base::fault::{Fault, PipeFault};
 use thes_base::pipe::Pipe;
 use thes_base::text::Base;
-use words::{Job, Parting, Task, plan_args};
-use work::work;
+use words::{Job, Parting, Serving, Task, plan_args};
+use work::{Work, work_in_memory};
 
 // What the command line asks for.
 fn planned<R: Env + Alloc<A = Global>>(rt: &R) -> Result<Job, Parting> {
@@ -37,7 +47,51 @@ fn is_blank(rt: &HostRuntime, file: &str) -> bool {
     }
 }
 
-// Does a task over the store in a file. Where the file is absent or empty the store is made, but not to be checked.
+// What a task names, and can't be opened.
+#[derive(Clone, Copy)]
+enum Unopened {
+    File,
+    Socket,
+}
+
+// Prints what can't be opened, and returns the status for it.
+fn tell_unopened<E: Write>(errors: &mut Pipe<E>, unopened: Unopened) -> u8
+    requires { IsFresh errors.old }
+{
+    match unopened {
+        Unopened::File => tell(errors, PipeFault::Read),
+        Unopened::Socket => tell_net(errors),
+    }
+}
+
+// Opens a socket on this machine alone.
+fn listening(rt: &HostRuntime, serving: Serving) -> Result<Listening<TcpListener>, Unopened> {
+    match TcpListener::bind(rt, (Ipv4Addr::LOCALHOST, serving.port)) {
+        Ok(listener) => Ok(Listening {
+            listener,
+            port: serving.port,
+            count: serving.count,
+        }),
+        Err(_) => Err(Unopened::Socket),
+    }
+}
+
+// What a task is over a store, with the file or the socket that it names opened.
+fn opened(rt: &HostRuntime, task: Task) -> Result<Work<File, TcpListener>, Unopened> {
+    match task {
+        Task::Script => Ok(Work::Script),
+        Task::Check => Ok(Work::Check),
+        Task::Export => Ok(Work::Export),
+        Task::Display(shown) => Ok(Work::Display(shown)),
+        Task::Import(file) => match File::open(rt, file.as_str()) {
+            Ok(file) => Ok(Work::Import(file)),
+            Err(_) => Err(Unopened::File),
+        },
+        Task::Serve(serving) => Ok(Work::Serve(listening(rt, serving)?)),
+    }
+}
+
+// Works over the store in a file. Where the file is absent or empty the store is made, but not to be checked.
 fn work_in_file<R: Read, W: Write, E: Write>(
     rt: &HostRuntime,
     task: Task,
@@ -53,19 +107,56 @@ fn work_in_file<R: Read, W: Write, E: Write>(
 {
     let alloc = rt.alloc();
     let made = is_blank(rt, file).then_some(base);
-    if made.is_some() && task == Task::Check {
+    if made.is_some() && matches!(task, Task::Check) {
         return tell_of(alloc, errors, file, Fault::Store);
     }
-    match Connection::open(rt, file) {
-        Ok(conn) => {
-            let (status, conn) = work_in_database(
-                alloc, task, file, conn, made, input, output, errors,
-            );
-            // What was answered stands in the log; where it can't be copied now, the next program does that.
-            let _ = conn.close();
-            status
-        }
-        Err(error) => tell_of(alloc, errors, file, fault_of(error)),
+    let conn = match Connection::open(rt, file) {
+        Ok(conn) => conn,
+        Err(error) => return tell_of(alloc, errors, file, fault_of(error)),
+    };
+    let task = match opened(rt, task) {
+        Ok(task) => task,
+        Err(unopened) => return tell_unopened(errors, unopened),
+    };
+    let (status, conn) = match made {
+        Some(base) => work_in_new_database::<HostRuntime, _, _, _, _, _>(
+            alloc, task, file, conn, base, input, output, errors,
+        ),
+        None => work_in_database::<HostRuntime, _, _, _, _, _>(
+            alloc, task, file, conn, input, output, errors,
+        ),
+    };
+    // What was answered stands in the log; where it can't be copied now, the next program does that.
+    let _ = conn.close();
+    status
+}
+
+// Does a job, and returns the exit status.
+fn perform<R: Read, W: Write, E: Write>(
+    rt: &HostRuntime,
+    job: Job,
+    input: &mut Pipe<R>,
+    output: &mut Pipe<W>,
+    errors: &mut Pipe<E>,
+) -> u8
+    requires input { IsFresh input.old }
+    requires output { IsFresh output.old }
+    requires errors { IsFresh errors.old }
+{
+    let Job { task, file, base } = job;
+    if let Some(file) = file {
+        return work_in_file(rt, task, file.as_str(), &base, input, output, errors);
+    }
+    match opened(rt, task) {
+        Ok(task) => work_in_memory::<HostRuntime, _, _, _, _>(
+            rt.alloc(),
+            task,
+            base,
+            input,
+            output,
+            errors,
+        ),
+        Err(unopened) => tell_unopened(errors, unopened),
     }
 }
 
@@ -74,18 +165,7 @@ fn main(rt: HostRuntime) -> ExitCode {
     let mut output = Pipe::new(rt.stdout());
     let mut errors = Pipe::new(rt.stderr());
     let status = match planned(&rt) {
-        Ok(Job { task, file, base }) => match file {
-            Some(file) => work_in_file(
-                &rt,
-                task,
-                file.as_str(),
-                &base,
-                &mut input,
-                &mut output,
-                &mut errors,
-            ),
-            None => work(rt.alloc(), task, base, &mut input, &mut output, &mut errors),
-        },
+        Ok(job) => perform(&rt, job, &mut input, &mut output, &mut errors),
         Err(parting) => part(&mut output, &mut errors, &parting),
     };
     ExitCode::from(status)

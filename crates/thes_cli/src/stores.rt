@@ -1,25 +1,20 @@
-//! What the program does with a store in a database.
-//!
-//! What an office promises of the tables stands on its calls, and on those of `office_script`; the functions here only open a
-//! store, hand it on, and tell what became of it.
+//! A store in a database.
 ghost use Rattle.std.specs.Prelude.{◌≡◌, false};
 ghost use Rattle.thes_base.specs.Pipe.{IsFresh};
+ghost use Rattle.thes_cli.specs.Stores.{WorksInDatabase, WorksInNewDatabase};
+ghost use Rattle.thes_cli.specs.Streams.{streams};
 
-use crate::ending::{close, print_out, sizes_line, tell_of};
-use crate::words::Task;
+use crate::ending::tell_of;
+use crate::work::{Work, work_over};
 use sqlite::{Alter, Connection, Error, ErrorCode};
 use std::alloc::Global;
 use std::io::{Read, Write};
-use thes_base::data::Limits;
+use std::net::Net;
 use thes_base::fault::Fault;
 use thes_base::pipe::Pipe;
 use thes_base::text::Base;
-use thes_core::reading::Sizes;
-use thes_office::Office;
-use thes_service::{FrontDesk, office_script};
 use thes_sql::create::create_tables;
 use thes_sqlite::keeper::SqlKeeper;
-use thes_store::keeper::Keeper;
 
 /// Tells which fault an error of the database is: running out of memory, or one of the store.
 pub fn fault_of(error: Error) -> Fault {
@@ -29,88 +24,13 @@ pub fn fault_of(error: Error) -> Fault {
     }
 }
 
-// Answers a script over an office, and returns the status with the office.
-fn answer_script<K: Keeper, R: Read, W: Write, E: Write>(
+/// Works over the store in a database, and returns the exit status with the connection. The file is named where the store
+/// can't be opened.
+pub fn work_in_database<N: Net, S: Alter, F: Read + Drop, R: Read, W: Write, E: Write>(
     alloc: Global,
-    office: Office<K>,
-    input: &mut Pipe<R>,
-    output: &mut Pipe<W>,
-    errors: &mut Pipe<E>,
-) -> (u8, Office<K>)
-    requires input { IsFresh input.old }
-    requires output { IsFresh output.old }
-    requires errors { IsFresh errors.old }
-{
-    let mut desk = FrontDesk::new(office);
-    let ended = office_script(alloc, input, output, &mut desk);
-    (close(errors, &ended), desk.into_office())
-}
-
-// How much the tables of an office hold.
-fn sizes_of<K: Keeper>(office: &mut Office<K>) -> Result<Sizes, Fault> {
-    let core = office.ready()?;
-    Ok(core.sizes())
-}
-
-// Tells how much the store holds, and returns the status.
-fn tell_sizes<K: Keeper, W: Write, E: Write>(
-    alloc: Global,
+    task: Work<F, N::Listener>,
     file: &str,
-    office: &mut Office<K>,
-    output: &mut Pipe<W>,
-    errors: &mut Pipe<E>,
-) -> u8
-    requires output { IsFresh output.old }
-    requires errors { IsFresh errors.old }
-{
-    let sizes = match sizes_of(office) {
-        Ok(sizes) => sizes,
-        Err(fault) => return tell_of(alloc, errors, file, fault),
-    };
-    match sizes_line(alloc, &sizes) {
-        Ok(line) => print_out(output, errors, line.as_bytes()),
-        Err(_) => tell_of(alloc, errors, file, Fault::OutOfMemory),
-    }
-}
-
-// Opens the store that a keeper has, does a task, and returns the exit status with the keeper.
-fn work_over<K: Keeper, R: Read, W: Write, E: Write>(
-    alloc: Global,
-    task: Task,
-    file: &str,
-    keeper: K,
-    input: &mut Pipe<R>,
-    output: &mut Pipe<W>,
-    errors: &mut Pipe<E>,
-) -> (u8, K)
-    requires input { IsFresh input.old }
-    requires output { IsFresh output.old }
-    requires errors { IsFresh errors.old }
-{
-    let mut office = match Office::start(alloc, keeper, Limits::default()) {
-        Ok(office) => office,
-        Err((fault, keeper)) => return (tell_of(alloc, errors, file, fault), keeper),
-    };
-    match task {
-        Task::Script => {
-            let (status, office) = answer_script(alloc, office, input, output, errors);
-            (status, office.into_keeper())
-        }
-        Task::Check => {
-            let status = tell_sizes(alloc, file, &mut office, output, errors);
-            (status, office.into_keeper())
-        }
-    }
-}
-
-/// Does a task over the store in a database, which is made there if a base is given; and returns the exit status with the
-/// connection. The file is named where a fault of the store is told.
-pub fn work_in_database<S: Alter, R: Read, W: Write, E: Write>(
-    alloc: Global,
-    task: Task,
-    file: &str,
-    mut conn: Connection<S>,
-    base: Option<&Base>,
+    conn: Connection<S>,
     input: &mut Pipe<R>,
     output: &mut Pipe<W>,
     errors: &mut Pipe<E>,
@@ -119,13 +39,46 @@ pub fn work_in_database<S: Alter, R: Read, W: Write, E: Write>(
     requires input { IsFresh input.old }
     requires output { IsFresh output.old }
     requires errors { IsFresh errors.old }
+    ensures { WorksInDatabase S.Store F.remaining R.remaining W.contents E.contents task file.now
+        conn (streams input.old output.old errors.old)
+        result.0 result.1 (streams input.new output.new errors.new) }
 {
-    if let Some(base) = base {
-        if let Err(error) = create_tables(&mut conn, base) {
-            return (tell_of(alloc, errors, file, fault_of(error)), conn);
-        }
-    }
     let keeper = SqlKeeper::adopt(alloc, conn);
-    let (status, keeper) = work_over(alloc, task, file, keeper, input, output, errors);
+    let (status, keeper) = work_over::<N, SqlKeeper<S>, F, R, W, E>(
+        alloc,
+        task,
+        Some(file),
+        keeper,
+        input,
+        output,
+        errors,
+    );
     (status, keeper.into_connection())
+}
+
+/// Works over a new store with this base, in a database that has no tables yet.
+pub fn work_in_new_database<N: Net, S: Alter, F: Read + Drop, R: Read, W: Write, E: Write>(
+    alloc: Global,
+    task: Work<F, N::Listener>,
+    file: &str,
+    mut conn: Connection<S>,
+    base: &Base,
+    input: &mut Pipe<R>,
+    output: &mut Pipe<W>,
+    errors: &mut Pipe<E>,
+) -> (u8, Connection<S>)
+    requires idle { conn.in_transaction ≡ false }
+    requires input { IsFresh input.old }
+    requires output { IsFresh output.old }
+    requires errors { IsFresh errors.old }
+    ensures { WorksInNewDatabase S.Store F.remaining R.remaining W.contents E.contents task file.now base.now
+        conn (streams input.old output.old errors.old)
+        result.0 result.1 (streams input.new output.new errors.new) }
+{
+    match create_tables(&mut conn, base) {
+        Ok(_) => work_in_database::<N, S, F, R, W, E>(
+            alloc, task, file, conn, input, output, errors,
+        ),
+        Err(error) => (tell_of(alloc, errors, file, fault_of(error)), conn),
+    }
 }

@@ -1,77 +1,56 @@
 //! The words of the command line.
-ghost use Rattle.std.specs.Prelude.{◌≡◌, false, codes, map, option_map, string_bytes, IfOk, IsSome, Some};
+ghost use Rattle.std.specs.Prelude.{◌≡◌, codes, map, option_map, string_bytes, IfOk, IsSome};
 ghost use Rattle.std.specs.IoError.{error_kind};
 ghost use Rattle.std.specs.Vec.Iter.{into_iter_items};
-ghost use Rattle.clap.specs.Words.{app_of, first_of, found_of, kind_of, rows_of, rule_of, subcommand_name_of};
-ghost use Rattle.clap.specs.Words.{new_app};
-ghost use Rattle.clap.specs.declared.builder.command.Command.TheViews.{out-Command as fields_of};
-ghost use Rattle.thes_cli.specs.CommandLine as line;
-ghost use Rattle.thes_cli.specs.CommandLine.{base_in, program, task_of, PartsFor, Plans, PlansBy};
+ghost use Rattle.clap.specs.Words.{first_of, found_of, kind_of, rows_of, subcommand_rows_of};
+ghost use Rattle.thes_cli.specs.CommandLine.{base_in, display_name, Completes, HasCommand, HasOptions, HasPort, IsServing, PartsFor, Plans, PlansBy, PlansTask};
 ghost use Rattle.thes_cli.specs.Parting.{parting_status};
 
+use crate::commands::program;
 use clap::error::ErrorKind;
-use clap::{Arg, ArgMatches, Command, Error};
+use clap::{ArgMatches, Error};
 use std::alloc::{AllocError, Global};
 use std::env::Args;
 use std::io::{Error as IoError, ErrorKind as IoErrorKind};
 use thes_base::fault::{FormFault, ReadStop};
-use thes_base::text::Base;
-
-const ABOUT: &str = "Maintains thesauri and the postings of catalogue records to their concepts.";
-
-const DB: &str =
-    "The file that keeps the store; without one it lives in memory, as long as the program";
-
-const BASE_HELP: &str =
-    "What the IRIs of a new store begin with [default: https://thesaurus.example/id/]";
-
-const SCRIPT: &str =
-    "Answers the requests on standard input, one JSON object a line, by one line each";
-
-const CHECK: &str = "Reads the whole store, and prints how much it holds";
-
-const EXAMPLE: &str = "\
-An example. Each line of the script is a request, and gets one line as its answer. The store is kept in
-museum.db, which is made where it isn't there yet:
-
-  thesaurus --db museum.db script <<'END'
-  {\"do\":\"scheme\",\"tag\":\"en\",\"text\":\"Animals\"}
-  {\"do\":\"concept\",\"scheme\":1,\"tag\":\"en\",\"text\":\"Cats\"}
-  {\"do\":\"concept\",\"scheme\":1,\"tag\":\"en\",\"text\":\"Mammals\"}
-  {\"do\":\"post\",\"key\":\"k1\",\"record\":\"r1\",\"concept\":2}
-  {\"do\":\"merge\",\"source\":2,\"target\":3}
-  END
-
-  {\"ok\":1}
-  {\"ok\":2}
-  {\"ok\":3}
-  {\"ok\":1}
-  {\"moved\":1}
-
-Tomorrow it is all still there:
-
-  thesaurus --db museum.db script <<'END'
-  {\"get\":\"posting\",\"number\":1}
-  END
-
-  {\"first\":2,\"key\":\"k1\",\"moves\":[[1,2,3]],\"number\":1,\"place\":3,\"record\":\"r1\",\"withdrawn\":false}
-
-Exit status:
-  0  done
-  1  some request was refused: its answer has \"no\" or \"bad\"
-  2  the command line is wrong
-  3  a fault, printed on standard error as 'thesaurus: fault NAME'
-
-docs/REQUESTS.md of the repository tells of every request and its answers, docs/OPERATING.md of files and faults, README.md of all else.";
+use thes_base::number::ResNo;
+use thes_base::text::{Base, Tag};
+use thes_http::service::Display;
 
 // The base of a store that is given none.
 const BASE: &str = "https://thesaurus.example/id/";
 
+// How many connections are served where no number is given.
+const COUNT: u32 = 4_294_967_295;
+
+/// A display of a scheme in a language.
+#[derive(Debug, Drop)]
+pub struct Shown {
+    pub display: Display,
+    pub scheme: ResNo,
+    pub lang: Tag,
+}
+
+/// Where connections are served, and how many.
+#[derive(Clone, Copy, Debug)]
+pub struct Serving {
+    pub port: u16,
+    pub count: u32,
+}
+
 /// What is done with a store.
-#[derive(Clone, Copy, Debug, PartialEq, Eq)]
+#[derive(Debug, Drop)]
 pub enum Task {
     /// Answers a script.
     Script,
+    /// Performs the posting file of this name.
+    Import(String),
+    /// Writes its triples.
+    Export,
+    /// Writes a display of a scheme.
+    Display(Shown),
+    /// Serves connections.
+    Serve(Serving),
     /// Reads all of it, and tells how much it holds.
     Check,
 }
@@ -149,41 +128,6 @@ impl Parting {
     }
 }
 
-// An option that takes one value.
-fn option<'a>(alloc: Global, name: &'a str, value: &'a str, help: &'a str) -> Arg<'a>
-    ensures rule { rule_of result ≡ line.option name.now }
-    ensures local { result.global ≡ false }
-{
-    Arg::new(alloc, name)
-        .long(name)
-        .value_name(value)
-        .help(help)
-}
-
-// A command with no options of its own.
-fn command<'a>(alloc: Global, name: &'a str, about: &'a str) -> Command<'a>
-    ensures app { app_of result ≡ new_app name.now }
-    ensures local { (fields_of result).has_globals ≡ false }
-{
-    Command::new(alloc, name).about(about).after_help(EXAMPLE)
-}
-
-// The commands of the program.
-fn commands<'a>(alloc: Global) -> Result<Command<'a>, AllocError>
-    ensures { IfOk result (λ commands. app_of commands ≡ program) }
-{
-    Command::new(alloc, "thesaurus")
-        .bin_name("thesaurus")?
-        .about(ABOUT)
-        .after_help(EXAMPLE)
-        .disable_help_subcommand(true)
-        .subcommand_required(true)
-        .arg(option(alloc, "db", "FILE", DB))?
-        .arg(option(alloc, "base", "IRI", BASE_HELP))?
-        .subcommand(command(alloc, "script", SCRIPT))?
-        .subcommand(command(alloc, "check", CHECK))
-}
-
 // Help, or what is wrong with the words.
 fn parting_of(alloc: Global, error: &Error) -> Parting
     ensures kind { PartsFor (kind_of error.now) result }
@@ -199,59 +143,100 @@ fn parting_of(alloc: Global, error: &Error) -> Parting
     }
 }
 
-// The task that a command names.
-fn task_named(name: &str) -> Option<Task>
-    ensures { result ≡ line.task_named name.now }
-{
-    if name == "script" {
-        Some(Task::Script)
-    } else if name == "check" {
-        Some(Task::Check)
-    } else {
-        None
-    }
-}
-
-// The task of the command that was found.
-fn task_asked(matches: &ArgMatches<'_>) -> Task
-    requires { IsSome (task_of (subcommand_name_of matches.now)) }
-    ensures { task_of (subcommand_name_of matches.now) ≡ Some result }
-{
-    matches.subcommand_name().and_then(task_named).unwrap()
-}
-
 // The base asked for, or else that of a store that is given none.
-fn base_asked<'a>(matches: &ArgMatches<'a>) -> &'a str
-    ensures { result.now ≡ base_in (rows_of (found_of matches.now)) }
+fn base_asked<'a>(options: &ArgMatches<'a>) -> &'a str
+    ensures { result.now ≡ base_in (rows_of (found_of options.now)) }
 {
-    match matches.get_str("base") {
+    match options.get_str("base") {
         Some(text) => text,
         None => BASE,
     }
 }
 
 // The file asked for, if one is.
-fn file_asked(alloc: Global, matches: &ArgMatches<'_>) -> Result<Option<String>, AllocError>
+fn file_asked(alloc: Global, options: &ArgMatches<'_>) -> Result<Option<String>, AllocError>
     ensures { IfOk result (λ file. option_map string_bytes file
-        ≡ first_of (codes "db") (rows_of (found_of matches.now))) }
+        ≡ first_of (codes "db") (rows_of (found_of options.now))) }
 {
-    match matches.get_str("db") {
+    match options.get_str("db") {
         Some(text) => Ok(Some(String::from_str(alloc, text)?)),
         None => Ok(None),
     }
 }
 
-// What the options and the command that were found ask for.
-fn job_of(alloc: Global, matches: &ArgMatches<'_>) -> Result<Job, Parting>
-    requires { IsSome (task_of (subcommand_name_of matches.now)) }
-    ensures { PlansBy (rows_of (found_of matches.now)) (subcommand_name_of matches.now) result }
+// The posting file of an import.
+fn import_asked(alloc: Global, words: &ArgMatches<'_>) -> Result<Task, Parting>
+    requires { IsSome (first_of (codes "file") (rows_of (found_of words.now))) }
+    ensures { PlansTask (codes "import") (rows_of (found_of words.now)) result }
 {
-    let task = task_asked(matches);
-    let base = match Base::read(alloc, base_asked(matches)) {
+    let file = words.get_str("file").unwrap();
+    Ok(Task::Import(String::from_str(alloc, file)?))
+}
+
+// The scheme and the language of a display.
+fn display_asked(alloc: Global, display: Display, words: &ArgMatches<'_>) -> Result<Task, Parting>
+    requires { HasOptions (rows_of (found_of words.now)) }
+    ensures { PlansTask (display_name display) (rows_of (found_of words.now)) result }
+{
+    let scheme = match ResNo::read(words.get_str("scheme").unwrap()) {
+        Ok(scheme) => scheme,
+        Err(fault) => return Err(Parting::BadForm(fault)),
+    };
+    match Tag::read(alloc, words.get_str("lang").unwrap()) {
+        Ok(lang) => Ok(Task::Display(Shown {
+            display,
+            scheme,
+            lang,
+        })),
+        Err(stop) => Err(Parting::from(stop)),
+    }
+}
+
+// Where connections are to be served, and how many.
+fn serving_asked(words: &ArgMatches<'_>) -> Serving
+    requires { HasPort (rows_of (found_of words.now)) }
+    ensures { IsServing (rows_of (found_of words.now)) result }
+{
+    Serving {
+        port: words.get_one::<u16>("port").unwrap(),
+        count: words.get_one::<u32>("count").unwrap_or(COUNT),
+    }
+}
+
+// The task of a command, with the words that follow it.
+fn task_asked(alloc: Global, name: &str, words: &ArgMatches<'_>) -> Result<Task, Parting>
+    requires { Completes name.now (rows_of (found_of words.now)) }
+    ensures { PlansTask name.now (rows_of (found_of words.now)) result }
+{
+    if name == "script" {
+        Ok(Task::Script)
+    } else if name == "import" {
+        import_asked(alloc, words)
+    } else if name == "export" {
+        Ok(Task::Export)
+    } else if name == "alphabetical" {
+        display_asked(alloc, Display::Alphabetical, words)
+    } else if name == "hierarchical" {
+        display_asked(alloc, Display::Hierarchical, words)
+    } else if name == "serve" {
+        Ok(Task::Serve(serving_asked(words)))
+    } else {
+        Ok(Task::Check)
+    }
+}
+
+// What the options and the command that were found ask for.
+fn job_of(alloc: Global, options: &ArgMatches<'_>) -> Result<Job, Parting>
+    requires { HasCommand (subcommand_rows_of options.now) }
+    ensures { PlansBy (rows_of (found_of options.now)) (subcommand_rows_of options.now) result }
+{
+    let base = match Base::read(alloc, base_asked(options)) {
         Ok(base) => base,
         Err(stop) => return Err(Parting::from(stop)),
     };
-    match file_asked(alloc, matches) {
+    let (name, words) = options.subcommand().unwrap();
+    let task = task_asked(alloc, name, words)?;
+    match file_asked(alloc, options) {
         Ok(file) => Ok(Job { task, file, base }),
         Err(_) => Err(Parting::OutOfMemory),
     }
@@ -261,9 +246,9 @@ fn job_of(alloc: Global, matches: &ArgMatches<'_>) -> Result<Job, Parting>
 pub fn plan(alloc: Global, words: &[String]) -> Result<Job, Parting>
     ensures { Plans (map string_bytes words.now) result }
 {
-    match commands(alloc)?.try_get_matches_from(words) {
+    match program(alloc)?.try_get_matches_from(words) {
         // clap wants a command, one of those that it was given.
-        Ok(matches) => job_of(alloc, &matches),
+        Ok(options) => job_of(alloc, &options),
         Err(error) => Err(parting_of(alloc, &error)),
     }
 }

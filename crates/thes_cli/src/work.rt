@@ -1,80 +1,128 @@
-//! What the program does with a new store in memory.
-ghost use Rattle.std.specs.Prelude.{◌≡◌};
-ghost use Rattle.thes_base.specs.Pipe.{IsFresh, KeepsToLimit};
-ghost use Rattle.thes_cli.specs.Work.{IsNewStore, AnswersScript, ChecksStore, Works};
+//! What the program does over a store.
+ghost use Rattle.std.specs.Prelude.{option_copied};
+ghost use Rattle.thes_base.specs.Pipe.{IsFresh};
+ghost use Rattle.thes_cli.specs.Streams.{streams};
+ghost use Rattle.thes_cli.specs.Work.{Does, Works, WorksInMemory};
 
-use crate::ending::{close, print_out, sizes_line, tell};
-use crate::words::Task;
+use crate::checking::check_store;
+use crate::displaying::display_store;
+use crate::ending::tell_at;
+use crate::exporting::export_store;
+use crate::importing::import_file;
+use crate::scripting::answer_script;
+use crate::serving::{Listening, serve_store};
+use crate::words::Shown;
 use std::alloc::Global;
 use std::io::{Read, Write};
+use std::net::Net;
 use thes_base::data::Limits;
-use thes_base::fault::{Fault, PipeFault};
 use thes_base::pipe::Pipe;
 use thes_base::text::Base;
-use thes_exchange::core_desk::core_script;
-use thes_exchange::script::Ended;
-use thes_machine::Machine;
+use thes_office::Office;
+use thes_store::keeper::Keeper;
+use thes_store::mem::MemKeeper;
 
-// Makes an empty store.
-fn new_store(alloc: Global, base: Base) -> Machine
-    ensures { IsNewStore base result }
-{
-    Machine::new(alloc, base, Limits::default())
+/// What is done over a store.
+#[derive(Drop)]
+pub enum Work<F, L> {
+    /// Answers a script.
+    Script,
+    /// Tells how much the store holds.
+    Check,
+    /// Writes the vocabulary as N-Triples.
+    Export,
+    /// Writes a display.
+    Display(Shown),
+    /// Performs the postings of this file.
+    Import(F),
+    /// Serves connections that come to this socket.
+    Serve(Listening<L>),
 }
 
-// Answers a script over a new store.
-fn answer_script<R: Read, W: Write>(
+// Does it over an office, and returns the exit status with the office.
+fn do_work<N: Net, K: Keeper, F: Read + Drop, R: Read, W: Write, E: Write>(
     alloc: Global,
-    base: Base,
-    input: &mut Pipe<R>,
-    output: &mut Pipe<W>,
-) -> Result<Ended, PipeFault>
-    requires input { IsFresh input.old }
-    requires output { IsFresh output.old }
-    ensures { AnswersScript R.remaining W.contents input.old input.new output.old output.new base result }
-{
-    let mut machine = new_store(alloc, base);
-    core_script(alloc, input, output, &mut machine)
-}
-
-// Tells how much a new store holds.
-fn check<W: Write, E: Write>(
-    alloc: Global,
-    base: Base,
-    output: &mut Pipe<W>,
-    errors: &mut Pipe<E>,
-) -> u8
-    requires output { IsFresh output.old }
-    requires errors { IsFresh errors.old }
-    ensures { ChecksStore W.contents E.contents output.old output.new errors.old errors.new result }
-{
-    let machine = new_store(alloc, base);
-    match sizes_line(alloc, &machine.sizes()) {
-        Ok(line) => print_out(output, errors, line.as_bytes()),
-        Err(_) => tell(errors, PipeFault::Fault(Fault::OutOfMemory)),
-    }
-}
-
-/// Does a task over a new store in memory, and returns the exit status.
-pub fn work<R: Read, W: Write, E: Write>(
-    alloc: Global,
-    task: Task,
-    base: Base,
+    task: Work<F, N::Listener>,
+    mut office: Office<K>,
     input: &mut Pipe<R>,
     output: &mut Pipe<W>,
     errors: &mut Pipe<E>,
-) -> u8
+) -> (u8, Office<K>)
     requires input { IsFresh input.old }
     requires output { IsFresh output.old }
     requires errors { IsFresh errors.old }
-    ensures { Works R.remaining W.contents input.old input.new output.old output.new
-        E.contents errors.old errors.new task base result }
+    ensures { Does K.rows K.is_up K.failed F.remaining R.remaining W.contents E.contents task
+        office (streams input.old output.old errors.old)
+        result.0 result.1 (streams input.new output.new errors.new) }
 {
-    match task {
-        Task::Script => {
-            let ended = answer_script(alloc, base, input, output);
-            close(errors, &ended)
+    let status = match task {
+        Work::Script => return answer_script(alloc, office, input, output, errors),
+        Work::Serve(listening) => {
+            return serve_store::<N, K, W, E>(alloc, &listening, office, output, errors);
         }
-        Task::Check => check(alloc, base, output, errors),
+        Work::Check => check_store(alloc, &mut office, output, errors),
+        Work::Export => export_store(alloc, &mut office, output, errors),
+        Work::Display(
+            Shown {
+                display,
+                scheme,
+                lang,
+            },
+        ) => display_store(alloc, &mut office, display, scheme, &lang, output, errors),
+        Work::Import(file) => import_file(alloc, file, &mut office, output, errors),
+    };
+    (status, office)
+}
+
+/// Opens the store that a keeper has, with the usual limits, and works over it; and returns the exit status with the keeper.
+/// The file that the store is in is named where it can't be opened.
+pub fn work_over<N: Net, K: Keeper, F: Read + Drop, R: Read, W: Write, E: Write>(
+    alloc: Global,
+    task: Work<F, N::Listener>,
+    file: Option<&str>,
+    keeper: K,
+    input: &mut Pipe<R>,
+    output: &mut Pipe<W>,
+    errors: &mut Pipe<E>,
+) -> (u8, K)
+    requires input { IsFresh input.old }
+    requires output { IsFresh output.old }
+    requires errors { IsFresh errors.old }
+    ensures { Works K.rows K.is_up K.failed F.remaining R.remaining W.contents E.contents task
+        (option_copied file.entry) keeper (streams input.old output.old errors.old)
+        result.0 result.1 (streams input.new output.new errors.new) }
+{
+    match Office::start(alloc, keeper, Limits::default()) {
+        Ok(office) => {
+            let (status, office) = do_work::<N, K, F, R, W, E>(
+                alloc, task, office, input, output, errors,
+            );
+            (status, office.into_keeper())
+        }
+        Err((fault, keeper)) => (tell_at(alloc, errors, file, fault), keeper),
     }
+}
+
+/// Works over a new store in memory, with the usual limits, and returns the exit status.
+pub fn work_in_memory<N: Net, F: Read + Drop, R: Read, W: Write, E: Write>(
+    alloc: Global,
+    task: Work<F, N::Listener>,
+    base: Base,
+    input: &mut Pipe<R>,
+    output: &mut Pipe<W>,
+    errors: &mut Pipe<E>,
+) -> u8
+    requires input { IsFresh input.old }
+    requires output { IsFresh output.old }
+    requires errors { IsFresh errors.old }
+    ensures { WorksInMemory F.remaining R.remaining W.contents E.contents task base
+        (streams input.old output.old errors.old) result (streams input.new output.new errors.new) }
+{
+    // That the base has its form is known from here on.
+    let _ = base.as_str();
+    let keeper = MemKeeper::new(alloc, base);
+    let (status, _) = work_over::<N, MemKeeper, F, R, W, E>(
+        alloc, task, None, keeper, input, output, errors,
+    );
+    status
 }

@@ -5,7 +5,7 @@ use Rattle.thes_cli.proofs.words.file_asked.Goals as goal
 
 pub returns-in_ok-from_str-in-Some : goal.returns-in_ok-from_str-in-Some
 returns-in_ok-from_str-in-Some c =
-    ap (λ (t : List ℕ). Some t) c.in_ok-from_str-in-Some.ensures.ok ∙ (c.in-Some.ensures ∙ first_value-rows (found_of c.args.matches.now) (codes "db"))
+    ap (λ (t : List ℕ). Some t) c.in_ok-from_str-in-Some.ensures.ok ∙ (c.in-Some.ensures ∙ first_value-rows (found_of c.args.options.now) (codes "db"))
 
 pub returns-in-None : goal.returns-in-None
-returns-in-None c = c.in-None.ensures ∙ first_value-rows (found_of c.args.matches.now) (codes "db")
+returns-in-None c = c.in-None.ensures ∙ first_value-rows (found_of c.args.options.now) (codes "db")

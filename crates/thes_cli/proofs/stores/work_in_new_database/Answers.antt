@@ -1,0 +1,18 @@
+use Rattle.std.proofs.Common.{inl, inr, refl}
+use Rattle.thes_cli.proofs.stores.work_in_new_database.Goals as goal
+
+pub returns-in-Ok : goal.returns-in-Ok
+returns-in-Ok g c = inl record {
+  made = c.create_tables.new.conn;
+  tables = λ clean empty. c.in-Ok.ensures.all clean (c.in-Ok.ensures.own.begins c.requires.idle) empty;
+  works = c.work_in_database.ensures;
+}
+
+pub returns-in-Err : goal.returns-in-Err
+returns-in-Err g c = inr record {
+  fault = c.fault_of.result;
+  input = refl;
+  output = refl;
+  tells = c.tell_of.ensures.told;
+  status_is = c.tell_of.ensures.status;
+}

@@ -1,0 +1,170 @@
+//! The options and the commands of the program, and its help.
+ghost use Rattle.std.specs.Prelude.{◌≡◌, false, IfOk};
+ghost use Rattle.clap.specs.Words.{app_of, rule_of};
+ghost use Rattle.clap.specs.declared.builder.command.Command.TheViews.{out-Command as fields_of};
+ghost use Rattle.thes_cli.specs.Commands as line;
+
+use clap::builder::ValueParser;
+use clap::{Arg, Command};
+use std::alloc::{AllocError, Global};
+
+const ABOUT: &str = "Maintains thesauri and the postings of catalogue records to their concepts.";
+
+const DB: &str =
+    "The file that keeps the store; without one it lives in memory, as long as the program";
+
+const BASE_HELP: &str =
+    "What the IRIs of a new store begin with [default: https://thesaurus.example/id/]";
+
+const SCRIPT: &str =
+    "Answers the requests on standard input, one JSON object a line, by one line each";
+
+const IMPORT: &str = "Performs a posting file, and prints what became of each row";
+
+const FILE: &str = "The posting file: CSV with a header, one posting a row";
+
+const EXPORT: &str = "Prints the store's SKOS triples as N-Triples";
+
+const ALPHABETICAL: &str = "Prints a scheme's terms in alphabetical order, with their relations";
+
+const HIERARCHICAL: &str = "Prints a scheme's terms as a tree, narrower ones below broader ones";
+
+const SCHEME: &str = "The number of the scheme";
+
+const LANG: &str = "The language tag of the terms";
+
+const SERVE: &str = "Answers HTTP requests on 127.0.0.1, one connection after another";
+
+const PORT: &str = "The port to listen on, 1 to 65535";
+
+const COUNT: &str = "How many connections to serve before the program ends [default: 4294967295]";
+
+const CHECK: &str = "Reads the whole store, and prints how much it holds";
+
+const EXAMPLE: &str = "\
+An example. Each line of the script is a request, and gets one line as its answer. The store is kept in
+museum.db, which is made where it isn't there yet:
+
+  thesaurus --db museum.db script <<'END'
+  {\"do\":\"scheme\",\"tag\":\"en\",\"text\":\"Animals\"}
+  {\"do\":\"concept\",\"scheme\":1,\"tag\":\"en\",\"text\":\"Cats\"}
+  {\"do\":\"concept\",\"scheme\":1,\"tag\":\"en\",\"text\":\"Mammals\"}
+  {\"do\":\"post\",\"key\":\"k1\",\"record\":\"r1\",\"concept\":2}
+  {\"do\":\"merge\",\"source\":2,\"target\":3}
+  END
+
+  {\"ok\":1}
+  {\"ok\":2}
+  {\"ok\":3}
+  {\"ok\":1}
+  {\"moved\":1}
+
+Tomorrow it is all still there:
+
+  thesaurus --db museum.db script <<'END'
+  {\"get\":\"posting\",\"number\":1}
+  END
+
+  {\"first\":2,\"key\":\"k1\",\"moves\":[[1,2,3]],\"number\":1,\"place\":3,\"record\":\"r1\",\"withdrawn\":false}
+
+Exit status:
+  0  done
+  1  some request was refused: its answer has \"no\" or \"bad\"
+  2  the command line is wrong
+  3  a fault, printed on standard error as 'thesaurus: fault NAME'
+
+docs/REQUESTS.md of the repository tells of every request and its answers, docs/OPERATING.md of files and faults, README.md of all else.";
+
+// An option that takes one value.
+fn option<'a>(alloc: Global, name: &'a str, value: &'a str, help: &'a str) -> Arg<'a>
+    ensures rule { rule_of result ≡ line.option name.now }
+    ensures local { result.global ≡ false }
+{
+    Arg::new(alloc, name)
+        .long(name)
+        .value_name(value)
+        .help(help)
+}
+
+// An option that takes a number, from 1 up to the most.
+fn number<'a>(alloc: Global, name: &'a str, most: u64, help: &'a str) -> Arg<'a>
+    ensures rule { rule_of result ≡ line.number name.now most }
+    ensures local { result.global ≡ false }
+{
+    option(alloc, name, "N", help).value_parser(ValueParser::Unsigned(1, most))
+}
+
+// The word that names a file.
+fn file<'a>(alloc: Global) -> Arg<'a>
+    ensures rule { rule_of result ≡ line.file }
+    ensures local { result.global ≡ false }
+{
+    Arg::new(alloc, "file")
+        .value_name("FILE")
+        .help(FILE)
+        .required(true)
+}
+
+// A command with no options of its own.
+fn command<'a>(alloc: Global, name: &'a str, about: &'a str) -> Command<'a>
+    ensures app { app_of result ≡ line.command name.now }
+    ensures local { (fields_of result).has_globals ≡ false }
+{
+    Command::new(alloc, name).about(about).after_help(EXAMPLE)
+}
+
+// The command that performs a posting file.
+fn import<'a>(alloc: Global) -> Result<Command<'a>, AllocError>
+    ensures app { IfOk result (λ c. app_of c ≡ line.import) }
+    ensures local { IfOk result (λ c. (fields_of c).has_globals ≡ false) }
+{
+    command(alloc, "import", IMPORT).arg(file(alloc))
+}
+
+// A command that prints a display.
+fn display<'a>(alloc: Global, name: &'a str, about: &'a str) -> Result<Command<'a>, AllocError>
+    ensures app { IfOk result (λ c. app_of c ≡ line.display name.now) }
+    ensures local { IfOk result (λ c. (fields_of c).has_globals ≡ false) }
+{
+    command(alloc, name, about)
+        .arg(option(alloc, "scheme", "N", SCHEME).required(true))?
+        .arg(option(alloc, "lang", "TAG", LANG).required(true))
+}
+
+// The command that serves connections.
+fn serve<'a>(alloc: Global) -> Result<Command<'a>, AllocError>
+    ensures app { IfOk result (λ c. app_of c ≡ line.serve) }
+    ensures local { IfOk result (λ c. (fields_of c).has_globals ≡ false) }
+{
+    command(alloc, "serve", SERVE)
+        .arg(number(alloc, "port", 65_535, PORT).required(true))?
+        .arg(number(alloc, "count", 4_294_967_295, COUNT))
+}
+
+// The program with its options, and no command yet.
+fn options<'a>(alloc: Global) -> Result<Command<'a>, AllocError>
+    ensures { IfOk result (λ c. app_of c ≡ line.options) }
+{
+    Command::new(alloc, "thesaurus")
+        .bin_name("thesaurus")?
+        .about(ABOUT)
+        .after_help(EXAMPLE)
+        .disable_help_subcommand(true)
+        .subcommand_required(true)
+        .arg(option(alloc, "db", "FILE", DB))?
+        .arg(option(alloc, "base", "IRI", BASE_HELP))
+}
+
+/// Makes the program's commands and options.
+pub fn program<'a>(alloc: Global) -> Result<Command<'a>, AllocError>
+    ensures { IfOk result (λ program. app_of program ≡ line.program) }
+{
+    options(alloc)?
+        .subcommand(command(alloc, "script", SCRIPT))?
+        .subcommand(import(alloc)?)?
+        .subcommand(command(alloc, "export", EXPORT))?
+        .subcommand(display(alloc, "alphabetical", ALPHABETICAL)?)?
+        .subcommand(display(alloc, "hierarchical", HIERARCHICAL)?)?
+        .subcommand(serve(alloc)?)?
+        .subcommand(command(alloc, "check", CHECK))
+}

@@ -1,0 +1,44 @@
+//! The vocabulary of a store, as N-Triples.
+ghost use Rattle.thes_base.specs.Pipe.{IsFresh};
+ghost use Rattle.thes_cli.specs.Exporting.{ExportsStore, WritesExport};
+
+use crate::ending::tell;
+use std::alloc::Global;
+use std::io::Write;
+use thes_base::fault::PipeFault;
+use thes_base::pipe::Pipe;
+use thes_export::written::export;
+use thes_office::Office;
+use thes_store::keeper::Keeper;
+
+// Writes the export of the state that the tables show.
+fn write_export<K: Keeper, W: Write>(
+    alloc: Global,
+    office: &mut Office<K>,
+    output: &mut Pipe<W>,
+) -> Result<(), PipeFault>
+    requires { IsFresh output.old }
+    ensures { WritesExport K.rows K.is_up K.failed W.contents office.old output.old
+        result office.new output.new }
+{
+    let core = office.ready()?;
+    export(alloc, core, output)
+}
+
+/// Writes the store's vocabulary as N-Triples, and returns the status.
+pub fn export_store<K: Keeper, W: Write, E: Write>(
+    alloc: Global,
+    office: &mut Office<K>,
+    output: &mut Pipe<W>,
+    errors: &mut Pipe<E>,
+) -> u8
+    requires output { IsFresh output.old }
+    requires errors { IsFresh errors.old }
+    ensures { ExportsStore K.rows K.is_up K.failed W.contents E.contents office.old output.old output.new
+        errors.old errors.new result office.new }
+{
+    match write_export(alloc, office, output) {
+        Ok(()) => 0,
+        Err(fault) => tell(errors, fault),
+    }
+}
