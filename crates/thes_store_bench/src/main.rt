@@ -1,16 +1,21 @@
 //! Times a keeper, for `bench/store`: so many postings as its first word says, a commit each; a merge that moves a tenth of
 //! them; so many look-ups by key and by number as its second word says; and a load. With a third word the
 //! postings and the merge are also made in the new database that it names. It prints what it timed, in microseconds.
+//!
+//! For `bench/load`: `load`, how many resources, how many postings, and how often: makes the rows of such a store and as many
+//! cores of them, and prints how many; or `rows` and the same, and it makes the rows alone, and prints how many.
 #![tactic(auto)]
 
 ghost use Rattle.thes_keeping.specs.Posted.{AwaitsPosting};
 
 mod database;
 mod failure;
+mod loading;
 mod reading;
 
 use crate::database::{store_all, store_merge};
 use crate::failure::Failure;
+use crate::loading::{Size, load_times, make_times};
 use crate::reading::{find_all, load_all, tell_all};
 use sqlite::{Alter, Connection};
 use std::alloc::Global;
@@ -23,6 +28,12 @@ use thes_keeping::keeping::{CONCEPTS, merge, post_all};
 use thes_sql::create::create_tables;
 use thes_store::keeper::Keeper;
 use thes_store::mem::MemKeeper;
+
+// What is made of the rows of a store.
+enum Made {
+    Cores,
+    Rows,
+}
 
 // Prints the time since a moment.
 fn tell<R: Clock + Print>(rt: &R, name: &str, begun: &Instant) -> Result<(), Failure> {
@@ -133,9 +144,40 @@ fn time_database(rt: &HostRuntime, posts: u32, path: &str) -> Result<(), Failure
     timed
 }
 
+// Makes the rows of a store, and cores of them if they are to be loaded.
+fn make_rows<R: Print + Alloc<A = Global>>(
+    rt: &R,
+    words: &[String],
+    made: Made,
+) -> Result<(), Failure> {
+    let size = Size {
+        resources: number(words, 2),
+        postings: number(words, 3),
+    };
+    let (alloc, times) = (rt.alloc(), number(words, 4));
+    match made {
+        Made::Cores => {
+            let cores = load_times(alloc, size, times)?;
+            println!(rt; "cores {cores}")?;
+        }
+        Made::Rows => {
+            let rows = make_times(alloc, size, times)?;
+            println!(rt; "rows {rows}")?;
+        }
+    }
+    Ok(())
+}
+
 // Times what the words ask for.
 fn obey(rt: &HostRuntime) -> Result<(), Failure> {
     let words: Vec<String> = std::env::args(rt)?.collect(rt.alloc())?;
+    match words.get(1) {
+        Some(word) if word.as_str() == "load" => {
+            return make_rows(rt, words.as_slice(), Made::Cores);
+        }
+        Some(word) if word.as_str() == "rows" => return make_rows(rt, words.as_slice(), Made::Rows),
+        _ => {}
+    }
     let posts = number(words.as_slice(), 1);
     if posts == 0 {
         return Ok(());
