@@ -8,6 +8,7 @@ mod store;
 
 use crate::store::machine_after;
 use std::alloc::Global;
+use std::rt::HostRuntime;
 use std::{env, fs, io};
 use thes_base::number::ResNo;
 use thes_base::pipe::Pipe;
@@ -25,6 +26,16 @@ fn write_export<W: io::Write + Drop>(alloc: Global, machine: &Machine, device: W
     }
 }
 
+// Writes the export of a machine so many times.
+fn write_exports(rt: &HostRuntime, alloc: Global, machine: &Machine, count: u32) -> io::Result<()>
+    requires { machine.now.spent ≡ false }
+{
+    for _ in 0..count {
+        write_export(alloc, machine, rt.stdout())?;
+    }
+    Ok(())
+}
+
 fn main(rt: HostRuntime) -> io::Result<()> {
     let alloc = rt.alloc();
     let mut words = env::args(&rt)?.skip(1);
@@ -35,9 +46,9 @@ fn main(rt: HostRuntime) -> io::Result<()> {
     for name in words {
         let requests = fs::read_to_string(&rt, name.as_str())?;
         let machine = machine_after(alloc, requests.as_str())?;
-        for _ in 0..count {
-            write_export(alloc, &machine, rt.stdout())?;
-        }
+        let written = write_exports(&rt, alloc, &machine, count);
+        drop(machine);
+        written?;
     }
     Ok(())
 }

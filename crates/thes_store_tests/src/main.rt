@@ -16,7 +16,9 @@ use thes_store::fail_once::Next;
 // What is printed.
 fn told(alloc: Global) -> Result<String, Failure> {
     let mut keeper = filled(alloc)?;
-    let mut text = answers(alloc, &mut keeper)?;
+    let text = answers(alloc, &mut keeper);
+    drop(keeper);
+    let mut text = text?;
     let kinds = [
         Next::Load,
         Next::Find,
