@@ -67,9 +67,35 @@ Tomorrow it is all still there:
 
   {\"first\":2,\"key\":\"k1\",\"moves\":[[1,2,3]],\"number\":1,\"place\":3,\"record\":\"r1\",\"withdrawn\":false}
 
+The terms in alphabetical order, where one that was merged leads to the other; the command hierarchical
+prints them as a tree:
+
+  thesaurus --db museum.db alphabetical --scheme 1 --lang en
+
+  Cats
+    USE Mammals
+  Mammals
+    UF Cats
+
+Postings of a CSV file, each performed once, however often the file comes:
+
+  printf 'key,record,concept\\nk1,r1,2\\nk2,r2,3\\n' > postings.csv
+  thesaurus --db museum.db import postings.csv
+
+  row,outcome,number
+  1,again,1
+  2,new,2
+
+All SKOS triples as N-Triples; and the same store for other programs on this machine, at
+http://127.0.0.1:8080/:
+
+  thesaurus --db museum.db export > museum.nt
+  thesaurus --db museum.db serve --port 8080
+
 Exit status:
   0  done
-  1  some request was refused: its answer has \"no\" or \"bad\"
+  1  something was refused: a request or a row, as its answer says; or a display or a posting file, as
+     standard error says by the refusal's name
   2  the command line is wrong
   3  a fault, printed on standard error as 'thesaurus: fault NAME'
 
