@@ -20,7 +20,7 @@ use ending::{tell, tell_net, tell_of};
 use parting::part;
 use serving::Listening;
 use sqlite::Connection;
-use std::alloc::Global;
+use std::alloc::{AllocError, Global};
 use std::fs;
 use std::fs::File;
 use std::io::{ErrorKind, Read, Write};
@@ -39,12 +39,44 @@ fn planned<R: Env + Alloc<A = Global>>(rt: &R) -> Result<Job, Parting> {
     plan_args(rt.alloc(), std::env::args(rt)?)
 }
 
-// Whether a store is to be made in a file: it is absent, or empty.
-fn is_blank(rt: &HostRuntime, file: &str) -> bool {
-    match fs::metadata(rt, file) {
-        Ok(found) => found.is_file() && found.len() == 0,
-        Err(error) => error.kind() == ErrorKind::NotFound,
+// How the store in a file is opened.
+#[derive(Clone, Copy)]
+enum Opening {
+    // It is made: the file is absent or empty.
+    Make,
+    // It is taken as it stands.
+    Adopt,
+}
+
+// Whether a log stands beside a file, as a program leaves it that was killed.
+fn has_log(rt: &HostRuntime, file: &str) -> Result<bool, AllocError> {
+    let mut log = String::from_str(rt.alloc(), file)?;
+    log.push_str("-wal")?;
+    match fs::metadata(rt, log.as_str()) {
+        Ok(found) => Ok(found.len() > 0),
+        Err(_) => Ok(false),
     }
+}
+
+// How a store is opened for a task. None is made to be checked; nor in a file of one byte, which the database would take for an
+// empty one, or where a log has lost its file: answered requests may stand in it.
+fn opening(rt: &HostRuntime, task: &Task, file: &str) -> Result<Opening, Fault> {
+    let is_blank = match fs::metadata(rt, file) {
+        Ok(found) => {
+            if found.is_file() && found.len() == 1 {
+                return Err(Fault::Store);
+            }
+            found.is_file() && found.len() == 0
+        }
+        Err(error) => error.kind() == ErrorKind::NotFound,
+    };
+    if !is_blank {
+        return Ok(Opening::Adopt);
+    }
+    if matches!(task, Task::Check) || has_log(rt, file)? {
+        return Err(Fault::Store);
+    }
+    Ok(Opening::Make)
 }
 
 // What a task names, and can't be opened.
@@ -91,7 +123,7 @@ fn opened(rt: &HostRuntime, task: Task) -> Result<Work<File, TcpListener>, Unope
     }
 }
 
-// Works over the store in a file. Where the file is absent or empty the store is made, but not to be checked.
+// Works over the store in a file. Where the file is absent or empty the store is made.
 fn work_in_file<R: Read, W: Write, E: Write>(
     rt: &HostRuntime,
     task: Task,
@@ -106,10 +138,10 @@ fn work_in_file<R: Read, W: Write, E: Write>(
     requires errors { IsFresh errors.old }
 {
     let alloc = rt.alloc();
-    let made = is_blank(rt, file).then_some(base);
-    if made.is_some() && matches!(task, Task::Check) {
-        return tell_of(alloc, errors, file, Fault::Store);
-    }
+    let opening = match opening(rt, &task, file) {
+        Ok(opening) => opening,
+        Err(fault) => return tell_of(alloc, errors, file, fault),
+    };
     let conn = match Connection::open(rt, file) {
         Ok(conn) => conn,
         Err(error) => return tell_of(alloc, errors, file, fault_of(error)),
@@ -118,11 +150,11 @@ fn work_in_file<R: Read, W: Write, E: Write>(
         Ok(task) => task,
         Err(unopened) => return tell_unopened(errors, unopened),
     };
-    let (status, conn) = match made {
-        Some(base) => work_in_new_database::<HostRuntime, _, _, _, _, _>(
+    let (status, conn) = match opening {
+        Opening::Make => work_in_new_database::<HostRuntime, _, _, _, _, _>(
             alloc, task, file, conn, base, input, output, errors,
         ),
-        None => work_in_database::<HostRuntime, _, _, _, _, _>(
+        Opening::Adopt => work_in_database::<HostRuntime, _, _, _, _, _>(
             alloc, task, file, conn, input, output, errors,
         ),
     };
