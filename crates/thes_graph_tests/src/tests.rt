@@ -1,5 +1,6 @@
 //! The worked examples on links, and the answers for graphs from a fixed list of numbers beside those of a plain program, which is the
 //! definitions read off a list.
+use Fact::{BroaderOf, CollectionsOf, Has, Mapped, NarrowerOf, RelatedTo, Size};
 use std::alloc::{AllocError, Global};
 use std::collections::BTreeSet;
 use std::process::Abort;
@@ -190,31 +191,91 @@ fn worked_merges(rt: HostRuntime) -> Result<(), Fail> {
     Ok(())
 }
 
-// A merge takes the links along, without those from the target to itself, and equal ones once.
-#[test]
-fn merged_links(rt: HostRuntime) -> Result<(), Fail> {
-    let alloc = rt.alloc();
-    let mut graph = Graph::new(alloc);
-    mark(&mut graph, 5)?;
-    let steps = [
-        (Broader, 2, 3, None),
-        (Related, 2, 4, None),
-        (Related, 3, 4, None),
-        (Exact, 2, 5, None),
-        (Member, 8, 2, None),
-    ];
-    run(&rt, alloc, &mut graph, &steps)?;
-    let (source, target) = (no(2), no(3));
+// What a graph shows.
+#[derive(Clone, Copy)]
+enum Fact {
+    Size(u64),
+    Has(LinkKind, u32, u32, bool),
+    BroaderOf(u32, &'static [u32]),
+    NarrowerOf(u32, &'static [u32]),
+    RelatedTo(u32, &'static [u32]),
+    CollectionsOf(u32, &'static [u32]),
+    Mapped(u32, &'static [(LinkKind, u32)]),
+}
+
+// Whether these are the numbers, in their order.
+fn are(found: Result<Vec<ResNo>, AllocError>, wanted: &[u32]) -> Result<bool, AllocError> {
+    let found = found?;
+    Ok(found.len() == wanted.len() && found.iter().zip(wanted.iter()).all(|(n, m)| n.get() == *m))
+}
+
+// Whether these are the mappings, in their order.
+fn are_mapped(
+    found: Result<Vec<(LinkKind, ResNo)>, AllocError>,
+    wanted: &[(LinkKind, u32)],
+) -> Result<bool, AllocError> {
+    let found = found?;
+    Ok(
+        found.len() == wanted.len()
+            && found
+                .iter()
+                .zip(wanted.iter())
+                .all(|((kind, n), (other, m))| *kind == *other && n.get() == *m),
+    )
+}
+
+fn holds(alloc: Global, graph: &Graph, fact: Fact) -> Result<bool, AllocError> {
+    match fact {
+        Size(size) => Ok(graph.size() == size),
+        Has(kind, a, b, wanted) => Ok(graph.has(&link(kind, a, b)) == wanted),
+        BroaderOf(n, wanted) => are(graph.broader_of(alloc, no(n)), wanted),
+        NarrowerOf(n, wanted) => are(graph.narrower_of(alloc, no(n)), wanted),
+        RelatedTo(n, wanted) => are(graph.related_of(alloc, no(n)), wanted),
+        CollectionsOf(n, wanted) => are(graph.collections_of(alloc, no(n)), wanted),
+        Mapped(n, wanted) => are_mapped(graph.mapped(alloc, no(n)), wanted),
+    }
+}
+
+// Compares what a graph shows with each of these facts.
+fn expect(rt: &impl Abort, alloc: Global, graph: &Graph, facts: &[Fact]) -> Result<(), Fail> {
+    for (i, fact) in facts.iter().enumerate() {
+        assert!(rt; holds(alloc, graph, *fact)?, "fact {i}");
+    }
+    Ok(())
+}
+
+static BEFORE_THE_MERGE: [Step; 5] = [
+    (Broader, 2, 3, None),
+    (Related, 2, 4, None),
+    (Related, 3, 4, None),
+    (Exact, 2, 5, None),
+    (Member, 8, 2, None),
+];
+
+static MERGED: [Fact; 7] = [
+    Size(3),
+    Has(Exact, 3, 5, true),
+    Has(Exact, 2, 5, false),
+    BroaderOf(3, &[]),
+    NarrowerOf(3, &[]),
+    RelatedTo(3, &[4]),
+    CollectionsOf(3, &[8]),
+];
+
+fn merge(graph: &mut Graph, source: u32, target: u32) -> Result<(), AllocError> {
+    let (source, target) = (no(source), no(target));
     if source != target {
         graph.contract(source, target)?;
     }
-    assert_eq!(rt; graph.size(), 3);
-    assert!(rt; graph.has(&link(Exact, 3, 5)));
-    assert!(rt; !graph.has(&link(Exact, 2, 5)));
-    assert!(rt; graph.broader_of(alloc, no(3))?.is_empty());
-    assert!(rt; graph.narrower_of(alloc, no(3))?.is_empty());
-    assert!(rt; graph.related_of(alloc, no(3))?.as_slice() == [no(4)].as_slice());
-    assert!(rt; graph.collections_of(alloc, no(3))?.as_slice() == [no(8)].as_slice());
+    Ok(())
+}
+
+// A merge takes the links along, without those from the target to itself, and equal ones once.
+fn expect_merged(rt: &impl Abort, alloc: Global, graph: &mut Graph) -> Result<(), Fail> {
+    mark(graph, 5)?;
+    run(rt, alloc, graph, &BEFORE_THE_MERGE)?;
+    merge(graph, 2, 3)?;
+    expect(rt, alloc, graph, &MERGED)?;
     graph.remove(&link(Related, 4, 3));
     graph.drop_all(no(5));
     assert_eq!(rt; graph.size(), 1);
@@ -222,38 +283,51 @@ fn merged_links(rt: HostRuntime) -> Result<(), Fail> {
 }
 
 #[test]
+fn merged_links(rt: HostRuntime) -> Result<(), Fail> {
+    expect_merged(&rt, rt.alloc(), &mut Graph::new(rt.alloc()))
+}
+
+static LINKED: [Step; 11] = [
+    (Broader, 4, 2, None),
+    (Broader, 3, 2, None),
+    (Related, 8, 4, None),
+    (Related, 1, 4, None),
+    (RelMatch, 4, 9, None),
+    (Narrow, 7, 4, None),
+    (Broad, 4, 6, None),
+    (Close, 4, 5, None),
+    (Close, 10, 4, None),
+    (Narrow, 4, 12, None),
+    (Exact, 4, 11, None),
+];
+
+static SHOWN: [Fact; 4] = [
+    BroaderOf(4, &[2]),
+    NarrowerOf(2, &[3, 4]),
+    RelatedTo(4, &[1, 8]),
+    Mapped(
+        4,
+        &[
+            (Broad, 6),
+            (Broad, 7),
+            (Close, 5),
+            (Close, 10),
+            (Exact, 11),
+            (Narrow, 12),
+            (RelMatch, 9),
+        ],
+    ),
+];
+
+fn expect_in_order(rt: &impl Abort, alloc: Global, graph: &mut Graph) -> Result<(), Fail> {
+    mark(graph, 9)?;
+    run(rt, alloc, graph, &LINKED)?;
+    expect(rt, alloc, graph, &SHOWN)
+}
+
+#[test]
 fn readers_in_order(rt: HostRuntime) -> Result<(), Fail> {
-    let alloc = rt.alloc();
-    let mut graph = Graph::new(alloc);
-    mark(&mut graph, 9)?;
-    let steps = [
-        (Broader, 4, 2, None),
-        (Broader, 3, 2, None),
-        (Related, 8, 4, None),
-        (Related, 1, 4, None),
-        (RelMatch, 4, 9, None),
-        (Narrow, 7, 4, None),
-        (Broad, 4, 6, None),
-        (Close, 4, 5, None),
-        (Close, 10, 4, None),
-        (Narrow, 4, 12, None),
-        (Exact, 4, 11, None),
-    ];
-    run(&rt, alloc, &mut graph, &steps)?;
-    assert!(rt; graph.broader_of(alloc, no(4))?.as_slice() == [no(2)].as_slice());
-    assert!(rt; graph.narrower_of(alloc, no(2))?.as_slice() == [no(3), no(4)].as_slice());
-    assert!(rt; graph.related_of(alloc, no(4))?.as_slice() == [no(1), no(8)].as_slice());
-    let wanted = [
-        (Broad, no(6)),
-        (Broad, no(7)),
-        (Close, no(5)),
-        (Close, no(10)),
-        (Exact, no(11)),
-        (Narrow, no(12)),
-        (RelMatch, no(9)),
-    ];
-    assert!(rt; graph.mapped(alloc, no(4))?.as_slice() == wanted.as_slice());
-    Ok(())
+    expect_in_order(&rt, rt.alloc(), &mut Graph::new(rt.alloc()))
 }
 
 // How many visits it takes to judge the link, where nothing speaks against it.
