@@ -1,0 +1,51 @@
+"""The program as it serves a store in a file, on a port of this machine, for the tests beside this file."""
+import contextlib
+import socket
+import subprocess
+from program import Ended, built
+
+
+def free_port():
+    with socket.socket() as probe:
+        probe.bind(("127.0.0.1", 0))
+        return probe.getsockname()[1]
+
+
+class Served:
+    """A program that listens."""
+
+    def __init__(self, program, port):
+        self.program, self.port = program, port
+
+    def answer(self, *parts, closes=True):
+        """Sends bytes, as one or in parts, and returns all that is answered; the connection's end is told unless it isn't to be."""
+        with socket.create_connection(("127.0.0.1", self.port), timeout=60) as client:
+            with contextlib.suppress(ConnectionResetError, BrokenPipeError):
+                for part in parts:
+                    client.sendall(part)
+                if closes:
+                    client.shutdown(socket.SHUT_WR)
+            told = b""
+            with contextlib.suppress(ConnectionResetError):
+                while more := client.recv(65536):
+                    told += more
+            return told
+
+    def end(self):
+        """Waits for the program's end, and returns it."""
+        out, err = self.program.communicate(timeout=60)
+        return Ended(self.program.returncode, out, err)
+
+
+@contextlib.contextmanager
+def serving(path, count, *options):
+    """The program as it serves so many connections over the store in a file."""
+    port = free_port()
+    words = [built(), "--db", path, *options, "serve", "--port", str(port), "--count", str(count)]
+    with subprocess.Popen(words, stdout=subprocess.PIPE, stderr=subprocess.PIPE) as program:
+        try:
+            said = program.stdout.readline()
+            assert said == f"listening on 127.0.0.1:{port}\n".encode(), said + program.stderr.read()
+            yield Served(program, port)
+        finally:
+            program.kill()
