@@ -4,7 +4,7 @@ import tempfile
 from pathlib import Path
 from plain import Plain
 from plain_store import LIMITS, judge, read_rows, rows_of
-from program import lines_of, over, values_of
+from program import MEMORY, lines_of, over, values_of
 
 START = [
     {"do": "scheme", "tag": "en", "text": "Animals"},
@@ -32,7 +32,7 @@ def started(path):
 
 def rows_beside(path):
     """What SQLite itself reads in a copy of the two files."""
-    with tempfile.TemporaryDirectory() as room:
+    with tempfile.TemporaryDirectory(dir=MEMORY) as room:
         for file in path.parent.glob(f"{path.name}*"):
             shutil.copy(file, room)
         return read_rows(Path(room) / path.name)

@@ -60,7 +60,7 @@ fn has_log(rt: &HostRuntime, file: &str) -> Result<bool, AllocError> {
 
 // How a store is opened for a task. None is made to be checked; nor in a file of one byte, which the database would take for an
 // empty one, or where a log has lost its file: answered requests may stand in it.
-fn opening(rt: &HostRuntime, task: &Task, file: &str) -> Result<Opening, Fault> {
+fn opening_of(rt: &HostRuntime, task: &Task, file: &str) -> Result<Opening, Fault> {
     let is_blank = match fs::metadata(rt, file) {
         Ok(found) => {
             if found.is_file() && found.len() == 1 {
@@ -138,7 +138,7 @@ fn work_in_file<R: Read, W: Write, E: Write>(
     requires errors { IsFresh errors.old }
 {
     let alloc = rt.alloc();
-    let opening = match opening(rt, &task, file) {
+    let opening = match opening_of(rt, &task, file) {
         Ok(opening) => opening,
         Err(fault) => return tell_of(alloc, errors, file, fault),
     };
