@@ -20,7 +20,7 @@ use ending::{tell, tell_net, tell_of};
 use parting::part;
 use serving::Listening;
 use sqlite::Connection;
-use std::alloc::{AllocError, Global};
+use std::alloc::Global;
 use std::fs;
 use std::fs::File;
 use std::io::{ErrorKind, Read, Write};
@@ -48,18 +48,8 @@ enum Opening {
     Adopt,
 }
 
-// Whether a log stands beside a file, as a program leaves it that was killed.
-fn has_log(rt: &HostRuntime, file: &str) -> Result<bool, AllocError> {
-    let mut log = String::from_str(rt.alloc(), file)?;
-    log.push_str("-wal")?;
-    match fs::metadata(rt, log.as_str()) {
-        Ok(found) => Ok(found.len() > 0),
-        Err(_) => Ok(false),
-    }
-}
-
-// How a store is opened for a task. None is made to be checked; nor in a file of one byte, which the database would take for an
-// empty one, or where a log has lost its file: answered requests may stand in it.
+// How a store is opened for a task. None is made to be checked, nor in a file of one byte, which the database would take for an
+// empty one.
 fn opening_of(rt: &HostRuntime, task: &Task, file: &str) -> Result<Opening, Fault> {
     let is_blank = match fs::metadata(rt, file) {
         Ok(found) => {
@@ -73,10 +63,10 @@ fn opening_of(rt: &HostRuntime, task: &Task, file: &str) -> Result<Opening, Faul
     if !is_blank {
         return Ok(Opening::Adopt);
     }
-    if matches!(task, Task::Check) || has_log(rt, file)? {
-        return Err(Fault::Store);
+    match task {
+        Task::Check => Err(Fault::Store),
+        _ => Ok(Opening::Make),
     }
-    Ok(Opening::Make)
 }
 
 // What a task names, and can't be opened.
