@@ -96,6 +96,8 @@ def orders():
     yield asked("POST /requests HTTP/1.1", many, many), BAD_HEAD
     yield asked("POST /requests HTTP/1.1", "Content-Length: x", many), BAD_HEAD
     yield asked("POST /requests HTTP/1.1", many, body=b"{"), TOO_LONG
+    yield post("/requests", b" " * 1_048_577), TOO_LONG
+    yield asked(f"{'A' * 40} /totals HTTP/1.1"), NO_POST
     yield post("/requests", b'{"do":"fly"}', 13), CUT
     yield post("/requests", b"\xff", 2), CUT
     yield get("/display/alphabetical?scheme=0&lang=!&x=y"), bad("BadQuery")
