@@ -38,11 +38,11 @@ class Served:
 
 
 @contextlib.contextmanager
-def serving(path, count, *options):
-    """The program as it serves so many connections over the store in a file."""
+def serving(path, count, *options, **how):
+    """The program as it serves so many connections over the store in a file; how it is started may be told."""
     port = free_port()
     words = [built(), "--db", path, *options, "serve", "--port", str(port), "--count", str(count)]
-    with subprocess.Popen(words, stdout=subprocess.PIPE, stderr=subprocess.PIPE) as program:
+    with subprocess.Popen(words, stdout=subprocess.PIPE, stderr=subprocess.PIPE, **how) as program:
         try:
             said = program.stdout.readline()
             assert said == f"listening on 127.0.0.1:{port}\n".encode(), said + program.stderr.read()
