@@ -1,8 +1,11 @@
 """What the benchmarks share: the built program, scripts of requests, and the clock."""
 
+import http.client
 import json
+import os
 import pathlib
 import resource
+import socket
 import subprocess
 import sys
 
@@ -81,6 +84,38 @@ def store_of(requests, path):
     if ran.returncode != 0:
         sys.exit(f"the requests of {path} were not all performed: status {ran.returncode}")
     return spent() - before
+
+
+def free_port():
+    with socket.socket() as probe:
+        probe.bind(("127.0.0.1", 0))
+        return probe.getsockname()[1]
+
+
+def ask(port, method, path, body=None):
+    """One connection: a request, and its whole answer."""
+    client = http.client.HTTPConnection("127.0.0.1", port, timeout=60)
+    client.request(method, path, body)
+    answer = client.getresponse()
+    answer.read()
+    client.close()
+    if answer.status >= 400:
+        sys.exit(f"{method} {path} was answered with {answer.status}")
+
+
+def serving(store, asked):
+    """The seconds of CPU of the program that serves these requests, with its start."""
+    port = free_port()
+    words = [PROGRAM, "--db", store, "serve", "--port", str(port), "--count", str(len(asked))]
+    server = subprocess.Popen(words, stdout=subprocess.PIPE)
+    if server.stdout.readline() != f"listening on 127.0.0.1:{port}\n".encode():
+        sys.exit("serve did not listen")
+    for method, path, body in asked:
+        ask(port, method, path, body)
+    _, status, used = os.wait4(server.pid, 0)
+    if status != 0:
+        sys.exit(f"serve ended with {os.waitstatus_to_exitcode(status)}")
+    return used.ru_utime + used.ru_stime
 
 
 def build():
