@@ -4,7 +4,7 @@ use Rattle.httparse.specs.Spans.{header_bytes, span_bytes}
 use Rattle.httparse.specs.declared.spans.HeaderSpan.{HeaderSpan}
 use Rattle.httparse.specs.declared.spans.RequestSpans.{RequestSpans}
 use Rattle.thes_head.specs.declared.problem.Problem.{Problem}
-use Rattle.thes_head.specs.Heads.{head_limit, HasHead, Parts, parts_of}
+use Rattle.thes_head.specs.Heads.{head_limit, Parts, parts_of}
 use Rattle.thes_head.specs.Inbox.{IsHeadAt, Asks}
 use Rattle.thes_head.specs.Wants.{Wants, wants_of}
 

@@ -1,15 +1,14 @@
 -- Heads, and bytes that have none.
-use Rattle.std.proofs.Common.{◌≡◌, ◌⊎◌, ◌∙◌, sym, ap, subst, refl, ℕ, ◌+◌, ◌≤◌, ◌<◌, Bool, true, false, List, [], ◌∷◌, ◌++◌, length, take, drop, inl, inr, append-nil, append_assoc, take_all, arith, rules, length-append}
-use Rattle.std.proofs.lemmas.Grind.{common_steps}
-use Rattle.std.proofs.lemmas.List.{take-append-drop, length-take}
+use Rattle.std.proofs.Common.{◌≡◌, ◌⊎◌, ◌∙◌, sym, ap, subst, ℕ, ◌+◌, ◌≤◌, ◌<◌, true, List, [], ◌∷◌, ◌++◌, length, take, drop, inl, inr, append-nil, append_assoc, take_all, arith, rules}
+use Rattle.std.proofs.lemmas.List.{take-append-drop}
 use Rattle.std.proofs.lemmas.Bool.{cases_lt, both_ways}
 use Rattle.std.specs.Prelude.{IsTrue}
-use Rattle.httparse.specs.Grammar.{RequestHead, print_request, ReadsRequest, HasNoRequest, NeverHasRequest, MayBecomeRequest, EndsInTarget, print_blank}
+use Rattle.httparse.specs.Grammar.{HasNoRequest, NeverHasRequest, MayBecomeRequest, EndsInTarget, print_blank}
 use Rattle.httparse.specs.Spans.{RequestExceeds}
 use Rattle.thes_head.proofs.BlankLemmas.{skip_blank, token_stays, open_target}
 use Rattle.thes_head.proofs.LineLemmas.{fields_lines}
 use Rattle.thes_head.specs.Laws.{CutIsNotBad}
-use Rattle.thes_head.specs.Heads.{head_limit, fields_limit, without_blank_lines, whole_lines, is_open_target, ends_in_target, IsUnfinished, IsNoHead, HasTooManyLines, IsTooLong, IsCutHead, IsBadHead, HasHead}
+use Rattle.thes_head.specs.Heads.{head_limit, fields_limit, without_blank_lines, whole_lines, is_open_target, ends_in_target, IsUnfinished, IsNoHead, HasTooManyLines, IsCutHead, IsBadHead}
 
 pub none_of_never : (bytes : List ℕ) → NeverHasRequest bytes → HasNoRequest bytes
 none_of_never bytes never = subst HasNoRequest (append-nil bytes) (never [])

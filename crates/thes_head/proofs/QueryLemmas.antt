@@ -1,5 +1,5 @@
 -- The pairs of a query.
-use Rattle.std.proofs.Common.{◌≡◌, ◌∙◌, sym, ap, refl, ℕ, List, [], ◌∷◌, ◌++◌, map, Option, None}
+use Rattle.std.proofs.Common.{◌≡◌, ◌∙◌, refl, ℕ, List, [], ◌∷◌, map}
 use Rattle.form_urlencoded.specs.Form.{raw_pairs, DecodesTo}
 use Rattle.thes_head.specs.Queries.{asked_of, asked_by, decoded_pair}
 

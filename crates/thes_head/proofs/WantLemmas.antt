@@ -1,12 +1,12 @@
 -- The checks of a head, one by one.
-use Rattle.std.proofs.Common.{◌≡◌, ◌∙◌, sym, ap, refl, ℕ, ◌≤◌, List, [], Bool, true, false, codes, Option, Some, None, Result, Ok, Err}
+use Rattle.std.proofs.Common.{◌≡◌, refl, ℕ, Bool, true, false, codes, Some, None, Ok, Err}
 use Rattle.std.specs.Str.{bytes_eq}
 use Rattle.thes_head.specs.declared.problem.Problem.{Problem}
 use Rattle.thes_head.specs.declared.problem.Problem.TheVariants.{TransferCoding, NoSuchPath, BadMethod}
 use Rattle.thes_head.specs.Heads.{Parts}
 use Rattle.thes_head.specs.Places.{Found, found_at, path_of, query_of, verb_of, verb_text, body_limit}
 use Rattle.thes_head.specs.Fields.{has_field, body_length}
-use Rattle.thes_head.specs.Wants.{Wants, wants_of}
+use Rattle.thes_head.specs.Wants.{wants_of}
 
 abbrev pub is_coded : Parts → Bool
 is_coded p = has_field (codes "transfer-encoding") p.fields

@@ -1,5 +1,5 @@
 -- What is read of a connection.
-use Rattle.std.specs.Prelude.{ℕ, ◌≡◌, ◌≤◌, ◌<◌, ◌⊎◌, ◌++◌, Bool, true, List, length, take, map, Option, Result}
+use Rattle.std.specs.Prelude.{ℕ, ◌≡◌, ◌≤◌, ◌<◌, ◌⊎◌, ◌+◌, ◌*◌, ◌++◌, Bool, true, List, length, take, map, Option, Result}
 use Rattle.std.specs.Char.{to_ascii_lowercase}
 use Rattle.std.specs.List.{position_or_len}
 use Rattle.std.specs.Io.KnownBytes.{Consumes, IsAtEnd}
@@ -68,3 +68,7 @@ pub record CutsBody (old new : Option (List ℕ)) (start : List ℕ) (count : �
   pub taken : Consumes old new more
   pub short : length (start ++ more) < count
   pub at_end : IsAtEnd new
+
+-- the room of a body's buffer: no more than the body is long, nor than twice what came and 4,096 bytes
+abbrev pub GrowsAsItCame : ℕ → ℕ → ℕ → Type 0
+GrowsAsItCame count came room = (room ≤ count) × (room ≤ 2 * came + 4096)

@@ -67,8 +67,9 @@ fn answer<R: Read, S: Service>(
         Err(problem) => return Ok(Response::problem(problem)),
     };
     let start = inbox.after(spans.len);
-    match read_body(alloc, reader, budget, start, want.body as usize) {
-        Ok(body) => Ok(act(alloc, service, want, &body)),
+    let mut body = Vec::new(alloc);
+    match read_body(reader, budget, start, want.body as usize, &mut body) {
+        Ok(()) => Ok(act(alloc, service, want, &body)),
         Err(BodyStop::OutOfMemory) => Ok(Response::fault(Fault::OutOfMemory)),
         Err(BodyStop::Gone(gone)) => Err(gone),
     }

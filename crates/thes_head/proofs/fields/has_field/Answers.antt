@@ -1,7 +1,6 @@
-use Rattle.std.proofs.Common.{rules, sym, ◌∙◌, ◌≡◌, map}
+use Rattle.std.proofs.Common.{rules, map}
 use Rattle.std.specs.Char.{to_ascii_lowercase}
 use Rattle.httparse.specs.Spans.{header_bytes}
-use Rattle.thes_head.specs.Fields.{is_named}
 use Rattle.thes_head.proofs.FieldLemmas.{found_field}
 use Rattle.thes_head.proofs.fields.has_field.Goals as goal
 

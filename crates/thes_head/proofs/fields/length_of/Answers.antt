@@ -1,4 +1,4 @@
-use Rattle.std.proofs.Common.{rules, arith, sym, ◌∙◌, ◌≡◌, true, ap, subst}
+use Rattle.std.proofs.Common.{rules, sym, ◌≡◌, true}
 use Rattle.thes_head.specs.Fields.{is_length}
 use Rattle.thes_head.proofs.FieldLemmas.{length_bad, length_utf8, length_read, length_over, length_unread}
 use Rattle.thes_head.proofs.fields.length_of.Goals as goal

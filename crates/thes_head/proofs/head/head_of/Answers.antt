@@ -1,6 +1,6 @@
-use Rattle.std.proofs.Common.{rules, arith, inl, inr, ◌≡◌, ◌<◌, ◌+◌}
+use Rattle.std.proofs.Common.{rules, inl, inr, ◌<◌, ◌+◌}
 use Rattle.httparse.specs.Grammar.{HasNoRequest}
-use Rattle.thes_head.specs.Heads.{fields_limit, whole_lines, IsNoHead}
+use Rattle.thes_head.specs.Heads.{fields_limit, whole_lines}
 use Rattle.thes_head.proofs.HeadLemmas.{none_of_never}
 use Rattle.thes_head.proofs.head.head_of.Goals as goal
 use Rattle.thes_head.proofs.head.head_of.Goals.{in-Ok-Partial, in-Err, else-may_come-via-then-may_come+else-whole_lines-le-LINES_LIMIT, else-may_come-via-else-may_come}

@@ -1,4 +1,4 @@
-use Rattle.std.proofs.Common.{ℕ, ◌+◌, ◌==◌, ◌≡◌, true, false, length, take, drop, sym, ap, ◌∙◌, arith, rules, All}
+use Rattle.std.proofs.Common.{◌+◌, ◌≡◌, false, take, drop, sym, ap, ◌∙◌, rules, All}
 use Rattle.std.proofs.lemmas.List.Sums.{position_or_len_is}
 use Rattle.std.proofs.lemmas.List.Folds.{list_any_at, list_any_none}
 use Rattle.std.proofs.lemmas.List.{take_rest}

@@ -1,4 +1,4 @@
-use Rattle.std.proofs.Common.{rules, sym, ap, ◌∙◌, ◌≡◌}
+use Rattle.std.proofs.Common.{sym, ap, ◌∙◌}
 use Rattle.thes_head.specs.Heads.{without_blank_lines}
 use Rattle.thes_head.proofs.BlankLemmas.{blank_line_feed, blank_return, blank_end}
 use Rattle.thes_head.proofs.head.without_blank_lines.Goals as goal

@@ -1,4 +1,4 @@
-use Rattle.std.proofs.Common.{rules, lit<, arith, ◌≡◌, ◌<◌, length}
+use Rattle.std.proofs.Common.{rules, lit<, ◌≡◌, ◌<◌, length}
 use Rattle.std.proofs.lemmas.Str.Pattern.{split_once_first}
 use Rattle.thes_head.proofs.PlaceLemmas.{path_of_none, path_of_front, path_of_one, path_of_two, path_of_three}
 use Rattle.thes_head.proofs.place.find_place.Goals as goal

@@ -1,4 +1,4 @@
-use Rattle.std.proofs.Common.{rules, ◌≡◌, ◌∙◌, sym, ap, [], ◌∷◌}
+use Rattle.std.proofs.Common.{◌∙◌, sym, ap, [], ◌∷◌}
 use Rattle.form_urlencoded.specs.Form.{raw_pairs}
 use Rattle.thes_head.proofs.QueryLemmas.{asked_with, asked_two}
 use Rattle.thes_head.proofs.query.read_query.Goals as goal

@@ -1,4 +1,4 @@
-use Rattle.std.proofs.Common.{rules, refl}
+use Rattle.std.proofs.Common.{refl}
 use Rattle.thes_head.proofs.AskLemmas.{asks_ok, asks_err}
 use Rattle.thes_head.proofs.want.want_in.Goals as goal
 

@@ -1,6 +1,6 @@
-use Rattle.std.proofs.Common.{rules, arith, ◌≤◌, ◌+◌, ◌-◌, length, take, drop, ◌++◌, length-drop}
+use Rattle.std.proofs.Common.{arith, ◌≤◌, ◌+◌, ◌-◌, length, take, drop, ◌++◌, length-drop}
 use borrow.Rule.Slice.PartMut.{post_of}
-use Rattle.std.proofs.lemmas.List.{length-take-le, length-take}
+use Rattle.std.proofs.lemmas.List.{length-take}
 use Rattle.thes_head.proofs.InboxLemmas.{grown_in}
 use Rattle.thes_head.proofs.inbox.Inbox.fill.Goals as goal
 

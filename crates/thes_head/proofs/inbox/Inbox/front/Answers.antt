@@ -1,4 +1,4 @@
-use Rattle.std.proofs.Common.{rules, ◌∙◌, sym, take_all, ◌≤◌, length, arith}
+use Rattle.std.proofs.Common.{sym, take_all, ◌≤◌, length, arith}
 use Rattle.std.proofs.lemmas.List.{length-take-le}
 use Rattle.thes_head.specs.Heads.{head_limit}
 use Rattle.thes_head.proofs.inbox.Inbox.front.Goals as goal
