@@ -1,10 +1,10 @@
 //! How far work has come, told on a terminal.
 use std::rt::Clock;
-use std::time::{Duration, Instant};
+use std::time::Instant;
 use thes_watch::progress::Progress;
 
-// How long work goes on before more is told of it.
-const PAUSE: Duration = Duration::from_secs(1);
+// How many seconds work goes on before more is told of it.
+const PAUSE: u64 = 1;
 
 // Between readings of the clock so many rows are read.
 const STRIDE: u64 = 1_024;
@@ -34,7 +34,7 @@ impl<'a, R: Clock + Eprint> Screen<'a, R> {
     // Whether something is to be told now. Then the next second begins.
     fn is_due(&mut self) -> bool {
         match Instant::now(self.rt) {
-            Ok(now) if now.duration_since(self.last) >= PAUSE => {
+            Ok(now) if now.duration_since(self.last).as_secs() >= PAUSE => {
                 self.last = now;
                 true
             }
