@@ -1,22 +1,18 @@
 -- From a head and a body to an answer.
-use Rattle.std.proofs.Common.{◌≡◌, ◌⊎◌, ◌∙◌, sym, ap, subst, refl, inl, inr, ℕ, ◌+◌, ◌≤◌, ◌<◌, List, [], ◌++◌, length, take, drop, map, append_assoc, Option, Result, Ok, Err, IfOk, min, arith, length-append}
-use Rattle.std.proofs.lemmas.Grind.{common_steps}
-use Rattle.std.proofs.lemmas.List.{length-take, take-append-drop, length-take-le, take-append-le, drop-append-le}
+use Rattle.std.proofs.Common.{◌≡◌, ◌∙◌, sym, ap, subst, refl, inl, inr, ℕ, ◌≤◌, List, [], ◌++◌, length, take, drop, append_assoc, Option, Result, Ok, Err, arith}
+use Rattle.std.proofs.lemmas.List.{length-take, take-append-drop, drop-append-le}
 use Rattle.std.specs.Io.KnownBytes.{Consumes, IsAtEnd}
-use Rattle.httparse.specs.Grammar.{RequestHead, print_request, ReadsRequest}
-use Rattle.httparse.specs.Spans.{header_bytes, name_and_value, span_bytes}
-use Rattle.httparse.specs.declared.spans.HeaderSpan.{HeaderSpan}
-use Rattle.httparse.specs.declared.spans.RequestSpans.{RequestSpans}
+use Rattle.httparse.specs.Grammar.{RequestHead, print_request}
 use Rattle.std.proofs.KnownBytes.{Consumes-trans}
 use Rattle.thes_base.specs.declared.fault.Fault.TheVariants.{OutOfMemory}
 use Rattle.thes_head.specs.declared.problem.Problem.{Problem}
 use Rattle.thes_head.specs.declared.problem.Problem.TheVariants.{BadHead}
 use Rattle.thes_http.specs.declared.response.Response.{Response}
-use Rattle.thes_head.specs.Heads.{head_limit, HasHead, IsCutHead, IsBadHead, parts_of}
+use Rattle.thes_head.specs.Heads.{head_limit, HasHead, IsCutHead, IsBadHead}
 use Rattle.thes_head.specs.Inbox.{Takes, ReadsBody, CutsBody, Asks}
-use Rattle.thes_head.specs.Wants.{Wants, wants_of}
+use Rattle.thes_head.specs.Wants.{Wants}
 use Rattle.thes_http.specs.Responses.{problem_response, fault_response}
-use Rattle.thes_http.specs.Serving.{Doing, Answers, IsCut, DoesOrFails}
+use Rattle.thes_http.specs.Serving.{Doing, DoesOrFails}
 use Rattle.thes_http.specs.Connection.{IsAnswer, IsCutOff}
 use Rattle.thes_head.proofs.InboxLemmas.{consumes_nil}
 

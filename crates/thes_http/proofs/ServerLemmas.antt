@@ -1,5 +1,5 @@
 -- Connections, one after another.
-use Rattle.std.proofs.Common.{◌≡◌, subst, refl, sym, ℕ, ◌+◌, ◌≤◌, List, [], ◌∷◌, ◌++◌, length, length-append, arith}
+use Rattle.std.proofs.Common.{◌≡◌, subst, refl, sym, ℕ, ◌+◌, ◌≤◌, List, [], ◌∷◌, ◌++◌, length-append, arith}
 use Rattle.thes_http.specs.declared.response.Response.{Response}
 use Rattle.thes_http.specs.Server.{Exchange, AreAnswered, LeadsBy}
 use Rattle.thes_http.specs.Serving.{Doing, Answers}

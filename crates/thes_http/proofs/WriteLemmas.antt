@@ -1,5 +1,5 @@
 -- Two writes, one after the other, of which one may stop.
-use Rattle.std.proofs.Common.{◌≡◌, ◌∙◌, sym, ap, subst, refl, ℕ, ◌+◌, ◌≤◌, List, ◌++◌, length, take, append_assoc, [], Option, Result, Ok, Err, OnErr, arith, length-append}
+use Rattle.std.proofs.Common.{◌≡◌, refl, ℕ, ◌≤◌, List, ◌++◌, length, take, append_assoc, [], Option, Result, Ok, Err, OnErr, arith, length-append}
 use Rattle.std.proofs.lemmas.Grind.{common_steps}
 use Rattle.std.specs.Io.KnownBytes.{Appends}
 use Rattle.thes_base.specs.Pipe.{AppendsFront}

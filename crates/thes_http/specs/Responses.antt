@@ -2,7 +2,6 @@
 use Rattle.std.specs.Prelude.{ℕ, ◌++◌, [], List, unwrap_or, length, codes, decimal, Result, Ok, Err}
 use Rattle.thes_base.specs.declared.fault.Fault.{Fault}
 use Rattle.thes_base.specs.declared.fault.FormFault.{FormFault}
-use Rattle.thes_base.specs.declared.fault.Fault.TheVariants.{OutOfMemory}
 use Rattle.thes_base.specs.declared.request.Answer.{Answer}
 use Rattle.thes_base.specs.declared.request.Answer.TheVariants.{No}
 use Rattle.thes_exchange.specs.declared.answer.Reply.{Reply}
@@ -10,7 +9,6 @@ use Rattle.thes_exchange.specs.declared.answer.Reply.TheVariants as reply
 use Rattle.thes_exchange.specs.declared.desk.Viewed.{Viewed}
 use Rattle.thes_exchange.specs.declared.desk.Viewed.TheVariants as view
 use Rattle.thes_exchange.specs.AnswerTexts.{reply_text}
-use Rattle.thes_head.specs.declared.place.Verb.{Verb}
 use Rattle.thes_head.specs.declared.problem.Problem.{Problem}
 use Rattle.thes_head.specs.declared.problem.Problem.TheVariants.{BadHead, TransferCoding, NoSuchPath, BadMethod, NoLength, TooLong, BadQuery}
 use Rattle.thes_http.specs.declared.response.Status.{Status}

@@ -12,24 +12,43 @@ use std::net::{Net, OpenListener, OpenStream, Shutdown};
 use std::time::Duration;
 use thes_base::pipe::Pipe;
 
-// How much of what a client still sends is read behind the answer, in buffers of 8,192 bytes: as
-// much as a body may hold.
-const BUFFERS: u32 = 2048;
+// How often what a client still sends is read behind the answer, in buffers of 16 KB, and how
+// often such a read may wait for 4 ms in vain.
+const READS: u32 = 32_768;
+
+const WAITS: u32 = 256;
 
 // Tells the client that nothing follows, and reads on while it still sends, so that it gets the
 // answer before the connection closes.
 fn see_off<T: Read + OpenStream + Drop>(mut stream: T) {
-    let wait = Some(Duration::from_secs(1));
+    let wait = Some(Duration::from_millis(4));
     if stream.shutdown(Shutdown::Write).is_err() || stream.set_read_timeout(wait).is_err() {
         return;
     }
-    let mut buffer = [0u8; 8192];
-    for _ in 0..BUFFERS {
+    let mut buffer = [0u8; 16_384];
+    let mut waits = 0;
+    for _ in 0..READS {
         match stream.read(&mut buffer) {
-            Ok(0) | Err(_) => return,
+            Ok(0) => return,
             Ok(_) => {}
+            Err(error) if waits < WAITS && has_waited(&error) => waits += 1,
+            Err(_) => return,
         }
     }
+}
+
+// Whether a read gave no byte in its time, and may be made again.
+fn has_waited(error: &io::Error) -> bool {
+    matches!(
+        error.kind(),
+        ErrorKind::WouldBlock | ErrorKind::TimedOut | ErrorKind::Interrupted
+    )
+}
+
+// The connection once more, to read from it. A write to it fails that waits for 30 seconds.
+fn reading_end<T: OpenStream>(stream: &T) -> io::Result<T> {
+    stream.set_write_timeout(Some(Duration::from_secs(30)))?;
+    stream.try_clone()
 }
 
 // Serves one connection.
@@ -42,7 +61,7 @@ fn serve_stream<T: Read + Write + OpenStream + Drop, S: Service>(
     ensures { LeadsBy (doing S.performs S.shows S.imports S.exports S.displays) 1
         service.old service.new }
 {
-    let Ok(input) = stream.try_clone() else {
+    let Ok(input) = reading_end(&stream) else {
         return;
     };
     let mut reader = Pipe::new(input);
@@ -50,6 +69,17 @@ fn serve_stream<T: Read + Write + OpenStream + Drop, S: Service>(
     match serve_one(alloc, &mut reader, &mut writer, service) {
         Served::Answered(_) => see_off(reader.into_device()),
         Served::WriteFault | Served::Cut | Served::ReadFault => {}
+    }
+}
+
+// The next connection; or none, where its client was gone before it was accepted.
+fn next_stream<N: Net>(
+    listener: &N::Listener,
+) -> io::Result<Option<<N::Listener as OpenListener>::Stream>> {
+    match listener.accept() {
+        Ok((stream, _)) => Ok(Some(stream)),
+        Err(error) if error.kind() == ErrorKind::ConnectionAborted => Ok(None),
+        Err(error) => Err(error),
     }
 }
 
@@ -68,7 +98,9 @@ pub fn serve<N: Net, S: Service>(
         service.old service.new }
 {
     for _ in 0..count {
-        let (stream, _) = listener.accept()?;
+        let Some(stream) = next_stream::<N>(listener)? else {
+            continue;
+        };
         serve_stream(alloc, stream, service);
         if !service.is_open() {
             return Err(io::Error::from(ErrorKind::OutOfMemory));

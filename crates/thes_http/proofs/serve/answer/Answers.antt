@@ -1,5 +1,5 @@
 use Rattle.std.proofs.Common.{rules}
-use Rattle.thes_http.proofs.ServeLemmas.{answer_nothing, answer_bad, answer_memory_more, answer_problem, answer_all, cut_head, cut_all, asks_front, front_short, len_within}
+use Rattle.thes_http.proofs.ServeLemmas.{answer_bad, answer_memory_more, answer_problem, answer_all, cut_all, asks_front, front_short, len_within}
 use Rattle.thes_http.proofs.serve.answer.Goals as goal
 
 pub returns-in-Err-Bad-clause-answered : goal.returns-in-Err-Bad-clause-answered

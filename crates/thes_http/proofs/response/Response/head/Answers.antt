@@ -1,4 +1,4 @@
-use Rattle.std.proofs.Common.{◌≡◌, codes, decimal, length}
+use Rattle.std.proofs.Common.{codes, decimal, length}
 use Rattle.thes_http.specs.Responses.{head_text, status_line, media_type, allow_text, body_text}
 use Rattle.thes_http.proofs.WriteLemmas.{head_parts}
 use Rattle.thes_http.proofs.response.Response.head.Goals as goal

@@ -1,4 +1,3 @@
-use Rattle.std.proofs.Common.{rules}
 use Rattle.thes_http.proofs.WriteLemmas.{err_after, err_before}
 use Rattle.thes_head.proofs.InboxLemmas.{pays_then}
 use Rattle.thes_http.proofs.response.Response.write_with.Goals as goal
