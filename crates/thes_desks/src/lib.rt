@@ -1,5 +1,5 @@
-//! Stores in memory, for the programs that try the rest: an office over a keeper in memory, as the program opens one where no file
-//! is named. What a script promises of an office is long, and a proof that meets it takes long: so each call stands here in a
+//! Offices for the programs that try the rest: a store in memory, as the program opens one where no file is named, and a script over
+//! any office. What a script promises of an office is long, and a proof that meets it takes long: so each call stands here in a
 //! function of its own, which promises nothing of that.
 #![tactic(auto)]
 
@@ -16,6 +16,7 @@ use thes_base::text::Base;
 use thes_exchange::script::Ended;
 use thes_office::Office;
 use thes_service::{FrontDesk, office_script};
+use thes_store::keeper::Keeper;
 use thes_store::mem::MemKeeper;
 
 // The base of each store.
@@ -27,16 +28,30 @@ pub struct Store {
     pub office: Office<MemKeeper>,
 }
 
-fn serve_desk<R: Read, W: Write>(
+fn serve_desk<K: Keeper, R: Read, W: Write>(
     alloc: Global,
     reader: &mut Pipe<R>,
     writer: &mut Pipe<W>,
-    desk: &mut FrontDesk<MemKeeper>,
+    desk: &mut FrontDesk<K>,
 ) -> Result<Ended, PipeFault>
     requires reader { IsFresh reader.old }
     requires writer { IsFresh writer.old }
 {
     office_script(alloc, reader, writer, desk)
+}
+
+/// Serves a script over these devices in an office. Returns the office, the writer, and how the script ended.
+pub fn serve_in<K: Keeper, R: Read + Drop, W: Write>(
+    alloc: Global,
+    office: Office<K>,
+    input: R,
+    output: W,
+) -> (Office<K>, W, Result<Ended, PipeFault>) {
+    let mut reader = Pipe::new(input);
+    let mut writer = Pipe::new(output);
+    let mut desk = FrontDesk::new(office);
+    let ended = serve_desk(alloc, &mut reader, &mut writer, &mut desk);
+    (desk.into_office(), writer.into_device(), ended)
 }
 
 // Opens an office over the tables of a keeper.
@@ -67,12 +82,8 @@ impl Store {
         input: R,
         output: W,
     ) -> (Store, W, Result<Ended, PipeFault>) {
-        let mut reader = Pipe::new(input);
-        let mut writer = Pipe::new(output);
-        let mut desk = FrontDesk::new(self.office);
-        let ended = serve_desk(alloc, &mut reader, &mut writer, &mut desk);
-        let office = desk.into_office();
-        (Store { office }, writer.into_device(), ended)
+        let (office, output, ended) = serve_in(alloc, self.office, input, output);
+        (Store { office }, output, ended)
     }
 
     /// Performs the requests of a list, and adds their answers.
