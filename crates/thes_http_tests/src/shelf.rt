@@ -10,8 +10,11 @@ use thes_exchange::desk::{Desk, ViewLine, Viewed};
 use thes_exchange::request::Query;
 use thes_http::service::{Display, Displayed, Imported, Page, Service};
 
-/// A service that withdraws and imports whatever it is asked to, counts that, and refuses all else. It has one scheme,
-/// whose number is 1.
+/// A display that is longer than what is written at once.
+pub static PAGE: [u8; 600] = [b'x'; 600];
+
+/// A service that withdraws and imports whatever it is asked to, counts that, and refuses all else. It has the schemes 1
+/// and 3, of which the second has a long display.
 #[derive(Drop)]
 pub struct Shelf {
     pub performed: u32,
@@ -75,11 +78,11 @@ impl Service for Shelf {
         scheme: ResNo,
         tag: &Tag,
     ) -> Result<Displayed, Fault> {
-        if scheme.get() == 1 {
-            let text = tag.as_str().as_bytes();
-            Ok(Displayed::Lines(Page::new(Vec::from_slice(alloc, text)?)))
-        } else {
-            Ok(Displayed::No(Refusal::UnknownResource))
-        }
+        let text = match scheme.get() {
+            1 => tag.as_str().as_bytes(),
+            3 => &PAGE,
+            _ => return Ok(Displayed::No(Refusal::UnknownResource)),
+        };
+        Ok(Displayed::Lines(Page::new(Vec::from_slice(alloc, text)?)))
     }
 }
