@@ -8,6 +8,7 @@ use Rattle.thes_base.specs.declared.fault.PipeFault.TheVariants as faults
 use Rattle.thes_base.specs.declared.pipe.Pipe.{Pipe}
 use Rattle.thes_core.specs.declared.reading.Sizes.{Sizes}
 use Rattle.thes_exchange.specs.declared.script.Ended.{Ended}
+use Rattle.thes_importer.specs.declared.report.Counts.{Counts}
 
 -- the fault that stopped the script, or else the last one that was answered
 abbrev pub last_fault : Result Ended PipeFault → Option PipeFault
@@ -45,6 +46,12 @@ sizes_line sizes =
     size_text (codes "ok resources=") sizes.resources ++ size_text (codes " labels=") sizes.labels
     ++ size_text (codes " links=") sizes.links ++ size_text (codes " accepted=") sizes.accepted
     ++ size_text (codes " withdrawn=") sizes.withdrawn ++ size_text (codes " moves=") sizes.moves ++ codes "\n"
+
+-- how many rows of an import were new, again and refused
+abbrev pub counts_line : Counts → List ℕ
+counts_line counts =
+    codes "thesaurus: " ++ decimal counts.posted ++ codes " new, " ++ decimal counts.again ++ codes " again, "
+    ++ decimal counts.refused ++ codes " refused\n"
 
 -- the text was written, or a front of it where the writer failed or was denied a write
 abbrev pub Prints : {W : Type 0} → (W → Option (List ℕ)) → Pipe W → Pipe W → List ℕ → Type 0

@@ -36,9 +36,9 @@ module _ {K F R W E : Type 0} (rows : K → Raw) (is_up : K → Type 0) (failed 
       (new.input ≡ old.input)
       × DisplaysStore rows is_up failed out shown.display shown.scheme shown.lang err before
       old.output new.output old.errors new.errors status after
-  Does (Import file) before old status after new =
+  Does (Import file tells) before old status after new =
       (new.input ≡ old.input)
-      × ImportsStore rows is_up failed given out err file before old.output new.output old.errors new.errors status after
+      × ImportsStore rows is_up failed given out err tells file before old.output new.output old.errors new.errors status after
   Does (Serve listening) before old status after new =
       (new.input ≡ old.input)
       × ServesStore rows is_up failed err out listening.port listening.count before

@@ -9,6 +9,7 @@ ghost use Rattle.thes_cli.specs.Displaying as showing;
 ghost use Rattle.thes_cli.specs.Parting as parting;
 ghost use Rattle.thes_cli.specs.Parting.{PrintsText};
 
+use arrayvec::ArrayString;
 use itoa::Buffer;
 use std::alloc::{AllocError, Global};
 use std::io::Write;
@@ -17,6 +18,7 @@ use thes_base::pipe::{Budget, Pipe};
 use thes_core::reading::Sizes;
 use thes_exchange::line::Line;
 use thes_exchange::script::Ended;
+use thes_importer::report::Counts;
 
 // The fault to tell: the one that stopped the script, or else the last one that was answered.
 fn last_fault(ended: &Result<Ended, PipeFault>) -> Option<PipeFault>
@@ -69,6 +71,21 @@ pub fn form_line(fault: FormFault) -> Line
     let mut line = Line::of("thesaurus: ");
     line.push(fault.name());
     line.push("\n");
+    line
+}
+
+/// The line that tells how many rows of an import were new, again and refused.
+pub fn counts_line(counts: Counts) -> ArrayString<96>
+    ensures { result.bytes ≡ ends.counts_line counts }
+{
+    let mut line = ArrayString::new();
+    line.push_str("thesaurus: ");
+    line.push_str(Buffer::new().format(counts.posted));
+    line.push_str(" new, ");
+    line.push_str(Buffer::new().format(counts.again));
+    line.push_str(" again, ");
+    line.push_str(Buffer::new().format(counts.refused));
+    line.push_str(" refused\n");
     line
 }
 

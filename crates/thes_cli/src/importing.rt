@@ -3,7 +3,7 @@ ghost use Rattle.std.specs.Prelude.{Ok};
 ghost use Rattle.thes_base.specs.Pipe.{IsFresh};
 ghost use Rattle.thes_cli.specs.Importing.{EndsImport, Imports, ImportsStore};
 
-use crate::ending::{form_line, print_error, tell};
+use crate::ending::{counts_line, form_line, print_error, tell};
 use std::alloc::Global;
 use std::io::{Read, Write};
 use thes_base::fault::FormFault;
@@ -28,12 +28,17 @@ fn import_rows<K: Keeper, F: Read, W: Write>(
 }
 
 // Tells whether all rows were performed, and returns the status.
-fn tell_done<E: Write>(errors: &mut Pipe<E>, ended: Ended) -> u8
+fn tell_done<E: Write>(errors: &mut Pipe<E>, tells: bool, ended: Ended) -> u8
     requires { IsFresh errors.old }
-    ensures { EndsImport E.contents errors.old errors.new (Ok ended) result }
+    ensures { EndsImport E.contents tells errors.old errors.new (Ok ended) result }
 {
     match ended {
-        Ended::Rows(counts) => u8::from(counts.refused > 0),
+        Ended::Rows(counts) => {
+            if tells {
+                print_error(errors, counts_line(counts).as_str().as_bytes());
+            }
+            u8::from(counts.refused > 0)
+        }
         Ended::Malformed => {
             print_error(errors, form_line(FormFault::BadShape).as_bytes());
             1
@@ -42,30 +47,32 @@ fn tell_done<E: Write>(errors: &mut Pipe<E>, ended: Ended) -> u8
 }
 
 // Tells how an import ended, and returns the status.
-fn tell_import<E: Write>(errors: &mut Pipe<E>, ended: Result<Ended, Stopped>) -> u8
+fn tell_import<E: Write>(errors: &mut Pipe<E>, tells: bool, ended: Result<Ended, Stopped>) -> u8
     requires { IsFresh errors.old }
-    ensures { EndsImport E.contents errors.old errors.new ended result }
+    ensures { EndsImport E.contents tells errors.old errors.new ended result }
 {
     match ended {
-        Ok(ended) => tell_done(errors, ended),
+        Ok(ended) => tell_done(errors, tells, ended),
         Err(stopped) => tell(errors, stopped.fault),
     }
 }
 
-/// Performs the postings of a file, writes what its rows are answered with, and returns the status.
+/// Performs the postings of a file, writes what its rows are answered with, and returns the status. How many rows were new,
+/// again and refused is told where that is wanted.
 pub fn import_file<K: Keeper, F: Read + Drop, W: Write, E: Write>(
     alloc: Global,
     file: F,
+    tells: bool,
     office: &mut Office<K>,
     output: &mut Pipe<W>,
     errors: &mut Pipe<E>,
 ) -> u8
     requires output { IsFresh output.old }
     requires errors { IsFresh errors.old }
-    ensures { ImportsStore K.rows K.is_up K.failed F.remaining W.contents E.contents file
+    ensures { ImportsStore K.rows K.is_up K.failed F.remaining W.contents E.contents tells file
         office.old output.old output.new errors.old errors.new result office.new }
 {
     let mut given = Pipe::new(file);
     let ended = import_rows(alloc, &mut given, office, output);
-    tell_import(errors, ended)
+    tell_import(errors, tells, ended)
 }

@@ -8,6 +8,7 @@ mod ending;
 mod exporting;
 mod importing;
 mod parting;
+mod screen;
 mod scripting;
 mod serving;
 mod stores;
@@ -18,12 +19,13 @@ ghost use Rattle.thes_base.specs.Pipe.{IsFresh};
 
 use ending::{tell, tell_net, tell_of};
 use parting::part;
+use screen::Screen;
 use serving::Listening;
 use sqlite::Connection;
 use std::alloc::Global;
 use std::fs;
 use std::fs::File;
-use std::io::{ErrorKind, Read, Write};
+use std::io::{ErrorKind, IsTerminal, Read, Write};
 use std::net::{Ipv4Addr, TcpListener};
 use std::process::ExitCode;
 use std::rt::Env;
@@ -98,15 +100,24 @@ fn listening(rt: &HostRuntime, serving: Serving) -> Result<Listening<TcpListener
     }
 }
 
+// What tells how far work has come, where standard error is a terminal.
+fn screen_of<'a>(rt: &'a HostRuntime, task: &Task) -> Option<Screen<'a, HostRuntime>> {
+    if rt.stderr().is_terminal() {
+        Screen::new(rt, matches!(task, Task::Import(_)))
+    } else {
+        None
+    }
+}
+
 // What a task is over a store, with the file or the socket that it names opened.
-fn opened(rt: &HostRuntime, task: Task) -> Result<Work<File, TcpListener>, Unopened> {
+fn opened(rt: &HostRuntime, task: Task, tells: bool) -> Result<Work<File, TcpListener>, Unopened> {
     match task {
         Task::Script => Ok(Work::Script),
         Task::Check => Ok(Work::Check),
         Task::Export => Ok(Work::Export),
         Task::Display(shown) => Ok(Work::Display(shown)),
         Task::Import(file) => match File::open(rt, file.as_str()) {
-            Ok(file) => Ok(Work::Import(file)),
+            Ok(file) => Ok(Work::Import(file, tells)),
             Err(_) => Err(Unopened::File),
         },
         Task::Serve(serving) => Ok(Work::Serve(listening(rt, serving)?)),
@@ -136,16 +147,17 @@ fn work_in_file<R: Read, W: Write, E: Write>(
         Ok(conn) => conn,
         Err(error) => return tell_of(alloc, errors, file, fault_of(error)),
     };
-    let task = match opened(rt, task) {
+    let screen = screen_of(rt, &task);
+    let task = match opened(rt, task, screen.is_some()) {
         Ok(task) => task,
         Err(unopened) => return tell_unopened(errors, unopened),
     };
     let (status, conn) = match opening {
-        Opening::Make => work_in_new_database::<HostRuntime, _, _, _, _, _>(
-            alloc, task, file, conn, base, input, output, errors,
+        Opening::Make => work_in_new_database::<HostRuntime, _, _, _, _, _, _>(
+            alloc, task, screen, file, conn, base, input, output, errors,
         ),
-        Opening::Adopt => work_in_database::<HostRuntime, _, _, _, _, _>(
-            alloc, task, file, conn, input, output, errors,
+        Opening::Adopt => work_in_database::<HostRuntime, _, _, _, _, _, _>(
+            alloc, task, screen, file, conn, input, output, errors,
         ),
     };
     // What was answered stands in the log; where it can't be copied now, the next program does that.
@@ -169,10 +181,12 @@ fn perform<R: Read, W: Write, E: Write>(
     if let Some(file) = file {
         return work_in_file(rt, task, file.as_str(), &base, input, output, errors);
     }
-    match opened(rt, task) {
-        Ok(task) => work_in_memory::<HostRuntime, _, _, _, _>(
+    let screen = screen_of(rt, &task);
+    match opened(rt, task, screen.is_some()) {
+        Ok(task) => work_in_memory::<HostRuntime, _, _, _, _, _>(
             rt.alloc(),
             task,
+            screen,
             base,
             input,
             output,

@@ -15,6 +15,8 @@ use thes_base::pipe::Pipe;
 use thes_base::text::Base;
 use thes_sql::create::create_tables;
 use thes_sqlite::keeper::SqlKeeper;
+use thes_watch::progress::Progress;
+use thes_watch::watched::Watched;
 
 /// Tells which fault an error of the database is: running out of memory, or one of the store.
 pub fn fault_of(error: Error) -> Fault {
@@ -24,11 +26,20 @@ pub fn fault_of(error: Error) -> Fault {
     }
 }
 
-/// Works over the store in a database, and returns the exit status with the connection. The file is named where the store
-/// can't be opened.
-pub fn work_in_database<N: Net, S: Alter, F: Read + Drop, R: Read, W: Write, E: Write>(
+/// Works over the store in a database, tells how far it has come, and returns the exit status with the connection. The file is
+/// named where the store can't be opened.
+pub fn work_in_database<
+    N: Net,
+    S: Alter,
+    P: Progress + Copy,
+    F: Read + Drop,
+    R: Read,
+    W: Write,
+    E: Write,
+>(
     alloc: Global,
     task: Work<F, N::Listener>,
+    progress: P,
     file: &str,
     conn: Connection<S>,
     input: &mut Pipe<R>,
@@ -43,8 +54,8 @@ pub fn work_in_database<N: Net, S: Alter, F: Read + Drop, R: Read, W: Write, E: 
         conn (streams input.old output.old errors.old)
         result.0 result.1 (streams input.new output.new errors.new) }
 {
-    let keeper = SqlKeeper::adopt(alloc, conn);
-    let (status, keeper) = work_over::<N, SqlKeeper<S>, F, R, W, E>(
+    let keeper = Watched::new(SqlKeeper::adopt(alloc, conn), progress);
+    let (status, keeper) = work_over::<N, Watched<SqlKeeper<S>, P>, F, R, W, E>(
         alloc,
         task,
         Some(file),
@@ -53,13 +64,22 @@ pub fn work_in_database<N: Net, S: Alter, F: Read + Drop, R: Read, W: Write, E: 
         output,
         errors,
     );
-    (status, keeper.into_connection())
+    (status, keeper.into_keeper().into_connection())
 }
 
 /// Works over a new store with this base, in a database that has no tables yet.
-pub fn work_in_new_database<N: Net, S: Alter, F: Read + Drop, R: Read, W: Write, E: Write>(
+pub fn work_in_new_database<
+    N: Net,
+    S: Alter,
+    P: Progress + Copy,
+    F: Read + Drop,
+    R: Read,
+    W: Write,
+    E: Write,
+>(
     alloc: Global,
     task: Work<F, N::Listener>,
+    progress: P,
     file: &str,
     mut conn: Connection<S>,
     base: &Base,
@@ -76,8 +96,8 @@ pub fn work_in_new_database<N: Net, S: Alter, F: Read + Drop, R: Read, W: Write,
         result.0 result.1 (streams input.new output.new errors.new) }
 {
     match create_tables(&mut conn, base) {
-        Ok(_) => work_in_database::<N, S, F, R, W, E>(
-            alloc, task, file, conn, input, output, errors,
+        Ok(_) => work_in_database::<N, S, P, F, R, W, E>(
+            alloc, task, progress, file, conn, input, output, errors,
         ),
         Err(error) => (tell_of(alloc, errors, file, fault_of(error)), conn),
     }

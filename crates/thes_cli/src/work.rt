@@ -21,6 +21,8 @@ use thes_base::text::Base;
 use thes_office::Office;
 use thes_store::keeper::Keeper;
 use thes_store::mem::MemKeeper;
+use thes_watch::progress::Progress;
+use thes_watch::watched::Watched;
 
 /// What is done over a store.
 #[derive(Drop)]
@@ -33,8 +35,8 @@ pub enum Work<F, L> {
     Export,
     /// Writes a display.
     Display(Shown),
-    /// Performs the postings of this file.
-    Import(F),
+    /// Performs the postings of this file, and tells how many rows were new, again and refused where that is wanted.
+    Import(F, bool),
     /// Serves connections that come to this socket.
     Serve(Listening<L>),
 }
@@ -69,7 +71,9 @@ fn do_work<N: Net, K: Keeper, F: Read + Drop, R: Read, W: Write, E: Write>(
                 lang,
             },
         ) => display_store(alloc, &mut office, display, scheme, &lang, output, errors),
-        Work::Import(file) => import_file(alloc, file, &mut office, output, errors),
+        Work::Import(file, tells) => {
+            import_file(alloc, file, tells, &mut office, output, errors)
+        }
     };
     (status, office)
 }
@@ -103,10 +107,11 @@ pub fn work_over<N: Net, K: Keeper, F: Read + Drop, R: Read, W: Write, E: Write>
     }
 }
 
-/// Works over a new store in memory, with the usual limits, and returns the exit status.
-pub fn work_in_memory<N: Net, F: Read + Drop, R: Read, W: Write, E: Write>(
+/// Works over a new store in memory, with the usual limits, tells how far it has come, and returns the exit status.
+pub fn work_in_memory<N: Net, P: Progress + Copy, F: Read + Drop, R: Read, W: Write, E: Write>(
     alloc: Global,
     task: Work<F, N::Listener>,
+    progress: P,
     base: Base,
     input: &mut Pipe<R>,
     output: &mut Pipe<W>,
@@ -120,8 +125,8 @@ pub fn work_in_memory<N: Net, F: Read + Drop, R: Read, W: Write, E: Write>(
 {
     // That the base has its form is known from here on.
     let _ = base.as_str();
-    let keeper = MemKeeper::new(alloc, base);
-    let (status, _) = work_over::<N, MemKeeper, F, R, W, E>(
+    let keeper = Watched::new(MemKeeper::new(alloc, base), progress);
+    let (status, _) = work_over::<N, Watched<MemKeeper, P>, F, R, W, E>(
         alloc, task, None, keeper, input, output, errors,
     );
     status

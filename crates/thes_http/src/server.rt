@@ -45,9 +45,12 @@ fn has_waited(error: &io::Error) -> bool {
     )
 }
 
-// The connection once more, to read from it. A write to it fails that waits for 30 seconds.
+// The connection once more, to read from it. A read or a write fails that waits for 30 seconds, so
+// that a client which neither goes on nor goes away keeps no other one waiting for ever.
 fn reading_end<T: OpenStream>(stream: &T) -> io::Result<T> {
-    stream.set_write_timeout(Some(Duration::from_secs(30)))?;
+    let wait = Some(Duration::from_secs(30));
+    stream.set_read_timeout(wait)?;
+    stream.set_write_timeout(wait)?;
     stream.try_clone()
 }
 
