@@ -13,10 +13,10 @@ from serving import serving
 MILLION = 1_000_000
 # What a server reads behind an answer ends before this, in bytes and in seconds.
 MOST, SECONDS = 2_000 * MILLION, 20
-# A write waits for 30 seconds at most.
-PATIENCE = 60
+# A write waits for 30 seconds at most, and once more where it was taken in part.
+PATIENCE = 90
 # How much more memory a program may ever have had, in KiB: where no body is to be kept, and where one of 16 MiB is.
-LITTLE, BODY = 2_000, 48_000
+LITTLE, BODY = 2_000, 64_000
 ANNOUNCED = 16_777_216
 CONCEPTS = 8_000
 GONE = (b"", b"GET /exp", post("/import", b"key,record,concept\n", 60), get("/export"), post("/requests", BROADER))
@@ -31,6 +31,10 @@ def long_ones():
     yield post("/requests", BROADER), bytes(40 * MILLION), CONFLICT
     yield asked("POST /import HTTP/1.1", "Transfer-Encoding: chunked"), bytes(40 * MILLION), CODING
     yield b"", b"x" * (40 * MILLION), BAD_HEAD
+
+
+# How many clients there are.
+CASES = len(list(long_ones())) + 3 + 10 + 2 * len(GONE) + 1 + 2
 
 
 def connected(served):
@@ -126,8 +130,8 @@ def patient(served):
         yield from client(served)
         yield from next_one(served, client.__name__)
     yield from memory(served, least, LITTLE)
-    if served.answer(post("/import", bytes(ANNOUNCED))) != bad("BadShape"):
-        yield "a body of 16,777,216 bytes: another answer"
+    if served.answer(post("/import", b"a,b" + b"\n" * (ANNOUNCED - 3))) != bad("BadShape"):
+        yield f"a body of {ANNOUNCED} bytes: another answer"
     yield from memory(served, least, BODY)
 
 
@@ -143,7 +147,7 @@ def unread(room):
             client.connect(("127.0.0.1", served.port))
             client.sendall(get("/export"))
             began = time.monotonic()
-            if served.answer(get("/totals")) != TOTAL or time.monotonic() - began >= PATIENCE:
+            if served.answer(get("/totals"), patience=PATIENCE) != TOTAL or time.monotonic() - began >= PATIENCE:
                 yield "a client that doesn't read its answer holds the server"
             told = b""
             with contextlib.suppress(ConnectionResetError):
@@ -168,9 +172,3 @@ def wrong_answers(room):
     checked = over(path, "check")
     if checked != (0, SIZES, b""):
         yield f"the store of the clients is left otherwise: {checked}"
-    yield from unread(room)
-
-
-def cases():
-    """How many clients there are."""
-    return len(list(long_ones())) + 3 + 10 + 2 * len(GONE) + 1 + 2
