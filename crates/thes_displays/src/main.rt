@@ -3,6 +3,7 @@
 #![tactic(auto)]
 
 mod example;
+mod store;
 
 use crate::example::{Example, show};
 use std::alloc::Global;

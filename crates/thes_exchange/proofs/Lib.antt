@@ -9,3 +9,4 @@ pub mod ScriptLemmas
 pub mod ViewLemmas
 pub mod ListingLemmas
 pub mod ConceptLemmas
+pub mod CoreLemmas

@@ -3,6 +3,7 @@
 
 pub mod answer;
 pub mod concept;
+pub mod core_desk;
 pub mod desk;
 mod feed;
 pub mod laws;

@@ -6,6 +6,7 @@ mod desk;
 mod halting;
 mod list;
 mod lookups;
+mod store;
 mod stored;
 mod ways;
 

@@ -1,0 +1,4 @@
+pub mod RoomLemmas
+pub mod HeldLemmas
+pub mod RunLemmas
+pub mod ShownLemmas
