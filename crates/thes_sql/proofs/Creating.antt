@@ -42,11 +42,11 @@ adds_meta base spelled old new count empty h =
         outside = no_keyed _ _ _ (w.others.1.1.0 (λ q. omega (arith, q)) ∙ e.1.1.0);
         label = no_hidden _ _ (w.others.1.1.1.0 (λ q. omega (arith, q)) ∙ e.1.1.1.0);
         link = no_hidden _ _ (w.others.1.1.1.1.0 (λ q. omega (arith, q)) ∙ e.1.1.1.1.0);
-        hier = no_hidden _ _ (w.others.1.1.1.1.1.0 (λ q. omega (arith, q)) ∙ e.1.1.1.1.1.0);
-        posting = no_keyed _ _ _ (w.others.1.1.1.1.1.1.0 (λ q. omega (arith, q)) ∙ e.1.1.1.1.1.1.0);
+        hier = no_hidden _ _ (w.others.1.1.1.1.1.1.1.0 (λ q. omega (arith, q)) ∙ e.1.1.1.1.1.1.1.0);
+        posting = no_keyed _ _ _ (w.others.1.1.1.1.1.0 (λ q. omega (arith, q)) ∙ e.1.1.1.1.1.0);
         numbered = tt;
         spelled = (spelled, (tt, (tt, tt)));
-        move = no_keyed _ _ _ (w.others.1.1.1.1.1.1.1.0 (λ q. omega (arith, q)) ∙ e.1.1.1.1.1.1.1.0);
+        move = no_keyed _ _ _ (w.others.1.1.1.1.1.1.0 (λ q. omega (arith, q)) ∙ e.1.1.1.1.1.1.0);
       };
     }
 
