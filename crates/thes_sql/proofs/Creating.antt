@@ -18,7 +18,7 @@ use Rattle.thes_sql.proofs.Texts as text
 use Rattle.thes_sql.proofs.Writing.{cast_int, cast_null}
 use Rattle.thes_sql.proofs.Adding.{puts}
 
-cast_meta : (base : List ℕ) → cast_row meta (stored_meta base) ≡ stored_meta base
+pub cast_meta : (base : List ℕ) → cast_row meta (stored_meta base) ≡ stored_meta base
 cast_meta base = rw (cast_null, cast_int (pos 1), cast_int (pos 2)) refl
 
 no_keyed : {A : Type 0} (stored : A → Row) (num : A → ℕ) (tree : List Row) → tree ≡ [] → AreKeyed stored num [] tree

@@ -17,6 +17,7 @@ use Rattle.sqlite_keyed.proofs.ListLemmas.{map-map}
 use Rattle.sqlite_catalog.proofs.ListFacts.{filter_all}
 use Rattle.sqlite_trees.specs.Tree.{IsAscending, IsTable, rowid}
 use Rattle.sqlite.specs.Program.{overlay}
+use Rattle.sqlite.specs.Tree.{Trees}
 use Rattle.sqlite.specs.Command.TheVariants.{Select}
 use Rattle.sqlite.specs.Listing.{understood, reads_listing}
 use Rattle.sqlite.specs.State.{State, Shown}
@@ -81,21 +82,25 @@ module _ {X : Type 0} (num : X → ℕ) (stored : X → Row) (cells : X → List
   strict a (x ∷ xs) up = (later (num x) x xs (omega arith) up.1, strict (num x) xs up.1)
 
   -- just the rows that pass, in order
-  pub reads : (text : List ℕ) → Asks text query → (old new : State) (xs : List X) (out : List Row)
-      → old.now.schema ≡ store_schema → AreKeyed stored num xs (old.now.trees tree) → Shown text params old new out
-      → out ≡ map values (map cells (filter p xs))
-  reads text is old new xs out has held h =
-      let read = reads_as text params old new store_schema has (Select (whole query) is.0) is.1 is.3 is.2 out h in
-      let a : IsAnswer query (overlay old.now.trees []) params out = read.answer Null in
+  pub in_turn : (db : Trees) (xs : List X) (out : List Row) → AreKeyed stored num xs (db tree)
+      → IsAnswer query (overlay db []) params out → out ≡ map values (map cells (filter p xs))
+  in_turn db xs out held a =
       let outputs : a.kept ≡ map out_of (filter p xs) = a.distinct ∙ ap (map (output query)) (a.grouped
       ∙ ap (flat_map (λ r. cond (list_all (holds (params ∷ r ∷ [])) filters) ((params ∷ r ∷ []) ∷ []) []))
-      (no_lets old.now.trees tree ∙ held.rows) ∙ picked stored params filters p test xs) ∙ outs (filter p xs) in
+      (no_lets db tree ∙ held.rows) ∙ picked stored params filters p test xs) ∙ outs (filter p xs) in
       let ordered : a.ordered ≡ map out_of (filter p xs) =
       sorted_unique (output_cmp query) (output_cmp_total query) _ a.ordered
       (strict 0 (filter p xs) (rising_filter num p 0 xs held.rises))
       (subst (λ k. IsPermutation k a.ordered) outputs a.same) a.sorted in
       a.shown ∙ ap (λ os. page query params (map (λ (o : Output). o.1) os)) ordered
       ∙ map-map (λ (o : Output). o.1) out_of (filter p xs) ∙ sym (map-map values cells (filter p xs))
+
+  pub reads : (text : List ℕ) → Asks text query → (old new : State) (xs : List X) (out : List Row)
+      → old.now.schema ≡ store_schema → AreKeyed stored num xs (old.now.trees tree) → Shown text params old new out
+      → out ≡ map values (map cells (filter p xs))
+  reads text is old new xs out has held h =
+      let read = reads_as text params old new store_schema has (Select (whole query) is.0) is.1 is.3 is.2 out h in
+      in_turn old.now.trees xs out held (read.answer Null)
 
 -- all rows of a table
 module _ {X : Type 0} (num : X → ℕ) (stored : X → Row) (cells : X → List Cell) (tree : ℕ) (project : List Term)
