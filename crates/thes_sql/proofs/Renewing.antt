@@ -8,7 +8,8 @@ use Rattle.sqlite.specs.declared.types.Value.TheVariants.{Null, Int}
 use Rattle.sqlite.specs.declared.error.Error.{Error}
 use Rattle.sqlite.specs.Order.{Row}
 use Rattle.sqlite.specs.Term.{Term, lit, col, holds}
-use Rattle.sqlite.specs.Query.{Query}
+use Rattle.sqlite.specs.Query.{Query, IsAnswer}
+use Rattle.sqlite_value.specs.declared.keys.Collation.TheVariants.{Binary}
 use Rattle.sqlite.specs.Source.TheVariants.{Query as Asked}
 use Rattle.sqlite.specs.Command.TheVariants.{Insert, Update, Delete}
 use Rattle.sqlite.specs.Table.{Table}
@@ -60,7 +61,21 @@ abbrev copy_project : List Term
 copy_project = lit Null ∷ col 1 2 ∷ col 1 3 ∷ lit (Int (pos 0)) ∷ []
 
 abbrev copy_query : Query
-copy_query = in_order 6 broader_filters copy_project
+copy_query = record (in_order 6 broader_filters copy_project) { collations = Binary ∷ Binary ∷ Binary ∷ Binary ∷ [] }
+
+-- no row is told apart by these
+in_order_too : (db : Trees) (params : Row) (out : List Row) → IsAnswer copy_query db params out
+    → IsAnswer (in_order 6 broader_filters copy_project) db params out
+in_order_too db params out a = record {
+  staged = a.staged;
+  grouped = a.grouped;
+  kept = a.kept;
+  distinct = a.distinct;
+  ordered = a.ordered;
+  same = a.same;
+  sorted = a.sorted;
+  shown = a.shown;
+}
 
 copy_is : Means copy_text (Insert 7 (Asked (whole copy_query)))
 unfolding understood everything
@@ -233,7 +248,8 @@ copies t old new count kept h =
     kept.schema refl (λ olds news. refl) (Asked (whole copy_query)) refl w in
     let given : it.0 ≡ map (λ (y : HierRow). Null ∷ hier_values y) rows =
     in_turn (λ (row : ℕ × Link). row.0) (hidden_row link_values) copied_cells 6 copy_project [] broader_filters
-    (λ row. is_broader row.1) is_kind (λ row. refl) trees held.given it.0 held.held (it.1.answer Null)
+    (λ row. is_broader row.1) is_kind (λ row. refl) trees held.given it.0 held.held
+    (in_order_too _ _ _ (it.1.answer Null))
     ∙ copied_rows (filter (λ (row : ℕ × Link). is_broader row.1) held.given)
     ∙ ap (map (λ (y : HierRow). Null ∷ hier_values y)) (picked_links held.given t.link held.same) in
     let all = hidden_push_all hier_values there cast_hier rows [] (trees 11) kept.hier in

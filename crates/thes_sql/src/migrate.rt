@@ -37,6 +37,19 @@ fn drop_copied<S: Alter>(tx: &mut Transaction<'_, S>) -> Result<usize, Error>
     tx.execute("DELETE FROM link WHERE kind = 1", &[])
 }
 
+// Moves the links of kind broader from table link to the empty table hier.
+fn move_links<S: Alter>(tx: &mut Transaction<'_, S>) -> Result<(), Error>
+    ensures same_reference { tx.new.conn.ghost_name ≡ tx.old.conn.ghost_name }
+    ensures does { (t : Tables) → DoesInside S.Store (Turns
+        (λ db. KeepsAs 1 db (record t { hier = [] }))
+        (λ db. KeepsAs 1 db (renewed t))) tx.old.conn tx.new.conn result }
+    ensures stays { StaysInside S.Store tx.old.conn tx.new.conn }
+{
+    copy_links(tx)?;
+    drop_copied(tx)?;
+    Ok(())
+}
+
 // Sets the version.
 fn set_version<S: Alter>(tx: &mut Transaction<'_, S>) -> Result<usize, Error>
     ensures same_reference { tx.new.conn.ghost_name ≡ tx.old.conn.ghost_name }
@@ -55,8 +68,7 @@ fn migrate_all<S: Alter>(tx: &mut Transaction<'_, S>) -> Result<(), Error>
     ensures stays { StaysInside S.Store tx.old.conn tx.new.conn }
 {
     define_newer(tx)?;
-    copy_links(tx)?;
-    drop_copied(tx)?;
+    move_links(tx)?;
     set_version(tx)?;
     Ok(())
 }
