@@ -31,8 +31,8 @@ use Rattle.thes_sql.specs.Schema.{schema_8, schema_9, store_schema}
 use Rattle.thes_rows.specs.Tables.{Tables}
 use Rattle.thes_sql.specs.Stored.{HoldResources, HoldOutside, HoldPostings, HoldMoves, AreHidden, label_values}
 use Rattle.thes_sql.specs.Stored.{link_values}
-use Rattle.thes_sql.specs.Older.{old_schema, KeepsOld, KeepsAs}
-use Rattle.thes_sql.specs.Does.{IsEmpty, Turns}
+use Rattle.thes_sql.specs.Older.{old_schema, KeepsOld, KeepsAs, IsOldStore, IsEnlarged}
+use Rattle.thes_sql.specs.Does.{IsEmpty, Turns, TurnsEach}
 use Rattle.thes_sql.proofs.Writing.{went, same_value}
 
 -- in this schema the text makes the table
@@ -385,11 +385,11 @@ module _ {S : Type 0} (g : Ghosts S) where
         hier = record { given = []; same = refl; held = record { rises = tt; rows = is.2 } };
       }
 
-  pub does_renew : (t : Tables) (old new : Held S) (r : Result (Unit {0}) Error) → ExecutesAllInside g 0 newer_0 old new r
+  pub does_renew : (old new : Held S) (r : Result (Unit {0}) Error) → ExecutesAllInside g 0 newer_0 old new r
       → OnOk r ((state g new).in_transaction ≡ (state g old).in_transaction) → IsTrue (state g old).in_transaction
-      → OnOk r (Turns (λ db. KeepsOld db t) (λ db. KeepsAs 1 db (record t { hier = [] })) (state g old) (state g new))
-  does_renew t old new (Err e) h same inside = tt
-  does_renew t old new (Ok done) h same inside = record {
-    made = λ was. renewed_rows t old new was (all_renewed old new was.schema h);
+      → OnOk r (TurnsEach IsOldStore IsEnlarged (state g old) (state g new))
+  does_renew old new (Err e) h same inside = tt
+  does_renew old new (Ok done) h same inside = record {
+    made = λ t was. renewed_rows t old new was (all_renewed old new was.schema h);
     inside = same ∙ inside;
   }

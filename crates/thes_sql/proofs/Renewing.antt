@@ -37,8 +37,9 @@ use Rattle.thes_rows.specs.Cells.{number_cell, hier_type_no}
 use Rattle.thes_sql.specs.Schema.{meta, link, hier, store_schema}
 use Rattle.thes_sql.specs.Stored.{Keeps, Rising, AreKeyed, AreHidden, AreNumbered, AreSpelled, hidden_row, values}
 use Rattle.thes_sql.specs.Stored.{HoldResources, HoldOutside, HoldPostings, HoldMoves, label_values, link_values, hier_values}
-use Rattle.thes_sql.specs.Older.{HoldAs, KeepsAs, stored_version, is_broader, untyped}
-use Rattle.thes_sql.specs.Does.{Turns}
+use Rattle.thes_sql.specs.Older.{HoldAs, KeepsAs, stored_version, is_broader, untyped, copied, renewed}
+use Rattle.thes_sql.specs.Older.{IsEnlarged, IsCopied, IsMoved, IsRenewed}
+use Rattle.thes_sql.specs.Does.{TurnsEach}
 use Rattle.thes_sql.specs.Reads.{tree_of}
 use Rattle.thes_sql.proofs.Texts.{plain_query, whole, same, Means}
 use Rattle.thes_sql.proofs.Writing.{inserted, cast_int, cast_null}
@@ -286,25 +287,23 @@ sets_version t old new count kept h =
 
 -- Inside a transaction.
 
-turned : (From To : Database → Type 0) (text : List ℕ) → ((old new : State) (count : ℕ) → From old.now
-    → Executes text [] old new (Ok count) → To new.now)
-    → (old new : State) (r : Result ℕ Error) → ExecutesInside 0 text [] old new r → OnOk r (Turns From To old new)
+turned : (From To : Tables → Database → Type 0) (text : List ℕ) → ((t : Tables) (old new : State) (count : ℕ)
+    → From t old.now → Executes text [] old new (Ok count) → To t new.now)
+    → (old new : State) (r : Result ℕ Error) → ExecutesInside 0 text [] old new r → OnOk r (TurnsEach From To old new)
 turned From To text makes old new (Err e) h = tt
 turned From To text makes old new (Ok count) h = record {
-  made = λ was. makes old new count was h.0;
+  made = λ t was. makes t old new count was h.0;
   inside = h.1.mode;
 }
 
-pub does_copy : (t : Tables) (old new : State) (r : Result ℕ Error) → ExecutesInside 0 copy_text [] old new r
-    → OnOk r (Turns (λ db. KeepsAs 1 db (record t { hier = [] }))
-    (λ db. KeepsAs 1 db (record t { hier = map untyped (filter is_broader t.link) })) old new)
-does_copy t = turned _ _ copy_text (copies t)
+pub does_copy : (old new : State) (r : Result ℕ Error) → ExecutesInside 0 copy_text [] old new r
+    → OnOk r (TurnsEach IsEnlarged IsCopied old new)
+does_copy = turned IsEnlarged IsCopied copy_text copies
 
-pub does_drop : (t : Tables) (old new : State) (r : Result ℕ Error) → ExecutesInside 0 drop_text [] old new r
-    → OnOk r (Turns (λ db. KeepsAs 1 db t)
-    (λ db. KeepsAs 1 db (record t { link = filter (λ l. not (is_broader l)) t.link })) old new)
-does_drop t = turned _ _ drop_text (drops_copied t)
+pub does_drop : (old new : State) (r : Result ℕ Error) → ExecutesInside 0 drop_text [] old new r
+    → OnOk r (TurnsEach IsCopied IsMoved old new)
+does_drop = turned IsCopied IsMoved drop_text (λ t. drops_copied (copied t))
 
-pub does_version : (t : Tables) (old new : State) (r : Result ℕ Error) → ExecutesInside 0 version_text [] old new r
-    → OnOk r (Turns (λ db. KeepsAs 1 db t) (λ db. Keeps db t) old new)
-does_version t = turned _ _ version_text (sets_version t)
+pub does_version : (old new : State) (r : Result ℕ Error) → ExecutesInside 0 version_text [] old new r
+    → OnOk r (TurnsEach IsMoved IsRenewed old new)
+does_version = turned IsMoved IsRenewed version_text (λ t. sets_version (renewed t))

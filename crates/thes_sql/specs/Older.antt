@@ -12,7 +12,7 @@ use Rattle.thes_rows.specs.declared.cells.Cell.TheVariants.{Text}
 use Rattle.thes_rows.specs.Cells.{number_cell}
 use Rattle.thes_rows.specs.Tables.{Tables}
 use Rattle.thes_sql.specs.Schema.{schema_7, store_schema}
-use Rattle.thes_sql.specs.Stored.{keyed, values, HoldResources, HoldOutside, HoldPostings, HoldMoves, AreHidden}
+use Rattle.thes_sql.specs.Stored.{Keeps, keyed, values, HoldResources, HoldOutside, HoldPostings, HoldMoves, AreHidden}
 use Rattle.thes_sql.specs.Stored.{AreNumbered, AreSpelled, label_values, link_values, hier_values}
 
 -- the seven tables of version 1: there is no hier, and no plain index
@@ -53,9 +53,32 @@ is_broader l = link_kind_no l.kind == 1
 abbrev pub untyped : Link → HierRow
 untyped l = record { a = l.a; b = l.b; typ = typ.Untyped }
 
+-- hier is there, and empty; then it has the links of kind broader, which table link still has; then it alone has them
+abbrev pub enlarged : Tables → Tables
+enlarged t = record t { hier = [] }
+
+abbrev pub copied : Tables → Tables
+copied t = record t { hier = map untyped (filter is_broader t.link) }
+
 -- what version 2 has of the tables: links of kind broader stand in hier, untyped, and all others in link
 abbrev pub renewed : Tables → Tables
 renewed t = record t { link = filter (λ l. not (is_broader l)) t.link; hier = map untyped (filter is_broader t.link) }
+
+-- the steps of a store of version 1 with these tables on its way
+abbrev pub IsOldStore : Tables → Database → Type 0
+IsOldStore t db = KeepsOld db t
+
+abbrev pub IsEnlarged : Tables → Database → Type 0
+IsEnlarged t db = KeepsAs 1 db (enlarged t)
+
+abbrev pub IsCopied : Tables → Database → Type 0
+IsCopied t db = KeepsAs 1 db (copied t)
+
+abbrev pub IsMoved : Tables → Database → Type 0
+IsMoved t db = KeepsAs 1 db (renewed t)
+
+abbrev pub IsRenewed : Tables → Database → Type 0
+IsRenewed t db = Keeps db (renewed t)
 
 -- the database has the schema of this version or of version 1
 abbrev pub HasKnownSchema : Database → Type 0

@@ -1,10 +1,10 @@
 //! The making of the tables.
-ghost use Rattle.std.specs.Prelude.{◌≡◌, [], IfOk, IsTrue};
-ghost use Rattle.thes_rows.specs.Tables.{Tables, no_rows};
+ghost use Rattle.std.specs.Prelude.{◌≡◌, IfOk, IsTrue};
+ghost use Rattle.thes_rows.specs.Tables.{no_rows};
 ghost use Rattle.thes_sql.specs.Schema.{schema_0, store_schema};
 ghost use Rattle.thes_sql.specs.Stored.{Keeps, Hold};
-ghost use Rattle.thes_sql.specs.Older.{old_schema, KeepsOld, KeepsAs};
-ghost use Rattle.thes_sql.specs.Does.{IsEmpty, Turns, DoesInside, StaysInside, IsOwnTransaction};
+ghost use Rattle.thes_sql.specs.Older.{old_schema, IsOldStore, IsEnlarged};
+ghost use Rattle.thes_sql.specs.Does.{IsEmpty, Turns, TurnsEach, DoesInside, StaysInside, IsOwnTransaction};
 ghost use Rattle.sqlite.specs.State.{HasCleanDisk, Survives};
 ghost use Rattle.sqlite.specs.Held.{state};
 
@@ -40,9 +40,7 @@ pub(crate) fn define_newer<S: Alter>(tx: &mut Transaction<'_, S>) -> Result<(), 
     ensures same_reference { tx.new.conn.ghost_name ≡ tx.old.conn.ghost_name }
     ensures does { DoesInside S.Store (Turns (IsEmpty old_schema) (IsEmpty store_schema))
         tx.old.conn tx.new.conn result }
-    ensures renews { (t : Tables) → DoesInside S.Store
-        (Turns (λ db. KeepsOld db t) (λ db. KeepsAs 1 db (record t { hier = [] })))
-        tx.old.conn tx.new.conn result }
+    ensures renews { DoesInside S.Store (TurnsEach IsOldStore IsEnlarged) tx.old.conn tx.new.conn result }
     ensures stays { StaysInside S.Store tx.old.conn tx.new.conn }
 {
     tx.execute_batch(

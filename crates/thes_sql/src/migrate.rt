@@ -1,9 +1,9 @@
 //! What makes a store of version 1 one of version 2.
-ghost use Rattle.std.specs.Prelude.{◌≡◌, [], map, filter, not, IfOk, IsTrue};
+ghost use Rattle.std.specs.Prelude.{◌≡◌, IfOk, IsTrue};
 ghost use Rattle.thes_rows.specs.Tables.{Tables};
 ghost use Rattle.thes_sql.specs.Stored.{Keeps, Hold};
-ghost use Rattle.thes_sql.specs.Older.{KeepsOld, KeepsAs, is_broader, untyped, renewed};
-ghost use Rattle.thes_sql.specs.Does.{Turns, DoesInside, StaysInside, IsOwnTransaction};
+ghost use Rattle.thes_sql.specs.Older.{KeepsOld, renewed, IsOldStore, IsEnlarged, IsCopied, IsMoved, IsRenewed};
+ghost use Rattle.thes_sql.specs.Does.{TurnsEach, DoesInside, StaysInside, IsOwnTransaction};
 ghost use Rattle.sqlite.specs.State.{HasCleanDisk, Survives};
 ghost use Rattle.sqlite.specs.Held.{state};
 
@@ -13,10 +13,7 @@ use sqlite::{Alter, Connection, Error, Transaction};
 // Copies the links of kind broader into the empty table hier, as untyped ones, in their order.
 fn copy_links<S: Alter>(tx: &mut Transaction<'_, S>) -> Result<usize, Error>
     ensures same_reference { tx.new.conn.ghost_name ≡ tx.old.conn.ghost_name }
-    ensures does { (t : Tables) → DoesInside S.Store (Turns
-        (λ db. KeepsAs 1 db (record t { hier = [] }))
-        (λ db. KeepsAs 1 db (record t { hier = map untyped (filter is_broader t.link) })))
-        tx.old.conn tx.new.conn result }
+    ensures does { DoesInside S.Store (TurnsEach IsEnlarged IsCopied) tx.old.conn tx.new.conn result }
     ensures stays { StaysInside S.Store tx.old.conn tx.new.conn }
 {
     tx.execute(
@@ -28,10 +25,7 @@ fn copy_links<S: Alter>(tx: &mut Transaction<'_, S>) -> Result<usize, Error>
 // Removes the links of kind broader from table link.
 fn drop_copied<S: Alter>(tx: &mut Transaction<'_, S>) -> Result<usize, Error>
     ensures same_reference { tx.new.conn.ghost_name ≡ tx.old.conn.ghost_name }
-    ensures does { (t : Tables) → DoesInside S.Store (Turns
-        (λ db. KeepsAs 1 db t)
-        (λ db. KeepsAs 1 db (record t { link = filter (λ l. not (is_broader l)) t.link })))
-        tx.old.conn tx.new.conn result }
+    ensures does { DoesInside S.Store (TurnsEach IsCopied IsMoved) tx.old.conn tx.new.conn result }
     ensures stays { StaysInside S.Store tx.old.conn tx.new.conn }
 {
     tx.execute("DELETE FROM link WHERE kind = 1", &[])
@@ -40,9 +34,7 @@ fn drop_copied<S: Alter>(tx: &mut Transaction<'_, S>) -> Result<usize, Error>
 // Moves the links of kind broader from table link to the empty table hier.
 fn move_links<S: Alter>(tx: &mut Transaction<'_, S>) -> Result<(), Error>
     ensures same_reference { tx.new.conn.ghost_name ≡ tx.old.conn.ghost_name }
-    ensures does { (t : Tables) → DoesInside S.Store (Turns
-        (λ db. KeepsAs 1 db (record t { hier = [] }))
-        (λ db. KeepsAs 1 db (renewed t))) tx.old.conn tx.new.conn result }
+    ensures does { DoesInside S.Store (TurnsEach IsEnlarged IsMoved) tx.old.conn tx.new.conn result }
     ensures stays { StaysInside S.Store tx.old.conn tx.new.conn }
 {
     copy_links(tx)?;
@@ -53,8 +45,7 @@ fn move_links<S: Alter>(tx: &mut Transaction<'_, S>) -> Result<(), Error>
 // Sets the version.
 fn set_version<S: Alter>(tx: &mut Transaction<'_, S>) -> Result<usize, Error>
     ensures same_reference { tx.new.conn.ghost_name ≡ tx.old.conn.ghost_name }
-    ensures does { (t : Tables) → DoesInside S.Store (Turns (λ db. KeepsAs 1 db t) (λ db. Keeps db t))
-        tx.old.conn tx.new.conn result }
+    ensures does { DoesInside S.Store (TurnsEach IsMoved IsRenewed) tx.old.conn tx.new.conn result }
     ensures stays { StaysInside S.Store tx.old.conn tx.new.conn }
 {
     tx.execute("UPDATE meta SET version = 2", &[])
@@ -63,8 +54,7 @@ fn set_version<S: Alter>(tx: &mut Transaction<'_, S>) -> Result<usize, Error>
 // Does all of it.
 fn migrate_all<S: Alter>(tx: &mut Transaction<'_, S>) -> Result<(), Error>
     ensures same_reference { tx.new.conn.ghost_name ≡ tx.old.conn.ghost_name }
-    ensures does { (t : Tables) → DoesInside S.Store
-        (Turns (λ db. KeepsOld db t) (λ db. Keeps db (renewed t))) tx.old.conn tx.new.conn result }
+    ensures does { DoesInside S.Store (TurnsEach IsOldStore IsRenewed) tx.old.conn tx.new.conn result }
     ensures stays { StaysInside S.Store tx.old.conn tx.new.conn }
 {
     define_newer(tx)?;

@@ -7,6 +7,6 @@ returns-clause-does g c clean inside = does_newer g.S.Store c.args.tx.now.conn.n
     (c.execute_batch.ensures.inside clean) inside
 
 pub returns-clause-renews : goal.returns-clause-renews
-returns-clause-renews g c t clean inside = does_renew g.S.Store t c.args.tx.now.conn.now
+returns-clause-renews g c clean inside = does_renew g.S.Store c.args.tx.now.conn.now
     c.execute_batch.new.self.conn.now c.execute_batch.result (c.execute_batch.ensures.ran clean)
     (c.execute_batch.ensures.inside clean) inside
