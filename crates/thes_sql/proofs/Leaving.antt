@@ -115,15 +115,17 @@ module _ {S : Type 0} (g : Ghosts S) (sql : List ℕ) (params : Row) (old new : 
     clean = s.clean;
     same = λ has clean still_open settled. left (state g old) (state g new) still_open settled
         (still sql params (state g old) (state g new) (known has) items r (ok clean) (err clean));
-    crash = λ has. survives_weaker (state g old) (state g new) _ _
-        (λ _ db. never_commits sql params (state g old) db (known has)) s;
+    crash = λ has clean db leave. elim (s.crash clean db leave) [
+      | inl before ↦ before
+      | inr made ↦ absurd (never_commits sql params (state g old) db (known has) made)
+    ];
   }
 
   kept : (r : Result V Error)
       → (HasCleanDisk (state g new) → IfOk r (λ v. Shown sql params (state g old) (state g new) (items v)))
       → OnOk r (KeepsKnown g old new)
   kept (Err e) shown = tt
-  kept (Ok v) shown has clean =
+  kept (Ok v) shown = λ has clean.
       let h = shown_same sql params (state g old) (state g new) (known has) (items v) (shown clean) in
       (h.0.now_is, h.0.committed_is)
 
@@ -166,17 +168,17 @@ module _ {S : Type 0} (g : Ghosts S) (sql : List ℕ) (old new : Held S) where
     was = λ clean still_open. open_before (so clean) still_open;
     clean = s.clean;
     same = λ has clean still_open settled. left (state g old) (state g new) still_open settled (so clean);
-    crash = λ has. s;
+    crash = λ has clean db leave. elim (s.crash clean db leave) [ inl before ↦ before | inr none ↦ absurd none ];
   }
 
   pub prepared_keeps : (HasCleanDisk (state g new) → IsUnchanged (state g old) (state g new)) → KeepsKnown g old new
   prepared_keeps so has clean = let h = so clean in (h.0.now_is, h.0.committed_is)
 
-  pub failed_leaves : (old.in_transaction ≡ false → new.in_transaction ≡ false)
-      → Survives (state g old) (state g new) (λ _. ⊥) → (e : Error)
-      → (HasCleanDisk (state g new) → (params : Row) → IsNotRun (state g old) (state g new) sql params e)
-      → LeavesKnown g old new
-  failed_leaves mode s e h = prepared_leaves mode s (λ clean. prepared_so e (h clean))
+  pub each_so : {V : Type 0} (P : V → Type 0) (r : Result V Error) → IfOk r (λ v. P v × IsUnchanged (state g old) (state g new))
+      → IfErr r (λ e. (params : Row) → IsNotRun (state g old) (state g new) sql params e)
+      → IsUnchanged (state g old) (state g new) ⊎ IsRolledBack (state g old) (state g new)
+  each_so P (Ok v) ok err = inl ok.1
+  each_so P (Err e) ok err = prepared_so e err
 
   pub refused_keeps : (fault : CompileError) → (HasCleanDisk (state g new)
       → (params : Row) → IsNotRun (state g old) (state g new) sql params (SqlInputError fault))

@@ -1,6 +1,6 @@
 -- A store of version 1, and what becomes of it in version 2.
 use Rattle.std.specs.Prelude.{◌≡◌, ◌≤◌, ◌⊎◌, ◌==◌, ℕ, List, [], ◌∷◌, map, filter, Bool, not, false, IsTrue}
-use Rattle.sqlite.specs.State.{HasCleanDisk, Survives}
+use Rattle.sqlite.specs.State.{HasCleanDisk}
 use Rattle.sqlite.specs.Held.{Held, state}
 use Rattle.sqlite_trees.specs.View.{doubt}
 use Rattle.sqlite_trees.specs.declared.store.Store.{Ghosts}
@@ -109,4 +109,5 @@ pub record LeavesKnown {S : Type 0} (g : Ghosts S) (old new : Held S) : Type 0 w
   pub same : HasKnownSchema (state g old).now → HasCleanDisk (state g new) → IsTrue (state g new).is_open
       → (state g old).now ≡ (state g old).committed
       → ((state g new).now ≡ (state g old).now) × ((state g new).committed ≡ (state g old).committed)
-  pub crash : HasKnownSchema (state g old).now → Survives (state g old) (state g new) (λ _. ⊥)
+  pub crash : HasKnownSchema (state g old).now → HasCleanDisk (state g new) → (db : Trees) → (state g new).may_leave db
+      → (state g old).may_leave db
