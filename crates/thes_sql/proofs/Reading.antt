@@ -1,6 +1,6 @@
 -- What a SELECT of one table in the order of its rows' numbers shows.
 use Rattle.std.proofs.Common.{arith, ◌≡◌, ℕ, pos, List, [], ◌∷◌, ◌<◌, ◌≤◌, ◌==◌, ◌&&◌, map, filter}
-use Rattle.std.proofs.Common.{flat_map, codes, Bool, true, false, not, cond, refl, sym, ap}
+use Rattle.std.proofs.Common.{inl, inr, flat_map, codes, Bool, true, false, not, cond, refl, sym, ap}
 use Rattle.std.proofs.Common.{◌+◌, subst, ◌∙◌, Less, lit<}
 use Rattle.std.proofs.Math.Bool.{and-true}
 use Rattle.std.specs.List.{AllByRecursion, list_all}
@@ -37,6 +37,9 @@ use Rattle.thes_rows.specs.Cells.{posting_cells, move_cells, meta_cells}
 use Rattle.thes_sql.specs.Schema.{store_schema}
 use Rattle.thes_sql.specs.Stored.{Keeps, Rising, AreKeyed, AreHidden, hidden_row, numbered_from, values, stored_meta}
 use Rattle.thes_sql.specs.Stored.{stored_resource, stored_outside, stored_posting, stored_move}
+use Rattle.thes_sql.specs.Older.{old_schema, HasVersion, stored_version, version_row}
+use Rattle.thes_rows.specs.declared.cells.Cell.TheVariants as cells
+use Rattle.thes_rows.specs.Cells.{number_cell}
 use Rattle.thes_sql.specs.Reads.{rows_of, text_of, keyed_as, numbered_as, standing_at, moves_of}
 use Rattle.thes_sql.specs.Reads.{tree_of, places_of, shown_rows, IsReadable}
 use Rattle.thes_sql.proofs.Texts.{plain_query, whole, same}
@@ -333,3 +336,36 @@ pub moving_shown : (n : ℕ) (old new : State) (t : Tables) (out : List Row) →
 moving_shown n old new t out kept h = reads (λ (row : MoveRow). row.number) stored_move move_cells 10 move_columns
     (Int (pos n) ∷ []) (same (col 1 2) (col 0 0) ∷ []) (λ x. x.posting == n) (λ x. and-true _ ∙ same_ints x.posting n)
     (λ row. refl) moving_text moving_is old new t.move out kept.schema kept.hold.move h
+
+-- The row of meta in a store of this version or of version 1.
+
+abbrev pub meta_text : List ℕ
+meta_text = text_of table.Meta
+
+abbrev version_cells : ℕ × List ℕ → List Cell
+version_cells x = number_cell 1 ∷ number_cell x.0 ∷ cells.Text x.1 ∷ []
+
+pub asks_old_meta : (names : List (List ℕ))
+    × (command_of (understood old_schema meta_text) ≡ Select (whole (in_order 0 [] (columns_of table.Meta))) names)
+    × (reads_listing old_schema meta_text ≡ false) × IsPlain (understood old_schema meta_text)
+unfolding understood everything
+asks_old_meta = (names_of table.Meta, refl, refl, (refl, refl))
+
+version_in_turn : (version : ℕ) (base : List ℕ) (db : Trees) (out : List Row) → db 0 ≡ stored_version version base ∷ []
+    → IsAnswer (in_order 0 [] (columns_of table.Meta)) (overlay db []) [] out → out ≡ version_row version base ∷ []
+version_in_turn version base db out is a = in_turn (λ (x : ℕ × List ℕ). 1) (λ (x : ℕ × List ℕ). stored_version x.0 x.1)
+    version_cells 0 (columns_of table.Meta) [] [] (λ x. true) (λ x. refl) (λ x. refl) db ((version, base) ∷ []) out
+    (record { rises = (lit< tt, tt); rows = is }) a
+
+pub version_shown : (version : ℕ) (base : List ℕ) (old new : State) (out : List Row) → HasVersion version base old.now
+    → Shown meta_text [] old new out → out ≡ version_row version base ∷ []
+version_shown version base old new out (inl has, is) h =
+    let asks = asks_table table.Meta in
+    let read = reads_as meta_text [] old new store_schema has (Select (whole (in_order 0 [] (columns_of table.Meta))) asks.0)
+    asks.1 asks.3 asks.2 out h in
+    version_in_turn version base old.now.trees out is (read.answer Null)
+version_shown version base old new out (inr has, is) h =
+    let asks = asks_old_meta in
+    let read = reads_as meta_text [] old new old_schema has (Select (whole (in_order 0 [] (columns_of table.Meta))) asks.0)
+    asks.1 asks.3 asks.2 out h in
+    version_in_turn version base old.now.trees out is (read.answer Null)

@@ -1,5 +1,9 @@
 -- A store of version 1, and what becomes of it in version 2.
-use Rattle.std.specs.Prelude.{◌≡◌, ◌⊎◌, ◌==◌, ℕ, List, [], ◌∷◌, map, filter, Bool, not}
+use Rattle.std.specs.Prelude.{◌≡◌, ◌≤◌, ◌⊎◌, ◌==◌, ℕ, List, [], ◌∷◌, map, filter, Bool, not, false, IsTrue}
+use Rattle.sqlite.specs.State.{HasCleanDisk}
+use Rattle.sqlite.specs.Held.{Held, state}
+use Rattle.sqlite_trees.specs.View.{doubt}
+use Rattle.sqlite_trees.specs.declared.store.Store.{Ghosts}
 use Rattle.sqlite.specs.Order.{Row}
 use Rattle.sqlite.specs.Tree.{Trees}
 use Rattle.sqlite.specs.Effect.{Database}
@@ -83,3 +87,27 @@ IsRenewed t db = Keeps db (renewed t)
 -- the database has the schema of this version or of version 1
 abbrev pub HasKnownSchema : Database → Type 0
 HasKnownSchema db = (db.schema ≡ store_schema) ⊎ (db.schema ≡ old_schema)
+
+-- and its row of meta has this version and this base
+abbrev pub HasVersion : ℕ → List ℕ → Database → Type 0
+HasVersion version base db = HasKnownSchema db × (db.trees 0 ≡ stored_version version base ∷ [])
+
+-- that row as it is read
+abbrev pub version_row : ℕ → List ℕ → Row
+version_row version base = values (number_cell 1 ∷ number_cell version ∷ Text base ∷ [])
+
+-- A call that was done left a database of a known schema as it was.
+abbrev pub KeepsKnown : {S : Type 0} → Ghosts S → Held S → Held S → Type 0
+KeepsKnown g old new = HasKnownSchema (state g old).now → HasCleanDisk (state g new)
+    → ((state g new).now ≡ (state g old).now) × ((state g new).committed ≡ (state g old).committed)
+
+-- A database of a known schema is left as it is, or as it was committed; and a crash leaves what it left before.
+pub record LeavesKnown {S : Type 0} (g : Ghosts S) (old new : Held S) : Type 0 where
+  pub mode : old.in_transaction ≡ false → new.in_transaction ≡ false
+  pub was : HasCleanDisk (state g new) → IsTrue (state g new).is_open → IsTrue (state g old).is_open
+  pub clean : doubt (state g old).is_clean ≤ doubt (state g new).is_clean
+  pub same : HasKnownSchema (state g old).now → HasCleanDisk (state g new) → IsTrue (state g new).is_open
+      → (state g old).now ≡ (state g old).committed
+      → ((state g new).now ≡ (state g old).now) × ((state g new).committed ≡ (state g old).committed)
+  pub crash : HasKnownSchema (state g old).now → HasCleanDisk (state g new) → (db : Trees) → (state g new).may_leave db
+      → (state g old).may_leave db

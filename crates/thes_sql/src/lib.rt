@@ -6,4 +6,5 @@ pub mod create;
 pub mod migrate;
 pub mod reads;
 mod values;
+pub mod versions;
 mod writes;

@@ -1,11 +1,12 @@
 //! What makes a store of version 1 one of version 2.
-ghost use Rattle.std.specs.Prelude.{◌≡◌, IfOk, IsTrue};
+ghost use Rattle.std.specs.Prelude.{◌≡◌, ◌≤◌, IfOk, IsTrue};
 ghost use Rattle.thes_rows.specs.Tables.{Tables};
 ghost use Rattle.thes_sql.specs.Stored.{Keeps, Hold};
 ghost use Rattle.thes_sql.specs.Older.{KeepsOld, renewed, IsOldStore, IsEnlarged, IsCopied, IsMoved, IsRenewed};
 ghost use Rattle.thes_sql.specs.Does.{TurnsEach, DoesInside, StaysInside, IsOwnTransaction};
 ghost use Rattle.sqlite.specs.State.{HasCleanDisk, Survives};
 ghost use Rattle.sqlite.specs.Held.{state};
+ghost use Rattle.sqlite_trees.specs.View.{doubt};
 
 use crate::create::define_newer;
 use sqlite::{Alter, Connection, Error, Transaction};
@@ -71,6 +72,7 @@ pub fn migrate_tables<S: Alter>(conn: &mut Connection<S>) -> Result<bool, Error>
         → Keeps (state S.Store conn.new).committed (renewed t)
         × Keeps (state S.Store conn.new).now (renewed t)) }
     ensures own { IsOwnTransaction S.Store conn.old conn.new result }
+    ensures clean { doubt (state S.Store conn.old).is_clean ≤ doubt (state S.Store conn.new).is_clean }
     ensures crash { (t : Tables) → KeepsOld (state S.Store conn.old).now t
         → Survives (state S.Store conn.old) (state S.Store conn.new) (λ trees. Hold trees (renewed t)) }
 {
