@@ -1,4 +1,5 @@
 use Rattle.std.proofs.Common.{codes, OnOk, sym, subst}
+use Rattle.sqlite.specs.State.{IsNotRun}
 use Rattle.sqlite.specs.Held.{state}
 use Rattle.thes_sql.specs.Older.{KeepsKnown}
 use Rattle.thes_sql.proofs.Leaving.{prepared_leaves, prepared_keeps, refused_keeps, each_so}
@@ -14,7 +15,8 @@ returns-clause-kept g c =
       | in-Ok w ↦ subst (λ r. OnOk r (KeepsKnown g.S.Store old new)) (sym w.result-is)
           (prepared_keeps g.S.Store text old new (λ clean. (w.in-Ok.ensures.ok clean).1))
       | in-Err-SqlInputError w ↦ subst (λ r. OnOk r (KeepsKnown g.S.Store old new)) (sym w.result-is)
-          (refused_keeps g.S.Store text old new w.in-Err-SqlInputError.field-0 (λ clean. w.in-Err-SqlInputError.ensures.err clean))
+          (refused_keeps g.S.Store text old new w.in-Err-SqlInputError.field-0-0 (λ clean params. subst (IsNotRun (state g.S.Store old)
+          (state g.S.Store new) text params) w.in-Err-SqlInputError.field-0-is (w.in-Err-SqlInputError.ensures.err clean params)))
       | in-Err w ↦ subst (λ r. OnOk r (KeepsKnown g.S.Store old new)) (sym w.result-is) tt
     ]
 
