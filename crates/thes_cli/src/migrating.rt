@@ -18,7 +18,8 @@ use thes_sqlite::migrating::migrate;
 pub fn tell_version<W: Write, E: Write>(output: &mut Pipe<W>, errors: &mut Pipe<E>) -> u8
     requires output { IsFresh output.old }
     requires errors { IsFresh errors.old }
-    ensures { PrintsText W.contents E.contents output.old output.new errors.old errors.new version_line result }
+    ensures { PrintsText W.contents E.contents output.old output.new errors.old errors.new
+        version_line result }
 {
     print_out(output, errors, "version 2\n".as_bytes())
 }
@@ -35,8 +36,8 @@ pub fn migrate_in_database<S: Alter, W: Write, E: Write>(
     requires idle { conn.in_transaction ≡ false }
     requires output { IsFresh output.old }
     requires errors { IsFresh errors.old }
-    ensures { MigratesDatabase W.contents E.contents output.old output.new errors.old errors.new S.Store
-        file.now conn result.0 result.1 }
+    ensures { MigratesDatabase W.contents E.contents output.old output.new errors.old errors.new
+        S.Store file.now conn result.0 result.1 }
 {
     match migrate(alloc, &mut conn) {
         Ok(_) => (tell_version(output, errors), conn),
@@ -56,8 +57,8 @@ pub fn make_in_new_database<S: Alter, W: Write, E: Write>(
     requires idle { conn.in_transaction ≡ false }
     requires output { IsFresh output.old }
     requires errors { IsFresh errors.old }
-    ensures { MakesDatabase W.contents E.contents output.old output.new errors.old errors.new S.Store
-        file.now base.now conn result.0 result.1 }
+    ensures { MakesDatabase W.contents E.contents output.old output.new errors.old errors.new
+        S.Store file.now base.now conn result.0 result.1 }
 {
     match create_tables(&mut conn, base) {
         Ok(_) => (tell_version(output, errors), conn),
