@@ -22,7 +22,7 @@ module _ {W E : Type 0} (out : W → Option (List ℕ)) (err : E → Option (Lis
     (output output' : Pipe W) (errors errors' : Pipe E) where
   -- Why there is no store of this version is told with the file.
   pub record TellsUnmigrated (file : List ℕ) (fault : Fault) (status : ℕ) : Type 0 where
-    pub output : output' ≡ output
+    pub silent : output' ≡ output
     pub tells : TellsOf err errors errors' file (pipe.Fault fault)
     pub status_is : status ≡ 3
 

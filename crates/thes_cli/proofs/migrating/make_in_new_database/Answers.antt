@@ -10,5 +10,5 @@ returns-in-Ok g c = inl record {
 pub returns-in-Err : goal.returns-in-Err
 returns-in-Err g c = inr (
   c.fault_of.result,
-  record { output = refl; tells = c.tell_of.ensures.told; status_is = c.tell_of.ensures.status },
+  record { silent = refl; tells = c.tell_of.ensures.told; status_is = c.tell_of.ensures.status },
 )

@@ -12,5 +12,5 @@ pub returns-in-Err : goal.returns-in-Err
 returns-in-Err g c = record {
   result = Err c.in-Err.fault;
   migrates = c.in-Err.ensures;
-  told = record { output = refl; tells = c.tell_of.ensures.told; status_is = c.tell_of.ensures.status };
+  told = record { silent = refl; tells = c.tell_of.ensures.told; status_is = c.tell_of.ensures.status };
 }
