@@ -7,7 +7,8 @@ ghost use Rattle.sqlite.specs.Held.{state};
 
 use crate::faults::fault_of;
 use crate::found::cells_found;
-use sqlite::{Alter, Connection, Error, ErrorCode, Row};
+use sqlite::{Alter, Connection, Error, Row};
+use sqlite_resolve::CompileError;
 use std::alloc::Global;
 use thes_base::fault::{Fault, Table};
 use thes_load::meta::{MetaRow, meta_in};
@@ -65,7 +66,7 @@ fn stopped(error: Error) -> Fault
     ensures { IsMigrateFault result }
 {
     match error {
-        Error::SqliteFailure(ErrorCode::NameTaken) => Fault::BadStore(Table::Hier),
+        Error::SqlInputError(CompileError::Exists) => Fault::BadStore(Table::Hier),
         error => fault_of(error),
     }
 }
