@@ -1,7 +1,7 @@
 //! A posting file that is performed over a store.
 ghost use Rattle.std.specs.Prelude.{Ok};
 ghost use Rattle.thes_base.specs.Pipe.{IsFresh};
-ghost use Rattle.thes_cli.specs.Importing.{EndsImport, Imports, ImportsStore};
+ghost use Rattle.thes_cli.specs.Importing.{EndsImport, Imports, ImportsStore, TellsCounts};
 
 use crate::ending::{counts_line, form_line, print_error, tell};
 use std::alloc::Global;
@@ -9,6 +9,7 @@ use std::io::{Read, Write};
 use thes_base::fault::FormFault;
 use thes_base::pipe::Pipe;
 use thes_importer::import::{Ended, Stopped, import};
+use thes_importer::report::Counts;
 use thes_office::Office;
 use thes_store::keeper::Keeper;
 
@@ -27,6 +28,16 @@ fn import_rows<K: Keeper, F: Read, W: Write>(
     import(alloc, file, output, office)
 }
 
+// Tells how many rows were new, again and refused, where that is wanted.
+fn tell_counts<E: Write>(errors: &mut Pipe<E>, tells: bool, counts: Counts)
+    requires { IsFresh errors.old }
+    ensures { TellsCounts E.contents tells errors.old errors.new counts }
+{
+    if tells {
+        print_error(errors, counts_line(counts).as_str().as_bytes());
+    }
+}
+
 // Tells whether all rows were performed, and returns the status.
 fn tell_done<E: Write>(errors: &mut Pipe<E>, tells: bool, ended: Ended) -> u8
     requires { IsFresh errors.old }
@@ -34,9 +45,7 @@ fn tell_done<E: Write>(errors: &mut Pipe<E>, tells: bool, ended: Ended) -> u8
 {
     match ended {
         Ended::Rows(counts) => {
-            if tells {
-                print_error(errors, counts_line(counts).as_str().as_bytes());
-            }
+            tell_counts(errors, tells, counts);
             u8::from(counts.refused > 0)
         }
         Ended::Malformed => {

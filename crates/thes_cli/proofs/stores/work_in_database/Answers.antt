@@ -1,4 +1,4 @@
-use Rattle.std.proofs.Common.{subst}
+use Rattle.std.proofs.Common.{◌∙◌, ap, subst}
 use Rattle.thes_sqlite.specs.Kept.{Kept, raw_of_keeper, IsServing}
 use Rattle.std.specs.Prelude.{Some}
 use Rattle.thes_cli.specs.Streams.{streams}
@@ -11,6 +11,6 @@ returns g c = record {
   works = subst (λ (k : Kept _).
       Works (raw_of_keeper g.S.Store) (IsServing g.S.Store) (λ k. k.failures) g.F.Read.remaining g.R.Read.remaining g.W.Write.contents g.E.Write.contents c.args.task (Some c.args.file.now) k
       (streams c.args.input.now c.args.output.now c.args.errors.now) c.work_over-status.result.0 c.work_over-status.result.1 (streams c.work_over-status.new.input c.work_over-status.new.output c.work_over-status.new.errors))
-      c.adopt-keeper.ensures.is c.work_over-status.ensures;
-  kept = c.into_connection.ensures;
+      (c.new-keeper.ensures ∙ c.adopt.ensures.is) c.work_over-status.ensures;
+  kept = c.into_connection.ensures ∙ ap (λ (k : Kept _). k.conn) c.into_keeper.ensures;
 }

@@ -1,4 +1,4 @@
-use Rattle.std.proofs.Common.{None, subst}
+use Rattle.std.proofs.Common.{◌∙◌, None, subst}
 use Rattle.thes_base.specs.Forms.{IsBase}
 use Rattle.thes_rows.specs.Cells.{listed}
 use Rattle.thes_rows.specs.Tables.{Tables}
@@ -15,4 +15,4 @@ returns g c =
     (subst IsBase c.as_str.ensures.text c.as_str.ensures.form)
     (subst (λ (t : Tables).
     Works listed (λ k. Unit {0}) (λ k. 0) g.F.Read.remaining g.R.Read.remaining g.W.Write.contents g.E.Write.contents c.args.task None t old c.work_over-status.result.0 c.work_over-status.result.1 new)
-    c.new-keeper.ensures c.work_over-status.ensures)
+    (c.new-keeper.ensures ∙ c.new.ensures) c.work_over-status.ensures)
