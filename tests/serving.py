@@ -17,9 +17,9 @@ class Served:
     def __init__(self, program, port):
         self.program, self.port = program, port
 
-    def answer(self, *parts, closes=True):
+    def answer(self, *parts, closes=True, patience=60):
         """Sends bytes, as one or in parts, and returns all that is answered; the connection's end is told unless it isn't to be."""
-        with socket.create_connection(("127.0.0.1", self.port), timeout=60) as client:
+        with socket.create_connection(("127.0.0.1", self.port), timeout=patience) as client:
             with contextlib.suppress(ConnectionResetError, BrokenPipeError):
                 for part in parts:
                     client.sendall(part)

@@ -36,12 +36,13 @@ serve =
     with_rule (with_rule (command (codes "serve")) (wanted (number (codes "port") 65535)))
     (number (codes "count") 4294967295)
 
--- the program has two options, and wants a command
+-- the program has two options and a version, and wants a command
 abbrev pub options : App
 options =
     with_rule
     (with_rule
-    (on_top (λ s. record s { disable_help_subcommand = true; subcommand_required = true }) (new_app (codes "thesaurus")))
+    (on_top (λ s. record s { disable_help_subcommand = true; subcommand_required = true; has_version = true })
+    (new_app (codes "thesaurus")))
     (option (codes "db")))
     (option (codes "base"))
 

@@ -8,6 +8,8 @@ use clap::builder::ValueParser;
 use clap::{Arg, Command};
 use std::alloc::{AllocError, Global};
 
+const VERSION: &str = "0.1";
+
 const ABOUT: &str = "Maintains thesauri and the postings of catalogue records to their concepts.";
 
 const DB: &str =
@@ -173,6 +175,7 @@ fn options<'a>(alloc: Global) -> Result<Command<'a>, AllocError>
 {
     Command::new(alloc, "thesaurus")
         .bin_name("thesaurus")?
+        .version(VERSION)
         .about(ABOUT)
         .after_help(EXAMPLE)
         .disable_help_subcommand(true)

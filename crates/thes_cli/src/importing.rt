@@ -34,7 +34,8 @@ fn tell_counts<E: Write>(errors: &mut Pipe<E>, tells: bool, counts: Counts)
     ensures { TellsCounts E.contents tells errors.old errors.new counts }
 {
     if tells {
-        print_error(errors, counts_line(counts).as_str().as_bytes());
+        let line = counts_line(counts);
+        print_error(errors, line.as_str().as_bytes());
     }
 }
 

@@ -68,7 +68,7 @@ pub struct Job {
 /// Why the words of the command line ask for nothing to be done.
 #[derive(Debug, Drop)]
 pub enum Parting {
-    /// Help was asked for. This is its text.
+    /// Help, or the version, was asked for. This is its text.
     Help(String),
     /// The words are no command. This says why.
     Usage(String),
