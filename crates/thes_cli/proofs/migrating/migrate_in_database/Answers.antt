@@ -3,7 +3,7 @@ use Rattle.thes_cli.proofs.migrating.migrate_in_database.Goals as goal
 
 pub returns-in-Ok : goal.returns-in-Ok
 returns-in-Ok g c = record {
-  result = Ok 2;
+  result = Ok _;
   migrates = c.in-Ok.ensures;
   told = c.tell_version.ensures;
 }
