@@ -16,7 +16,7 @@ use Rattle.clap.proofs.ValueTestLemmas.{accepts-Accepts}
 use Rattle.thes_http.specs.declared.service.Display.{Display}
 use Rattle.thes_http.specs.declared.service.Display.TheVariants.{Alphabetical, Hierarchical}
 use Rattle.thes_cli.specs.Commands.{program}
-use Rattle.thes_cli.specs.CommandLine.{Completes, HasCommand, display_name, script, import, export, display, serve, check}
+use Rattle.thes_cli.specs.CommandLine.{Completes, HasCommand, display_name, script, import, export, display, serve, check, migrate}
 use Rattle.thes_cli.proofs.ReadingLemmas.{if_some_of, some_and}
 use Rattle.thes_cli.proofs.WalkedLemmas.{AllFit, Found, both_false, both_none, found_given, found_or_none, level_fit, not_false, wanted_given}
 
@@ -115,7 +115,7 @@ commands_complete = (
     import_completes,
     (
       λ words none. export refl,
-      (display_completes Alphabetical, (display_completes Hierarchical, (serve_completes, (λ words none. check refl, tt)))),
+      (display_completes Alphabetical, (display_completes Hierarchical, (serve_completes, (λ words none. check refl, (λ words none. migrate refl, tt))))),
     ),
   ),
 )

@@ -18,7 +18,7 @@ use Rattle.thes_cli.specs.declared.words.Job.{Job}
 use Rattle.thes_cli.specs.declared.words.Serving.{Serving}
 use Rattle.thes_cli.specs.declared.words.Shown.{Shown}
 use Rattle.thes_cli.specs.declared.words.Task.{Task}
-use Rattle.thes_cli.specs.declared.words.Task.TheVariants.{Script, Import, Export, Display, Serve, Check}
+use Rattle.thes_cli.specs.declared.words.Task.TheVariants.{Script, Import, Export, Display, Serve, Check, Migrate}
 
 -- ---- what the options before the command tell
 
@@ -43,6 +43,7 @@ command_of Export = codes "export"
 command_of (Display shown) = display_name shown.display
 command_of (Serve serving) = codes "serve"
 command_of Check = codes "check"
+command_of Migrate = codes "migrate"
 
 -- the number that digits spell, with a plus before them or without one
 abbrev pub number_of : Text → ℕ
@@ -76,6 +77,7 @@ Tells words Export = Unit {0}
 Tells words (Display shown) = IsShown words shown
 Tells words (Serve serving) = IsServing words serving
 Tells words Check = Unit {0}
+Tells words Migrate = Unit {0}
 
 -- The fault of the first option of a display whose value has no form.
 abbrev pub LacksForm : List Row → FormFault → Type 0
@@ -164,6 +166,7 @@ pub data Completes (name : Text) (words : List Row) : Type 0 where
   display : (display : displays.Display) → name ≡ display_name display → HasOptions words → Completes name words
   serve : name ≡ codes "serve" → HasPort words → Completes name words
   check : name ≡ codes "check" → Completes name words
+  migrate : name ≡ codes "migrate" → Completes name words
 
 abbrev pub HasCommand : Option (Text × List Row) → Type 0
 HasCommand command = IsSomeAnd command (λ c. Completes c.0 c.1)

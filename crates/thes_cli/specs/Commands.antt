@@ -49,7 +49,7 @@ options =
 abbrev pub commands : List App
 commands =
     command (codes "script") ∷ import ∷ command (codes "export") ∷ display (codes "alphabetical")
-    ∷ display (codes "hierarchical") ∷ serve ∷ command (codes "check") ∷ []
+    ∷ display (codes "hierarchical") ∷ serve ∷ command (codes "check") ∷ command (codes "migrate") ∷ []
 
 abbrev pub program : App
 program = fold (λ app (c : App). with_subcommand app c.top) options commands

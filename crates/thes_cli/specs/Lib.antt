@@ -10,5 +10,6 @@ pub mod Exporting
 pub mod Displaying
 pub mod Importing
 pub mod Serving
+pub mod Migrating
 pub mod Work
 pub mod Stores

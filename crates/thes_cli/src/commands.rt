@@ -43,6 +43,8 @@ const COUNT: &str = "How many connections to serve before the program ends [defa
 
 const CHECK: &str = "Reads the whole store, and prints how much it holds";
 
+const MIGRATE: &str = "Makes a store of version 1 one of version 2, and prints the version";
+
 const EXAMPLE: &str = "\
 An example. Each line of the script is a request, and gets one line as its answer. The store is kept in
 museum.db, which is made where it isn't there yet:
@@ -195,5 +197,6 @@ pub fn program<'a>(alloc: Global) -> Result<Command<'a>, AllocError>
         .subcommand(display(alloc, "alphabetical", ALPHABETICAL)?)?
         .subcommand(display(alloc, "hierarchical", HIERARCHICAL)?)?
         .subcommand(serve(alloc)?)?
-        .subcommand(command(alloc, "check", CHECK))
+        .subcommand(command(alloc, "check", CHECK))?
+        .subcommand(command(alloc, "migrate", MIGRATE))
 }

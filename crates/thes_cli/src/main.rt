@@ -7,6 +7,7 @@ mod displaying;
 mod ending;
 mod exporting;
 mod importing;
+mod migrating;
 mod parting;
 mod screen;
 mod scripting;
@@ -18,6 +19,7 @@ mod work;
 ghost use Rattle.thes_base.specs.Pipe.{IsFresh};
 
 use ending::{tell, tell_net, tell_of};
+use migrating::{make_in_new_database, migrate_in_database, tell_version};
 use parting::part;
 use screen::Screen;
 use serving::Listening;
@@ -109,19 +111,25 @@ fn screen_of<'a>(rt: &'a HostRuntime, task: &Task) -> Option<Screen<'a, HostRunt
     }
 }
 
-// What a task is over a store, with the file or the socket that it names opened.
-fn opened(rt: &HostRuntime, task: Task, tells: bool) -> Result<Work<File, TcpListener>, Unopened> {
-    match task {
-        Task::Script => Ok(Work::Script),
-        Task::Check => Ok(Work::Check),
-        Task::Export => Ok(Work::Export),
-        Task::Display(shown) => Ok(Work::Display(shown)),
+// What a task is over a store, with the file or the socket that it names opened. None for one that loads no store.
+fn opened(
+    rt: &HostRuntime,
+    task: Task,
+    tells: bool,
+) -> Result<Option<Work<File, TcpListener>>, Unopened> {
+    let work = match task {
+        Task::Script => Work::Script,
+        Task::Check => Work::Check,
+        Task::Export => Work::Export,
+        Task::Display(shown) => Work::Display(shown),
         Task::Import(file) => match File::open(rt, file.as_str()) {
-            Ok(file) => Ok(Work::Import(file, tells)),
-            Err(_) => Err(Unopened::File),
+            Ok(file) => Work::Import(file, tells),
+            Err(_) => return Err(Unopened::File),
         },
-        Task::Serve(serving) => Ok(Work::Serve(listening(rt, serving)?)),
-    }
+        Task::Serve(serving) => Work::Serve(listening(rt, serving)?),
+        Task::Migrate => return Ok(None),
+    };
+    Ok(Some(work))
 }
 
 // Works over the store in a file. Where the file is absent or empty the store is made.
@@ -152,13 +160,15 @@ fn work_in_file<R: Read, W: Write, E: Write>(
         Ok(task) => task,
         Err(unopened) => return tell_unopened(errors, unopened),
     };
-    let (status, conn) = match opening {
-        Opening::Make => work_in_new_database::<HostRuntime, _, _, _, _, _, _>(
+    let (status, conn) = match (opening, task) {
+        (Opening::Make, Some(task)) => work_in_new_database::<HostRuntime, _, _, _, _, _, _>(
             alloc, task, screen, file, conn, base, input, output, errors,
         ),
-        Opening::Adopt => work_in_database::<HostRuntime, _, _, _, _, _, _>(
+        (Opening::Adopt, Some(task)) => work_in_database::<HostRuntime, _, _, _, _, _, _>(
             alloc, task, screen, file, conn, input, output, errors,
         ),
+        (Opening::Make, None) => make_in_new_database(alloc, file, conn, base, output, errors),
+        (Opening::Adopt, None) => migrate_in_database(alloc, file, conn, output, errors),
     };
     // What was answered stands in the log; where it can't be copied now, the next program does that.
     let _ = conn.close();
@@ -183,7 +193,7 @@ fn perform<R: Read, W: Write, E: Write>(
     }
     let screen = screen_of(rt, &task);
     match opened(rt, task, screen.is_some()) {
-        Ok(task) => work_in_memory::<HostRuntime, _, _, _, _, _>(
+        Ok(Some(task)) => work_in_memory::<HostRuntime, _, _, _, _, _>(
             rt.alloc(),
             task,
             screen,
@@ -192,6 +202,8 @@ fn perform<R: Read, W: Write, E: Write>(
             output,
             errors,
         ),
+        // A new store in memory has this version.
+        Ok(None) => tell_version(output, errors),
         Err(unopened) => tell_unopened(errors, unopened),
     }
 }

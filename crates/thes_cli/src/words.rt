@@ -53,6 +53,8 @@ pub enum Task {
     Serve(Serving),
     /// Reads all of it, and tells how much it holds.
     Check,
+    /// Makes it one of this version, where it is older.
+    Migrate,
 }
 
 /// What the words of the command line ask for.
@@ -220,8 +222,10 @@ fn task_asked(alloc: Global, name: &str, words: &ArgMatches<'_>) -> Result<Task,
         display_asked(alloc, Display::Hierarchical, words)
     } else if name == "serve" {
         Ok(Task::Serve(serving_asked(words)))
-    } else {
+    } else if name == "check" {
         Ok(Task::Check)
+    } else {
+        Ok(Task::Migrate)
     }
 }
 

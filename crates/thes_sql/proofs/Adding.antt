@@ -239,7 +239,7 @@ adds_outside old new t row count kept least below spelled h =
     kept.schema kept.hold.outside least (λ y k. below y (in_has t.outside y k)) h)
     (all_push IsSpelledOutside t.outside row kept.hold.spelled.1.0 spelled)
 
-pub cast_posting : (p : PostingRow) → cast_row (record posting { tree = 10 }) (stored_posting p) ≡ stored_posting p
+pub cast_posting : (p : PostingRow) → cast_row (record posting { tree = 8 }) (stored_posting p) ≡ stored_posting p
 cast_posting p = rw (
   cast_null,
   cast_int (pos p.number),
@@ -254,7 +254,7 @@ pub adds_posting : (old new : State) (t : Tables) (p : PostingRow) (count : ℕ)
     → Keeps new.now (record t { posting = t.posting ++ p ∷ [] })
 adds_posting old new t p count kept next spelled h =
     keeps_posting old new t kept (t.posting ++ p ∷ [])
-    (adds_keyed (λ (row : PostingRow). row.number) stored_posting (λ row. refl) 6 (record posting { tree = 10 })
+    (adds_keyed (λ (row : PostingRow). row.number) stored_posting (λ row. refl) 5 (record posting { tree = 8 })
     text.add_posting_text text.add_posting_terms 7 (values (posting_cells p)) p refl refl (λ olds news. refl)
     text.add_posting_is refl (λ rows. ap (with_rowid Chosen rows) (cast_posting p)) old new t.posting count
     kept.schema kept.hold.posting (omega (arith, next))
@@ -262,7 +262,7 @@ adds_posting old new t p count kept next spelled h =
     (postings_push 1 t.posting p kept.hold.numbered (omega (arith, next)))
     (all_push IsSpelledPosting t.posting p kept.hold.spelled.1.1.1 spelled)
 
-cast_move : (m : MoveRow) → cast_row (record move { tree = 12 }) (stored_move m) ≡ stored_move m
+cast_move : (m : MoveRow) → cast_row (record move { tree = 10 }) (stored_move m) ≡ stored_move m
 cast_move m = rw (
   cast_null,
   cast_int (pos m.number),
@@ -277,7 +277,7 @@ pub adds_move : (old new : State) (t : Tables) (m : MoveRow) (count : ℕ) → K
     → Keeps new.now (record t { move = t.move ++ m ∷ [] })
 adds_move old new t m count kept least below h =
     keeps_move old new t kept (t.move ++ m ∷ [])
-    (adds_keyed (λ (row : MoveRow). row.number) stored_move (λ row. refl) 7 (record move { tree = 12 })
+    (adds_keyed (λ (row : MoveRow). row.number) stored_move (λ row. refl) 6 (record move { tree = 10 })
     text.add_move_text text.add_move_terms 5 (values (move_cells m)) m refl refl (λ olds news. refl)
     text.add_move_is refl (λ rows. ap (with_rowid Chosen rows) (cast_move m)) old new t.move count kept.schema
     kept.hold.move least (λ y k. below y (in_has t.move y k)) h)
@@ -307,7 +307,7 @@ pub adds_hier : (old new : State) (t : Tables) (row : HierRow) (count : ℕ) →
     → Executes text.add_hier_text (hier_values row) old new (Ok count)
     → Keeps new.now (record t { hier = t.hier ++ row ∷ [] })
 adds_hier old new t row count kept h = keeps_hier old new t kept (t.hier ++ row ∷ [])
-    (adds_hidden hier_values 5 (record hier { tree = 8 }) text.add_hier_text text.add_hier_terms 4 row refl refl
+    (adds_hidden hier_values 7 (record hier { tree = 11 }) text.add_hier_text text.add_hier_terms 4 row refl refl
     (λ olds news. refl) text.add_hier_is refl
     (λ rows. rw (cast_null, cast_int (pos row.a), cast_int (pos row.b), cast_int (pos (hier_type_no row.typ))) refl)
     old new t.hier count kept.schema kept.hold.hier h)

@@ -119,18 +119,18 @@ makes_replaced n by old new t count kept fits h = marks_dead text.replace_text (
 -- Postings.
 
 turns : (sql : List ℕ) (params : Row) (filters project : List Term)
-    (is : Means sql (Update 6 (whole (plain_query 10 filters project []))))
+    (is : Means sql (Update 5 (whole (plain_query 8 filters project []))))
     (p : PostingRow → Bool) (test : (x : PostingRow) → list_all
     (holds (params ∷ stored_posting x ∷ [])) filters ≡ p x)
     (f : PostingRow → PostingRow) (keeps : (x : PostingRow) → (f x).number ≡ x.number)
     (told : (x : PostingRow) → IsSpelledPosting x → IsSpelledPosting (f x))
-    → ((x : PostingRow) → output (plain_query 10 filters project [])
+    → ((x : PostingRow) → output (plain_query 8 filters project [])
     (params ∷ stored_posting x ∷ []) ≡ ([], Int (pos x.number) ∷ stored_posting (f x)))
     → (old new : State) (t : Tables) (count : ℕ) → Keeps old.now t → Executes sql params old new (Ok count)
     → Keeps new.now (record t { posting = map (λ x. if p x then f x else x) t.posting })
 turns sql params filters project is p test f keeps told shows old new t count kept h =
     keeps_posting old new t kept (map (λ x. if p x then f x else x) t.posting)
-    (updates (λ (x : PostingRow). x.number) stored_posting (λ x. refl) 6 (record posting { tree = 10 }) refl
+    (updates (λ (x : PostingRow). x.number) stored_posting (λ x. refl) 5 (record posting { tree = 8 }) refl
     (λ olds news. refl) sql params filters p test project is f keeps shows
     (λ x. cast_posting (f x)) old new t.posting count kept.schema kept.hold.posting h)
     (still_numbered f p keeps 1 t.posting kept.hold.numbered)
@@ -191,6 +191,6 @@ makes_link_gone l old new t count kept fits h = keeps_link old new t kept (witho
 
 pub makes_hier_gone : (l : HierRow) → Makes text.drop_hier_text (hier_values l) (change.DropHier l)
 makes_hier_gone l old new t count kept fits h = keeps_hier old new t kept (without_hier l t.hier)
-    (drops hier_values 5 (record hier { tree = 8 }) refl (λ olds news. refl) text.drop_hier_text l
+    (drops hier_values 7 (record hier { tree = 11 }) refl (λ olds news. refl) text.drop_hier_text l
     text.drop_hier_query.filter (λ x. eq_by_cmp link_cmp (hier_link x) (hier_link l)) (by_hier l) text.drop_hier_is
     old new t.hier count kept.schema kept.hold.hier h)

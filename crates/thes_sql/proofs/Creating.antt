@@ -18,7 +18,7 @@ use Rattle.thes_sql.proofs.Texts as text
 use Rattle.thes_sql.proofs.Writing.{cast_int, cast_null}
 use Rattle.thes_sql.proofs.Adding.{puts}
 
-cast_meta : (base : List ℕ) → cast_row meta (stored_meta base) ≡ stored_meta base
+pub cast_meta : (base : List ℕ) → cast_row meta (stored_meta base) ≡ stored_meta base
 cast_meta base = rw (cast_null, cast_int (pos 1), cast_int (pos 2)) refl
 
 no_keyed : {A : Type 0} (stored : A → Row) (num : A → ℕ) (tree : List Row) → tree ≡ [] → AreKeyed stored num [] tree
@@ -42,11 +42,11 @@ adds_meta base spelled old new count empty h =
         outside = no_keyed _ _ _ (w.others.1.1.0 (λ q. omega (arith, q)) ∙ e.1.1.0);
         label = no_hidden _ _ (w.others.1.1.1.0 (λ q. omega (arith, q)) ∙ e.1.1.1.0);
         link = no_hidden _ _ (w.others.1.1.1.1.0 (λ q. omega (arith, q)) ∙ e.1.1.1.1.0);
-        hier = no_hidden _ _ (w.others.1.1.1.1.1.0 (λ q. omega (arith, q)) ∙ e.1.1.1.1.1.0);
-        posting = no_keyed _ _ _ (w.others.1.1.1.1.1.1.0 (λ q. omega (arith, q)) ∙ e.1.1.1.1.1.1.0);
+        hier = no_hidden _ _ (w.others.1.1.1.1.1.1.1.0 (λ q. omega (arith, q)) ∙ e.1.1.1.1.1.1.1.0);
+        posting = no_keyed _ _ _ (w.others.1.1.1.1.1.0 (λ q. omega (arith, q)) ∙ e.1.1.1.1.1.0);
         numbered = tt;
         spelled = (spelled, (tt, (tt, tt)));
-        move = no_keyed _ _ _ (w.others.1.1.1.1.1.1.1.0 (λ q. omega (arith, q)) ∙ e.1.1.1.1.1.1.1.0);
+        move = no_keyed _ _ _ (w.others.1.1.1.1.1.1.0 (λ q. omega (arith, q)) ∙ e.1.1.1.1.1.1.0);
       };
     }
 

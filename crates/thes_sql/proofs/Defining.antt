@@ -28,7 +28,11 @@ use Rattle.sqlite_trees.proofs.ListLemmas.{all-append}
 use Rattle.thes_sql.specs.Schema.{meta, resource, outside, label, link, hier, posting, move, posting_at, move_posting}
 use Rattle.thes_sql.specs.Schema.{schema_0, schema_1, schema_2, schema_3, schema_4, schema_5, schema_6, schema_7}
 use Rattle.thes_sql.specs.Schema.{schema_8, schema_9, store_schema}
-use Rattle.thes_sql.specs.Does.{IsEmpty, Turns}
+use Rattle.thes_rows.specs.Tables.{Tables}
+use Rattle.thes_sql.specs.Stored.{HoldResources, HoldOutside, HoldPostings, HoldMoves, AreHidden, label_values}
+use Rattle.thes_sql.specs.Stored.{link_values}
+use Rattle.thes_sql.specs.Older.{old_schema, KeepsOld, KeepsAs, IsOldStore, IsEnlarged}
+use Rattle.thes_sql.specs.Does.{IsEmpty, Turns, TurnsEach}
 use Rattle.thes_sql.proofs.Writing.{went, same_value}
 
 -- in this schema the text makes the table
@@ -87,7 +91,7 @@ abbrev create_hier_text : List ℕ
 create_hier_text =
     codes "CREATE TABLE hier (a INTEGER NOT NULL, b INTEGER NOT NULL, typ INTEGER NOT NULL, PRIMARY KEY (a, b, typ)) STRICT;"
 
-create_hier_is : MakesTable schema_5 create_hier_text hier
+create_hier_is : MakesTable schema_7 create_hier_text hier
 unfolding understood everything
 create_hier_is = (refl, refl, (refl, refl))
 
@@ -95,7 +99,7 @@ abbrev create_posting_text : List ℕ
 create_posting_text =
     codes "CREATE TABLE posting (num INTEGER PRIMARY KEY, pkey TEXT NOT NULL UNIQUE, record TEXT NOT NULL, first_at INTEGER NOT NULL, at INTEGER NOT NULL, withdrawn INTEGER NOT NULL) STRICT;"
 
-create_posting_is : MakesTable schema_6 create_posting_text posting
+create_posting_is : MakesTable schema_5 create_posting_text posting
 unfolding understood everything
 create_posting_is = (refl, refl, (refl, refl))
 
@@ -103,21 +107,21 @@ abbrev create_move_text : List ℕ
 create_move_text =
     codes "CREATE TABLE move (num INTEGER PRIMARY KEY, posting INTEGER NOT NULL, source INTEGER NOT NULL, target INTEGER NOT NULL) STRICT;"
 
-create_move_is : MakesTable schema_7 create_move_text move
+create_move_is : MakesTable schema_6 create_move_text move
 unfolding understood everything
 create_move_is = (refl, refl, (refl, refl))
 
 abbrev index_posting_at_text : List ℕ
-index_posting_at_text = codes "CREATE INDEX posting_at ON posting (at);"
+index_posting_at_text = codes "CREATE INDEX IF NOT EXISTS posting_at ON posting (at);"
 
-index_posting_at_is : AddsIndex schema_8 index_posting_at_text 6 (record posting { tree = 10 }) posting_at
+index_posting_at_is : AddsIndex schema_8 index_posting_at_text 5 (record posting { tree = 8 }) posting_at
 unfolding understood everything
 index_posting_at_is = (refl, refl, (refl, refl))
 
 abbrev index_move_posting_text : List ℕ
-index_move_posting_text = codes "CREATE INDEX move_posting ON move (posting);"
+index_move_posting_text = codes "CREATE INDEX IF NOT EXISTS move_posting ON move (posting);"
 
-index_move_posting_is : AddsIndex schema_9 index_move_posting_text 7 (record move { tree = 12 }) move_posting
+index_move_posting_is : AddsIndex schema_9 index_move_posting_text 6 (record move { tree = 10 }) move_posting
 unfolding understood everything
 index_move_posting_is = (refl, refl, (refl, refl))
 
@@ -135,6 +139,50 @@ ran_as text old new from has command unasked is plain count h =
     subst₂ (λ k t. Runs old new None k t [] count) same (ap (statement_of text) known)
     (rw (bare.0, bare.1) at (rw hidden at h.2))
 
+-- a table is made in a schema: the rows of the others stay, and it has none
+made_table : (from : Schema) (text : List ℕ) (table : Table) → MakesTable from text table
+    → lacks_sequence (created from table) ≡ false
+    → (old new : State) (count : ℕ) → old.now.schema ≡ from → ExecutesIn true text [] old new (Ok count)
+    → (new.now.schema ≡ created from table) × KeepsRows from.tables old.now.trees new.now.trees
+    × (new.now.trees (next_tree from) ≡ [])
+made_table from text table is uncounted old new count has h =
+    let w = ran_as text old new from has CreateTable refl is.0 is.2 count h in
+    let all = went w.changed in
+    let first = went all.1 in
+    let made = first.1 in
+    let same : made.table ≡ table = same_value (sym made.defined ∙ is.1) in
+    let schema : first.0.schema ≡ created from table = made.is ∙ ap (λ s. created s made.table) has
+    ∙ ap (created from) same in
+    let plain : lacks_sequence first.0.schema ≡ false = ap lacks_sequence schema ∙ uncounted in
+    let now : new.now ≡ first.0 = ap (λ (p : Tally × Database). p.1) (same_value all.2)
+    ∙ same_value (rw plain at first.2) in
+    let kept : KeepsRows from.tables old.now.trees first.0.trees =
+    subst (λ s. KeepsRows s.tables old.now.trees first.0.trees) has made.others in
+    let last : first.0.trees (next_tree from) ≡ [] = subst (λ s. first.0.trees (next_tree s) ≡ []) has made.empty in
+    subst (λ (d : Database). (d.schema ≡ created from table) × KeepsRows from.tables old.now.trees d.trees
+    × (d.trees (next_tree from) ≡ [])) (sym now) (schema, kept, last)
+
+-- an index is made in a schema: the rows stay
+made_index : (from : Schema) (text : List ℕ) (at : ℕ) (table : Table) (index : Index)
+    → AddsIndex from text at table index → slice_get from.tables at ≡ Some table
+    → (old new : State) (count : ℕ) → old.now.schema ≡ from → ExecutesIn true text [] old new (Ok count)
+    → (new.now.schema ≡ indexed from table index) × KeepsRows from.tables old.now.trees new.now.trees
+made_index from text at table index is is_at old new count has h =
+    let w = ran_as text old new from has (CreateIndex at) refl is.0 is.2 count h in
+    let d1 = subst (λ s. Does old.step_limit (mode_of old) [] (record old.now { schema = s })
+    (statement_of text (understood from text)) None (CreateIndex at) (Ok (w.tally, new.now))) has w.changed in
+    let d2 : Defines (mode_of old) (MakesIndex (statement_of text (understood from text))
+    (record old.now { schema = from }) table) (Ok (w.tally, new.now)) =
+    subst (λ o. AtPlace (λ t. Defines (mode_of old) (MakesIndex (statement_of text (understood from text))
+    (record old.now { schema = from }) t)) o (Ok (w.tally, new.now))) is_at d1 in
+    let all = went d2 in
+    let made = all.1 in
+    let same : made.index ≡ index = same_value (sym made.defined ∙ is.1) in
+    let schema : all.0.schema ≡ indexed from table index = made.is ∙ ap (indexed from table) same in
+    let now : new.now ≡ all.0 = ap (λ (p : Tally × Database). p.1) (same_value all.2) in
+    subst (λ (d : Database). (d.schema ≡ indexed from table index) × KeepsRows from.tables old.now.trees d.trees)
+    (sym now) (schema, made.rows)
+
 still_empty : (old next : Trees) (tables : List Table) → KeepsRows tables old next
     → AllByRecursion (λ (t : Table). old t.tree ≡ []) tables → AllByRecursion (λ (t : Table). next t.tree ≡ []) tables
 still_empty old next [] kept none = tt
@@ -146,24 +194,11 @@ defines_table : (from : Schema) (text : List ℕ) (table : Table) → MakesTable
     → (old new : State) (count : ℕ) → IsEmpty from old.now → ExecutesIn true text [] old new (Ok count)
     → IsEmpty (created from table) new.now
 defines_table from text table is uncounted old new count empty h =
-    let w = ran_as text old new from empty.0 CreateTable refl is.0 is.2 count h in
-    let all = went w.changed in
-    let first = went all.1 in
-    let made = first.1 in
-    let same : made.table ≡ table = same_value (sym made.defined ∙ is.1) in
-    let schema : first.0.schema ≡ created from table = made.is ∙ ap (λ s. created s made.table) empty.0
-    ∙ ap (created from) same in
-    let plain : lacks_sequence first.0.schema ≡ false = ap lacks_sequence schema ∙ uncounted in
-    let now : new.now ≡ first.0 = ap (λ (p : Tally × Database). p.1) (same_value all.2)
-    ∙ same_value (rw plain at first.2) in
-    let kept : KeepsRows from.tables old.now.trees first.0.trees =
-    subst (λ s. KeepsRows s.tables old.now.trees first.0.trees) empty.0 made.others in
-    let last : first.0.trees (next_tree from) ≡ [] = subst (λ s. first.0.trees (next_tree s) ≡ []) empty.0 made.empty in
-    subst (IsEmpty (created from table)) (sym now) (
-      schema,
-      all-append (λ (t : Table). first.0.trees t.tree ≡ [])
-          from.tables (record table { tree = next_tree from } ∷ []) (still_empty _ _ from.tables kept empty.1)
-          (last, tt),
+    let made = made_table from text table is uncounted old new count empty.0 h in (
+      made.0,
+      all-append (λ (t : Table). new.now.trees t.tree ≡ [])
+          from.tables (record table { tree = next_tree from } ∷ []) (still_empty _ _ from.tables made.1 empty.1)
+          (made.2, tt),
     )
 
 -- an index changes no row
@@ -172,36 +207,16 @@ defines_index : (from : Schema) (text : List ℕ) (at : ℕ) (table : Table) (in
     → (old new : State) (count : ℕ) → IsEmpty from old.now → ExecutesIn true text [] old new (Ok count)
     → IsEmpty (indexed from table index) new.now
 defines_index from text at table index is is_at old new count empty h =
-    let w = ran_as text old new from empty.0 (CreateIndex at) refl is.0 is.2 count h in
-    let d1 = subst (λ s. Does old.step_limit (mode_of old) [] (record old.now { schema = s })
-    (statement_of text (understood from text)) None (CreateIndex at) (Ok (w.tally, new.now))) empty.0 w.changed in
-    let d2 : Defines (mode_of old) (MakesIndex (statement_of text (understood from text))
-    (record old.now { schema = from }) table) (Ok (w.tally, new.now)) =
-    subst (λ o. AtPlace (λ t. Defines (mode_of old) (MakesIndex (statement_of text (understood from text))
-    (record old.now { schema = from }) t)) o (Ok (w.tally, new.now))) is_at d1 in
-    let all = went d2 in
-    let made = all.1 in
-    let same : made.index ≡ index = same_value (sym made.defined ∙ is.1) in
-    let schema : all.0.schema ≡ indexed from table index = made.is ∙ ap (indexed from table) same in
-    let now : new.now ≡ all.0 = ap (λ (p : Tally × Database). p.1) (same_value all.2) in
-    subst (IsEmpty (indexed from table index)) (sym now) (schema, still_empty _ _ from.tables made.rows empty.1)
+    let made = made_index from text at table index is is_at old new count empty.0 h in
+    (made.0, still_empty _ _ from.tables made.1 empty.1)
 
 -- Texts in turn.
 
-abbrev texts_9 : List ℕ
-texts_9 = index_move_posting_text
-
-abbrev texts_8 : List ℕ
-texts_8 = index_posting_at_text ++ texts_9
-
-abbrev texts_7 : List ℕ
-texts_7 = create_move_text ++ texts_8
-
 abbrev texts_6 : List ℕ
-texts_6 = create_posting_text ++ texts_7
+texts_6 = create_move_text
 
 abbrev texts_5 : List ℕ
-texts_5 = create_hier_text ++ texts_6
+texts_5 = create_posting_text ++ texts_6
 
 abbrev texts_4 : List ℕ
 texts_4 = create_link_text ++ texts_5
@@ -218,60 +233,163 @@ texts_1 = create_resource_text ++ texts_2
 abbrev texts_0 : List ℕ
 texts_0 = create_meta_text ++ texts_1
 
--- The texts were run in turn, and this came of it.
+abbrev newer_2 : List ℕ
+newer_2 = index_move_posting_text
+
+abbrev newer_1 : List ℕ
+newer_1 = index_posting_at_text ++ newer_2
+
+abbrev newer_0 : List ℕ
+newer_0 = create_hier_text ++ newer_1
+
+-- Texts were run in turn, and this came of it.
 module _ {S : Type 0} (g : Ghosts S) (new : Held S) {Goal : Type 0} where
-  -- the first of them makes an empty database of one schema one of another, and the rest is run then
-  first_made : (text one rest : List ℕ) (from to : Schema) (most : ℕ) (old : Held S)
+  -- the first of them makes a database of one sort one of another, and the rest is run then
+  first_made : (text one rest : List ℕ) (From To : Database → Type 0) (most : ℕ) (old : Held S)
       → take (first_len text) text ≡ one → drop (first_len text) text ≡ rest → 0 < length text
-      → ((old new : State) (count : ℕ) → IsEmpty from old.now → ExecutesIn true one [] old new (Ok count)
-      → IsEmpty to new.now)
-      → IsEmpty from (state g old).now → RunInTurn g (Some 0) most text old new (Ok tt)
-      → ((mid : Held S) (less : ℕ) → IsEmpty to (state g mid).now → RunInTurn g (Some 0) less rest mid new (Ok tt)
+      → ((old new : State) (count : ℕ) → From old.now → ExecutesIn true one [] old new (Ok count)
+      → To new.now)
+      → From (state g old).now → RunInTurn g (Some 0) most text old new (Ok tt)
+      → ((mid : Held S) (less : ℕ) → To (state g mid).now → RunInTurn g (Some 0) less rest mid new (Ok tt)
       → Goal)
       → Goal
-  first_made [] one rest from to most old is left some makes empty h then = absurd (omega (arith, some))
-  first_made (b ∷ text) one rest from to zero old is left some makes empty h then = absurd h
-  first_made (b ∷ text) one rest from to (suc most) old is left some makes empty (inl stopped) then =
+  first_made [] one rest From To most old is left some makes was h then = absurd (omega (arith, some))
+  first_made (b ∷ text) one rest From To zero old is left some makes was h then = absurd h
+  first_made (b ∷ text) one rest From To (suc most) old is left some makes was (inl stopped) then =
       absurd (let e = stopped.1 in cc)
-  first_made (b ∷ text) one rest from to (suc most) old is left some makes empty (inr ran) then =
+  first_made (b ∷ text) one rest From To (suc most) old is left some makes was (inr ran) then =
       then ran.0 most
-      (makes (state g old) (state g ran.0) ran.1 empty
+      (makes (state g old) (state g ran.0) ran.1 was
       (subst (λ t. ExecutesIn true t [] (state g old) (state g ran.0) (Ok ran.1)) is ran.2.runs))
       (subst (λ t. RunInTurn g (Some 0) most t ran.0 new (Ok tt)) left ran.3)
 
+-- A store of version 1 after the seven tables got their company.
+
+-- its rows are as they were
+abbrev AreOld : Trees → Database → Type 0
+AreOld start db = KeepsRows schema_7.tables start db.trees
+
+abbrev HasHier : Schema → Trees → Database → Type 0
+HasHier schema start db = (db.schema ≡ schema) × AreOld start db × (db.trees 11 ≡ [])
+
+still_old : (start mid next : Trees) → KeepsRows schema_7.tables start mid → KeepsRows schema_8.tables mid next
+    → KeepsRows schema_7.tables start next × (next 11 ≡ mid 11)
+still_old start mid next a b = (
+  (b.0 ∙ a.0, (b.1.0 ∙ a.1.0, (b.1.1.0 ∙ a.1.1.0, (b.1.1.1.0 ∙ a.1.1.1.0, (b.1.1.1.1.0 ∙ a.1.1.1.1.0,
+      (b.1.1.1.1.1.0 ∙ a.1.1.1.1.1.0, (b.1.1.1.1.1.1.0 ∙ a.1.1.1.1.1.1.0, tt))))))),
+  b.1.1.1.1.1.1.1.0,
+)
+
+gets_hier : (start : Trees) (old new : State) (count : ℕ) → (old.now.schema ≡ schema_7) × (old.now.trees ≡ start)
+    → ExecutesIn true create_hier_text [] old new (Ok count) → HasHier schema_8 start new.now
+gets_hier start old new count was h =
+    let made = made_table schema_7 create_hier_text hier create_hier_is refl old new count was.0 h in
+    (made.0, subst (λ (db : Trees). KeepsRows schema_7.tables db new.now.trees) was.1 made.1, made.2)
+
+gets_index : (from : Schema) (text : List ℕ) (at : ℕ) (table : Table) (index : Index)
+    → AddsIndex from text at table index → slice_get from.tables at ≡ Some table → from.tables ≡ schema_8.tables
+    → (start : Trees) (old new : State) (count : ℕ) → HasHier from start old.now
+    → ExecutesIn true text [] old new (Ok count) → HasHier (indexed from table index) start new.now
+gets_index from text at table index is is_at tables start old new count was h =
+    let made = made_index from text at table index is is_at old new count was.0 h in
+    let still = still_old start old.now.trees new.now.trees was.1
+    (subst (λ ts. KeepsRows ts old.now.trees new.now.trees) tables made.1) in
+    (made.0, still.0, still.1 ∙ was.2)
+
 module _ {S : Type 0} (g : Ghosts S) where
-  -- all of them make the tables and the indexes
-  pub all_defined : (old new : Held S) → IsEmpty schema_0 (state g old).now
-      → ExecutesAllInside g 0 texts_0 old new (Ok tt) → IsEmpty store_schema (state g new).now
+  -- the first texts make the seven tables
+  all_defined : (old new : Held S) → IsEmpty schema_0 (state g old).now
+      → ExecutesAllInside g 0 texts_0 old new (Ok tt) → IsEmpty old_schema (state g new).now
   unfolding ExecutesAllInside everything
   all_defined old new empty h =
-      first_made g new texts_0 create_meta_text texts_1 schema_0 schema_1 (length texts_0) old refl refl (lit< tt)
+      first_made g new texts_0 create_meta_text texts_1 (IsEmpty schema_0) (IsEmpty schema_1) (length texts_0) old refl refl (lit< tt)
       (defines_table schema_0 create_meta_text meta create_meta_is refl) empty h (λ at_1 most_1 empty_1 more_1.
-      first_made g new texts_1 create_resource_text texts_2 schema_1 schema_2 most_1 at_1 refl refl (lit< tt)
+      first_made g new texts_1 create_resource_text texts_2 (IsEmpty schema_1) (IsEmpty schema_2) most_1 at_1 refl refl (lit< tt)
       (defines_table schema_1 create_resource_text resource create_resource_is refl) empty_1 more_1 (λ at_2 most_2 empty_2 more_2.
-      first_made g new texts_2 create_outside_text texts_3 schema_2 schema_3 most_2 at_2 refl refl (lit< tt)
+      first_made g new texts_2 create_outside_text texts_3 (IsEmpty schema_2) (IsEmpty schema_3) most_2 at_2 refl refl (lit< tt)
       (defines_table schema_2 create_outside_text outside create_outside_is refl) empty_2 more_2 (λ at_3 most_3 empty_3 more_3.
-      first_made g new texts_3 create_label_text texts_4 schema_3 schema_4 most_3 at_3 refl refl (lit< tt)
+      first_made g new texts_3 create_label_text texts_4 (IsEmpty schema_3) (IsEmpty schema_4) most_3 at_3 refl refl (lit< tt)
       (defines_table schema_3 create_label_text label create_label_is refl) empty_3 more_3 (λ at_4 most_4 empty_4 more_4.
-      first_made g new texts_4 create_link_text texts_5 schema_4 schema_5 most_4 at_4 refl refl (lit< tt)
+      first_made g new texts_4 create_link_text texts_5 (IsEmpty schema_4) (IsEmpty schema_5) most_4 at_4 refl refl (lit< tt)
       (defines_table schema_4 create_link_text link create_link_is refl) empty_4 more_4 (λ at_5 most_5 empty_5 more_5.
-      first_made g new texts_5 create_hier_text texts_6 schema_5 schema_6 most_5 at_5 refl refl (lit< tt)
-      (defines_table schema_5 create_hier_text hier create_hier_is refl) empty_5 more_5 (λ at_6 most_6 empty_6 more_6.
-      first_made g new texts_6 create_posting_text texts_7 schema_6 schema_7 most_6 at_6 refl refl (lit< tt)
-      (defines_table schema_6 create_posting_text posting create_posting_is refl) empty_6 more_6 (λ at_7 most_7 empty_7 more_7.
-      first_made g new texts_7 create_move_text texts_8 schema_7 schema_8 most_7 at_7 refl refl (lit< tt)
-      (defines_table schema_7 create_move_text move create_move_is refl) empty_7 more_7 (λ at_8 most_8 empty_8 more_8.
-      first_made g new texts_8 index_posting_at_text texts_9 schema_8 schema_9 most_8 at_8 refl refl (lit< tt)
-      (defines_index schema_8 index_posting_at_text 6 (record posting { tree = 10 }) posting_at index_posting_at_is refl) empty_8 more_8 (λ at_9 most_9 empty_9 more_9.
-      first_made g new texts_9 index_move_posting_text [] schema_9 store_schema most_9 at_9 refl refl (lit< tt)
-      (defines_index schema_9 index_move_posting_text 7 (record move { tree = 12 }) move_posting index_move_posting_is refl) empty_9 more_9 (λ at_10 most_10 empty_10 more_10.
-      subst (λ h. IsEmpty store_schema (state g h).now) (sym more_10.1) empty_10))))))))))
+      first_made g new texts_5 create_posting_text texts_6 (IsEmpty schema_5) (IsEmpty schema_6) most_5 at_5 refl refl (lit< tt)
+      (defines_table schema_5 create_posting_text posting create_posting_is refl) empty_5 more_5 (λ at_6 most_6 empty_6 more_6.
+      first_made g new texts_6 create_move_text [] (IsEmpty schema_6) (IsEmpty schema_7) most_6 at_6 refl refl (lit< tt)
+      (defines_table schema_6 create_move_text move create_move_is refl) empty_6 more_6 (λ at_7 most_7 empty_7 more_7.
+      subst (λ h. IsEmpty old_schema (state g h).now) (sym more_7.1) empty_7)))))))
+
+  -- the later texts make what a store has besides
+  all_newer : (old new : Held S) → IsEmpty old_schema (state g old).now
+      → ExecutesAllInside g 0 newer_0 old new (Ok tt) → IsEmpty store_schema (state g new).now
+  unfolding ExecutesAllInside everything
+  all_newer old new empty h =
+      first_made g new newer_0 create_hier_text newer_1 (IsEmpty schema_7) (IsEmpty schema_8) (length newer_0) old refl refl (lit< tt)
+      (defines_table schema_7 create_hier_text hier create_hier_is refl) empty h (λ at_8 most_8 empty_8 more_8.
+      first_made g new newer_1 index_posting_at_text newer_2 (IsEmpty schema_8) (IsEmpty schema_9) most_8 at_8 refl refl (lit< tt)
+      (defines_index schema_8 index_posting_at_text 5 (record posting { tree = 8 }) posting_at index_posting_at_is refl) empty_8 more_8 (λ at_9 most_9 empty_9 more_9.
+      first_made g new newer_2 index_move_posting_text [] (IsEmpty schema_9) (IsEmpty store_schema) most_9 at_9 refl refl (lit< tt)
+      (defines_index schema_9 index_move_posting_text 6 (record move { tree = 10 }) move_posting index_move_posting_is refl) empty_9 more_9 (λ at_10 most_10 empty_10 more_10.
+      subst (λ h. IsEmpty store_schema (state g h).now) (sym more_10.1) empty_10)))
+
+  -- and a store of version 1 keeps its rows then
+  all_renewed : (old new : Held S) → (state g old).now.schema ≡ old_schema
+      → ExecutesAllInside g 0 newer_0 old new (Ok tt) → HasHier store_schema (state g old).now.trees (state g new).now
+  unfolding ExecutesAllInside everything
+  all_renewed old new has h =
+      let start = (state g old).now.trees in
+      first_made g new newer_0 create_hier_text newer_1 (λ db. (db.schema ≡ schema_7) × (db.trees ≡ start)) (HasHier schema_8 start)
+      (length newer_0) old refl refl (lit< tt) (gets_hier start) (has, refl) h (λ at_8 most_8 was_8 more_8.
+      first_made g new newer_1 index_posting_at_text newer_2 (HasHier schema_8 start) (HasHier schema_9 start) most_8 at_8 refl refl (lit< tt)
+      (gets_index schema_8 index_posting_at_text 5 (record posting { tree = 8 }) posting_at index_posting_at_is refl refl start) was_8 more_8 (λ at_9 most_9 was_9 more_9.
+      first_made g new newer_2 index_move_posting_text [] (HasHier schema_9 start) (HasHier store_schema start) most_9 at_9 refl refl (lit< tt)
+      (gets_index schema_9 index_move_posting_text 6 (record move { tree = 10 }) move_posting index_move_posting_is refl refl start) was_9 more_9 (λ at_10 most_10 was_10 more_10.
+      subst (λ h. HasHier store_schema start (state g h).now) (sym more_10.1) was_10)))
 
   pub does_define : (old new : Held S) (r : Result (Unit {0}) Error) → ExecutesAllInside g 0 texts_0 old new r
       → OnOk r ((state g new).in_transaction ≡ (state g old).in_transaction) → IsTrue (state g old).in_transaction
-      → OnOk r (Turns (IsEmpty schema_0) (IsEmpty store_schema) (state g old) (state g new))
+      → OnOk r (Turns (IsEmpty schema_0) (IsEmpty old_schema) (state g old) (state g new))
   does_define old new (Err e) h same inside = tt
   does_define old new (Ok done) h same inside = record {
     made = λ empty. all_defined old new empty h;
+    inside = same ∙ inside;
+  }
+
+  pub does_newer : (old new : Held S) (r : Result (Unit {0}) Error) → ExecutesAllInside g 0 newer_0 old new r
+      → OnOk r ((state g new).in_transaction ≡ (state g old).in_transaction) → IsTrue (state g old).in_transaction
+      → OnOk r (Turns (IsEmpty old_schema) (IsEmpty store_schema) (state g old) (state g new))
+  does_newer old new (Err e) h same inside = tt
+  does_newer old new (Ok done) h same inside = record {
+    made = λ empty. all_newer old new empty h;
+    inside = same ∙ inside;
+  }
+
+  renewed_rows : (t : Tables) (old new : Held S) → KeepsOld (state g old).now t
+      → HasHier store_schema (state g old).now.trees (state g new).now
+      → KeepsAs 1 (state g new).now (record t { hier = [] })
+  renewed_rows t old new was is =
+      let k = is.1 in
+      let h = was.hold in
+      record {
+        schema = is.0;
+        hold = record {
+          meta = k.0 ∙ h.meta;
+          resource = subst (HoldResources t.resource) (sym k.1.0) h.resource;
+          outside = subst (HoldOutside t.outside) (sym k.1.1.0) h.outside;
+          label = subst (AreHidden label_values t.label) (sym k.1.1.1.0) h.label;
+          link = subst (AreHidden link_values t.link) (sym k.1.1.1.1.0) h.link;
+          posting = subst (HoldPostings t.posting) (sym k.1.1.1.1.1.0) h.posting;
+          numbered = h.numbered;
+          move = subst (HoldMoves t.move) (sym k.1.1.1.1.1.1.0) h.move;
+          spelled = h.spelled;
+        };
+        hier = record { given = []; same = refl; held = record { rises = tt; rows = is.2 } };
+      }
+
+  pub does_renew : (old new : Held S) (r : Result (Unit {0}) Error) → ExecutesAllInside g 0 newer_0 old new r
+      → OnOk r ((state g new).in_transaction ≡ (state g old).in_transaction) → IsTrue (state g old).in_transaction
+      → OnOk r (TurnsEach IsOldStore IsEnlarged (state g old) (state g new))
+  does_renew old new (Err e) h same inside = tt
+  does_renew old new (Ok done) h same inside = record {
+    made = λ t was. renewed_rows t old new was (all_renewed old new was.schema h);
     inside = same ∙ inside;
   }

@@ -62,9 +62,9 @@ untouched tree old new same table.Resource = same.1.0
 untouched tree old new same table.Outside = same.1.1.0
 untouched tree old new same table.Label = same.1.1.1.0
 untouched tree old new same table.Link = same.1.1.1.1.0
-untouched tree old new same table.Hier = same.1.1.1.1.1.0
-untouched tree old new same table.Posting = same.1.1.1.1.1.1.0
-untouched tree old new same table.Move = same.1.1.1.1.1.1.1.0
+untouched tree old new same table.Hier = same.1.1.1.1.1.1.1.0
+untouched tree old new same table.Posting = same.1.1.1.1.1.0
+untouched tree old new same table.Move = same.1.1.1.1.1.1.0
 
 module _ (old new : State) (t : Tables) (kept : Keeps old.now t) where
   module _ {tree : ℕ} {Held : List Row → Type 0} (w : Rewrites tree Held old new) where
@@ -112,7 +112,7 @@ module _ (old new : State) (t : Tables) (kept : Keeps old.now t) where
       each table.Link = w.rows
       each p = other w p (λ e. omega (arith, e))
 
-  pub keeps_hier : (rows : List HierRow) → Rewrites 8 (AreHidden hier_values rows) old new
+  pub keeps_hier : (rows : List HierRow) → Rewrites 11 (AreHidden hier_values rows) old new
       → Keeps new.now (record t { hier = rows })
   keeps_hier rows w = kept_with w (record t { hier = rows }) each kept.hold.numbered kept.hold.spelled
     where
@@ -120,7 +120,7 @@ module _ (old new : State) (t : Tables) (kept : Keeps old.now t) where
       each table.Hier = w.rows
       each p = other w p (λ e. omega (arith, e))
 
-  pub keeps_posting : (rows : List PostingRow) → Rewrites 10 (HoldPostings rows) old new → AreNumbered 1 rows
+  pub keeps_posting : (rows : List PostingRow) → Rewrites 8 (HoldPostings rows) old new → AreNumbered 1 rows
       → AllByRecursion IsSpelledPosting rows → Keeps new.now (record t { posting = rows })
   keeps_posting rows w num told = kept_with w (record t { posting = rows }) each num
       (kept.hold.spelled.0, (kept.hold.spelled.1.0, (kept.hold.spelled.1.1.0, told)))
@@ -129,7 +129,7 @@ module _ (old new : State) (t : Tables) (kept : Keeps old.now t) where
       each table.Posting = w.rows
       each p = other w p (λ e. omega (arith, e))
 
-  pub keeps_move : (rows : List MoveRow) → Rewrites 12 (HoldMoves rows) old new
+  pub keeps_move : (rows : List MoveRow) → Rewrites 10 (HoldMoves rows) old new
       → Keeps new.now (record t { move = rows })
   keeps_move rows w = kept_with w (record t { move = rows }) each kept.hold.numbered kept.hold.spelled
     where

@@ -1,6 +1,6 @@
 -- A read leaves the tables.
 use Rattle.std.proofs.Common.{◌≡◌, ◌⊎◌, inl, inr, ℕ, List, Ok, Err, Result, IfOk, IfErr, false, IsTrue, sym, ap}
-use Rattle.std.proofs.Common.{◌≢◌, subst, ◌∙◌, arith, append-nil}
+use Rattle.std.proofs.Common.{◌≢◌, OnOk, [], subst, ◌∙◌, arith, append-nil}
 use Rattle.sqlite.specs.Order.{Row}
 use Rattle.sqlite.specs.Effect.{Database, RefusesQuery, RefusesToRead}
 use Rattle.sqlite.specs.Command.TheVariants.{Select}
@@ -22,6 +22,7 @@ use Rattle.sqlite.proofs.StateLemmas.{survives_weaker}
 use Rattle.sqlite.proofs.Callers.{IsPlain, command_of, never_commits}
 use Rattle.thes_sql.specs.Schema.{store_schema}
 use Rattle.thes_sql.specs.Reads.{LeavesTables, LeavesAlone}
+use Rattle.thes_sql.specs.Older.{old_schema, HasKnownSchema, KeepsKnown, LeavesKnown}
 
 shows_open : (old new : State) (sql : List ℕ) (c : Compiled) (params : Row) (rows : List Row) (o : Option Returning)
     → ShowsRows old new sql c params rows o → IsTrue old.is_open
@@ -94,6 +95,95 @@ leaves_alone g sql params old new r items plain mode ok err s = record {
   where
     here : (state g old).now.schema ≡ store_schema → IsPlain (understood (state g old).now.schema sql)
     here has = subst (λ schema. IsPlain (understood schema sql)) (sym has) plain
+
+-- It leaves a store of version 1, too.
+module _ {S : Type 0} (g : Ghosts S) (sql : List ℕ) (params : Row) (old new : Held S) {V : Type 0}
+    (r : Result V Error) (items : V → List Row) (plain : IsPlain (understood store_schema sql))
+    (plain_old : IsPlain (understood old_schema sql))
+    (ok : HasCleanDisk (state g new) → IfOk r (λ v. Shown sql params (state g old) (state g new) (items v)))
+    (err : HasCleanDisk (state g new) → IfErr r (FailsToQuery sql params (state g old) (state g new))) where
+  known : HasKnownSchema (state g old).now → IsPlain (understood (state g old).now.schema sql)
+  known (inl has) = subst (λ schema. IsPlain (understood schema sql)) (sym has) plain
+  known (inr has) = subst (λ schema. IsPlain (understood schema sql)) (sym has) plain_old
+
+  pub leaves_known : (old.in_transaction ≡ false → new.in_transaction ≡ false)
+      → Survives (state g old) (state g new) (CommitsShowing sql params (state g old)) → LeavesKnown g old new
+  leaves_known mode s = record {
+    mode = mode;
+    was = λ clean still_open. was_open sql params (state g old) (state g new) items r (ok clean) (err clean)
+        still_open;
+    clean = s.clean;
+    same = λ has clean still_open settled. left (state g old) (state g new) still_open settled
+        (still sql params (state g old) (state g new) (known has) items r (ok clean) (err clean));
+    crash = λ has clean db leave. elim (s.crash clean db leave) [
+      | inl before ↦ before
+      | inr made ↦ absurd (never_commits sql params (state g old) db (known has) made)
+    ];
+  }
+
+  kept : (r : Result V Error)
+      → (HasCleanDisk (state g new) → IfOk r (λ v. Shown sql params (state g old) (state g new) (items v)))
+      → OnOk r (KeepsKnown g old new)
+  kept (Err e) shown = tt
+  kept (Ok v) shown = λ has clean.
+      let h = shown_same sql params (state g old) (state g new) (known has) (items v) (shown clean) in
+      (h.0.now_is, h.0.committed_is)
+
+  pub keeps_known : OnOk r (KeepsKnown g old new)
+  keeps_known = kept r ok
+
+-- What is only prepared leaves the database.
+module _ {S : Type 0} (g : Ghosts S) (sql : List ℕ) (old new : Held S) where
+  -- so it is, where the text was not understood, or where nothing is known of the failure
+  prepared_so : (e : Error) → ((params : Row) → IsNotRun (state g old) (state g new) sql params e)
+      → IsUnchanged (state g old) (state g new) ⊎ IsRolledBack (state g old) (state g new)
+  unfolding IsNotRun
+  prepared_so e h = elim (h []) [ inl refused ↦ inl refused.1 | inr fails ↦ inr fails.3 ]
+
+  not_understood : (fault : CompileError) → ((params : Row)
+      → IsNotRun (state g old) (state g new) sql params (SqlInputError fault))
+      → IsUnchanged (state g old) (state g new)
+  unfolding IsNotRun
+  not_understood fault h = elim (h []) [ inl refused ↦ refused.1 | inr fails ↦ absurd (no_input fails.0 fails.1) ]
+    where
+      no_input : (cause : StoreError) → SqlInputError fault ≢ store_error cause
+      no_input cause.OutOfMemory told = cc
+      no_input cause.Io told = cc
+      no_input cause.Corrupt told = cc
+      no_input cause.Full told = cc
+      no_input cause.Broken told = cc
+      no_input cause.Unstorable told = cc
+
+  open_before : IsUnchanged (state g old) (state g new) ⊎ IsRolledBack (state g old) (state g new)
+      → IsTrue (state g new).is_open → IsTrue (state g old).is_open
+  open_before (inl h) now = h.0.was_open
+  open_before (inr h) now = h.was_open now
+
+  pub prepared_leaves : (old.in_transaction ≡ false → new.in_transaction ≡ false)
+      → Survives (state g old) (state g new) (λ _. ⊥)
+      → (HasCleanDisk (state g new) → IsUnchanged (state g old) (state g new) ⊎ IsRolledBack (state g old) (state g new))
+      → LeavesKnown g old new
+  prepared_leaves mode s so = record {
+    mode = mode;
+    was = λ clean still_open. open_before (so clean) still_open;
+    clean = s.clean;
+    same = λ has clean still_open settled. left (state g old) (state g new) still_open settled (so clean);
+    crash = λ has clean db leave. elim (s.crash clean db leave) [ inl before ↦ before | inr none ↦ absurd none ];
+  }
+
+  pub prepared_keeps : (HasCleanDisk (state g new) → IsUnchanged (state g old) (state g new)) → KeepsKnown g old new
+  prepared_keeps so has clean = let h = so clean in (h.0.now_is, h.0.committed_is)
+
+  pub each_so : {V : Type 0} (P : V → Type 0) (r : Result V Error) → IfOk r (λ v. P v × IsUnchanged (state g old) (state g new))
+      → IfErr r (λ e. (params : Row) → IsNotRun (state g old) (state g new) sql params e)
+      → IsUnchanged (state g old) (state g new) ⊎ IsRolledBack (state g old) (state g new)
+  each_so P (Ok v) ok err = inl ok.1
+  each_so P (Err e) ok err = prepared_so e err
+
+  pub refused_keeps : (fault : CompileError) → (HasCleanDisk (state g new)
+      → (params : Row) → IsNotRun (state g old) (state g new) sql params (SqlInputError fault))
+      → KeepsKnown g old new
+  refused_keeps fault h = prepared_keeps (λ clean. not_understood fault (h clean))
 
 -- A query that the schema of a store understands doesn't fail as a text that isn't understood.
 module _ (sql : List ℕ) (params : Row) (old new : State) (q : Program) (names : List (List ℕ))

@@ -13,3 +13,4 @@ pub mod Defining
 pub mod Creating
 pub mod Reading
 pub mod Leaving
+pub mod Renewing

@@ -1,6 +1,6 @@
 -- What a SELECT of one table in the order of its rows' numbers shows.
 use Rattle.std.proofs.Common.{arith, ◌≡◌, ℕ, pos, List, [], ◌∷◌, ◌<◌, ◌≤◌, ◌==◌, ◌&&◌, map, filter}
-use Rattle.std.proofs.Common.{flat_map, codes, Bool, true, false, not, cond, refl, sym, ap}
+use Rattle.std.proofs.Common.{inl, inr, flat_map, codes, Bool, true, false, not, cond, refl, sym, ap}
 use Rattle.std.proofs.Common.{◌+◌, subst, ◌∙◌, Less, lit<}
 use Rattle.std.proofs.Math.Bool.{and-true}
 use Rattle.std.specs.List.{AllByRecursion, list_all}
@@ -17,6 +17,7 @@ use Rattle.sqlite_keyed.proofs.ListLemmas.{map-map}
 use Rattle.sqlite_catalog.proofs.ListFacts.{filter_all}
 use Rattle.sqlite_trees.specs.Tree.{IsAscending, IsTable, rowid}
 use Rattle.sqlite.specs.Program.{overlay}
+use Rattle.sqlite.specs.Tree.{Trees}
 use Rattle.sqlite.specs.Command.TheVariants.{Select}
 use Rattle.sqlite.specs.Listing.{understood, reads_listing}
 use Rattle.sqlite.specs.State.{State, Shown}
@@ -36,6 +37,9 @@ use Rattle.thes_rows.specs.Cells.{posting_cells, move_cells, meta_cells}
 use Rattle.thes_sql.specs.Schema.{store_schema}
 use Rattle.thes_sql.specs.Stored.{Keeps, Rising, AreKeyed, AreHidden, hidden_row, numbered_from, values, stored_meta}
 use Rattle.thes_sql.specs.Stored.{stored_resource, stored_outside, stored_posting, stored_move}
+use Rattle.thes_sql.specs.Older.{old_schema, HasVersion, stored_version, version_row}
+use Rattle.thes_rows.specs.declared.cells.Cell.TheVariants as cells
+use Rattle.thes_rows.specs.Cells.{number_cell}
 use Rattle.thes_sql.specs.Reads.{rows_of, text_of, keyed_as, numbered_as, standing_at, moves_of}
 use Rattle.thes_sql.specs.Reads.{tree_of, places_of, shown_rows, IsReadable}
 use Rattle.thes_sql.proofs.Texts.{plain_query, whole, same}
@@ -81,21 +85,25 @@ module _ {X : Type 0} (num : X → ℕ) (stored : X → Row) (cells : X → List
   strict a (x ∷ xs) up = (later (num x) x xs (omega arith) up.1, strict (num x) xs up.1)
 
   -- just the rows that pass, in order
-  pub reads : (text : List ℕ) → Asks text query → (old new : State) (xs : List X) (out : List Row)
-      → old.now.schema ≡ store_schema → AreKeyed stored num xs (old.now.trees tree) → Shown text params old new out
-      → out ≡ map values (map cells (filter p xs))
-  reads text is old new xs out has held h =
-      let read = reads_as text params old new store_schema has (Select (whole query) is.0) is.1 is.3 is.2 out h in
-      let a : IsAnswer query (overlay old.now.trees []) params out = read.answer Null in
+  pub in_turn : (db : Trees) (xs : List X) (out : List Row) → AreKeyed stored num xs (db tree)
+      → IsAnswer query (overlay db []) params out → out ≡ map values (map cells (filter p xs))
+  in_turn db xs out held a =
       let outputs : a.kept ≡ map out_of (filter p xs) = a.distinct ∙ ap (map (output query)) (a.grouped
       ∙ ap (flat_map (λ r. cond (list_all (holds (params ∷ r ∷ [])) filters) ((params ∷ r ∷ []) ∷ []) []))
-      (no_lets old.now.trees tree ∙ held.rows) ∙ picked stored params filters p test xs) ∙ outs (filter p xs) in
+      (no_lets db tree ∙ held.rows) ∙ picked stored params filters p test xs) ∙ outs (filter p xs) in
       let ordered : a.ordered ≡ map out_of (filter p xs) =
       sorted_unique (output_cmp query) (output_cmp_total query) _ a.ordered
       (strict 0 (filter p xs) (rising_filter num p 0 xs held.rises))
       (subst (λ k. IsPermutation k a.ordered) outputs a.same) a.sorted in
       a.shown ∙ ap (λ os. page query params (map (λ (o : Output). o.1) os)) ordered
       ∙ map-map (λ (o : Output). o.1) out_of (filter p xs) ∙ sym (map-map values cells (filter p xs))
+
+  pub reads : (text : List ℕ) → Asks text query → (old new : State) (xs : List X) (out : List Row)
+      → old.now.schema ≡ store_schema → AreKeyed stored num xs (old.now.trees tree) → Shown text params old new out
+      → out ≡ map values (map cells (filter p xs))
+  reads text is old new xs out has held h =
+      let read = reads_as text params old new store_schema has (Select (whole query) is.0) is.1 is.3 is.2 out h in
+      in_turn old.now.trees xs out held (read.answer Null)
 
 -- all rows of a table
 module _ {X : Type 0} (num : X → ℕ) (stored : X → Row) (cells : X → List Cell) (tree : ℕ) (project : List Term)
@@ -185,12 +193,12 @@ table_shown table.Label old new t out kept h = hidden_all label_cells 4 (columns
     (text_of table.Label) (asks_table table.Label) old new t.label out kept.schema kept.hold.label h
 table_shown table.Link old new t out kept h = hidden_all link_cells 6 (columns_of table.Link) (λ row. refl)
     (text_of table.Link) (asks_table table.Link) old new t.link out kept.schema kept.hold.link h
-table_shown table.Hier old new t out kept h = hidden_all hier_cells 8 (columns_of table.Hier) (λ row. refl)
+table_shown table.Hier old new t out kept h = hidden_all hier_cells 11 (columns_of table.Hier) (λ row. refl)
     (text_of table.Hier) (asks_table table.Hier) old new t.hier out kept.schema kept.hold.hier h
 table_shown table.Posting old new t out kept h = reads_all (λ (row : PostingRow). row.number) stored_posting
-    posting_cells 10 (columns_of table.Posting) (λ row. refl) (text_of table.Posting) (asks_table table.Posting) old new
+    posting_cells 8 (columns_of table.Posting) (λ row. refl) (text_of table.Posting) (asks_table table.Posting) old new
     t.posting out kept.schema kept.hold.posting h
-table_shown table.Move old new t out kept h = reads_all (λ (row : MoveRow). row.number) stored_move move_cells 12
+table_shown table.Move old new t out kept h = reads_all (λ (row : MoveRow). row.number) stored_move move_cells 10
     (columns_of table.Move) (λ row. refl) (text_of table.Move) (asks_table table.Move) old new t.move out kept.schema
     kept.hold.move h
 
@@ -255,13 +263,13 @@ whatever_shown table.Label old new out is h = rows_read 4 (columns_of table.Labe
 whatever_shown table.Link old new out is h = rows_read 6 (columns_of table.Link) (λ row. map (column row)
     (places_of table.Link)) (λ row. refl) (text_of table.Link) (asks_table table.Link) old new out is.schema
     (is.ordered table.Link) h
-whatever_shown table.Hier old new out is h = rows_read 8 (columns_of table.Hier) (λ row. map (column row)
+whatever_shown table.Hier old new out is h = rows_read 11 (columns_of table.Hier) (λ row. map (column row)
     (places_of table.Hier)) (λ row. refl) (text_of table.Hier) (asks_table table.Hier) old new out is.schema
     (is.ordered table.Hier) h
-whatever_shown table.Posting old new out is h = rows_read 10 (columns_of table.Posting) (λ row. map (column row)
+whatever_shown table.Posting old new out is h = rows_read 8 (columns_of table.Posting) (λ row. map (column row)
     (places_of table.Posting)) (λ row. refl) (text_of table.Posting) (asks_table table.Posting) old new out is.schema
     (is.ordered table.Posting) h
-whatever_shown table.Move old new out is h = rows_read 12 (columns_of table.Move) (λ row. map (column row)
+whatever_shown table.Move old new out is h = rows_read 10 (columns_of table.Move) (λ row. map (column row)
     (places_of table.Move)) (λ row. refl) (text_of table.Move) (asks_table table.Move) old new out is.schema
     (is.ordered table.Move) h
 
@@ -270,14 +278,14 @@ whatever_shown table.Move old new out is h = rows_read 12 (columns_of table.Move
 abbrev pub keyed_text : List ℕ
 keyed_text = codes "SELECT num, pkey, record, first_at, at, withdrawn FROM posting WHERE pkey = ?1 ORDER BY num"
 
-pub keyed_is : Asks keyed_text (in_order 10 (same (col 1 2) (col 0 0) ∷ []) posting_columns)
+pub keyed_is : Asks keyed_text (in_order 8 (same (col 1 2) (col 0 0) ∷ []) posting_columns)
 unfolding understood everything
 keyed_is = (posting_names, refl, refl, (refl, refl))
 
 abbrev pub numbered_text : List ℕ
 numbered_text = codes "SELECT num, pkey, record, first_at, at, withdrawn FROM posting WHERE num = ?1 ORDER BY num"
 
-pub numbered_is : Asks numbered_text (in_order 10 (same (col 1 0) (col 0 0) ∷ []) posting_columns)
+pub numbered_is : Asks numbered_text (in_order 8 (same (col 1 0) (col 0 0) ∷ []) posting_columns)
 unfolding understood everything
 numbered_is = (posting_names, refl, refl, (refl, refl))
 
@@ -285,7 +293,7 @@ abbrev pub standing_text : List ℕ
 standing_text =
     codes "SELECT num, pkey, record, first_at, at, withdrawn FROM posting WHERE at = ?1 AND withdrawn = 0 ORDER BY num"
 
-pub standing_is : Asks standing_text (in_order 10
+pub standing_is : Asks standing_text (in_order 8
     (same (col 1 5) (col 0 0) ∷ same (col 1 6) (lit (Int (pos 0))) ∷ []) posting_columns)
 unfolding understood everything
 standing_is = (posting_names, refl, refl, (refl, refl))
@@ -293,18 +301,18 @@ standing_is = (posting_names, refl, refl, (refl, refl))
 abbrev pub moving_text : List ℕ
 moving_text = codes "SELECT num, posting, source, target FROM move WHERE posting = ?1 ORDER BY num"
 
-pub moving_is : Asks moving_text (in_order 12 (same (col 1 2) (col 0 0) ∷ []) move_columns)
+pub moving_is : Asks moving_text (in_order 10 (same (col 1 2) (col 0 0) ∷ []) move_columns)
 unfolding understood everything
 moving_is = (move_names, refl, refl, (refl, refl))
 
 -- the rows of posting that pass a test
 postings_shown : (text : List ℕ) (params : Row) (filters : List Term) (p : PostingRow → Bool)
     → ((x : PostingRow) → list_all (holds (params ∷ stored_posting x ∷ [])) filters ≡ p x)
-    → Asks text (in_order 10 filters posting_columns)
+    → Asks text (in_order 8 filters posting_columns)
     → (old new : State) (t : Tables) (out : List Row) → Keeps old.now t → Shown text params old new out
     → out ≡ map values (map posting_cells (filter p t.posting))
 postings_shown text params filters p test is old new t out kept h = reads (λ (row : PostingRow). row.number)
-    stored_posting posting_cells 10 posting_columns params filters p test (λ row. refl) text is old new t.posting out
+    stored_posting posting_cells 8 posting_columns params filters p test (λ row. refl) text is old new t.posting out
     kept.schema kept.hold.posting h
 
 pub keyed_shown : (key : List ℕ) (old new : State) (t : Tables) (out : List Row) → Keeps old.now t
@@ -325,6 +333,39 @@ standing_shown concept = postings_shown standing_text (Int (pos concept) ∷ [])
 
 pub moving_shown : (n : ℕ) (old new : State) (t : Tables) (out : List Row) → Keeps old.now t
     → Shown moving_text (Int (pos n) ∷ []) old new out → out ≡ map values (moves_of n t)
-moving_shown n old new t out kept h = reads (λ (row : MoveRow). row.number) stored_move move_cells 12 move_columns
+moving_shown n old new t out kept h = reads (λ (row : MoveRow). row.number) stored_move move_cells 10 move_columns
     (Int (pos n) ∷ []) (same (col 1 2) (col 0 0) ∷ []) (λ x. x.posting == n) (λ x. and-true _ ∙ same_ints x.posting n)
     (λ row. refl) moving_text moving_is old new t.move out kept.schema kept.hold.move h
+
+-- The row of meta in a store of this version or of version 1.
+
+abbrev pub meta_text : List ℕ
+meta_text = text_of table.Meta
+
+abbrev version_cells : ℕ × List ℕ → List Cell
+version_cells x = number_cell 1 ∷ number_cell x.0 ∷ cells.Text x.1 ∷ []
+
+pub asks_old_meta : (names : List (List ℕ))
+    × (command_of (understood old_schema meta_text) ≡ Select (whole (in_order 0 [] (columns_of table.Meta))) names)
+    × (reads_listing old_schema meta_text ≡ false) × IsPlain (understood old_schema meta_text)
+unfolding understood everything
+asks_old_meta = (names_of table.Meta, refl, refl, (refl, refl))
+
+version_in_turn : (version : ℕ) (base : List ℕ) (db : Trees) (out : List Row) → db 0 ≡ stored_version version base ∷ []
+    → IsAnswer (in_order 0 [] (columns_of table.Meta)) (overlay db []) [] out → out ≡ version_row version base ∷ []
+version_in_turn version base db out is a = in_turn (λ (x : ℕ × List ℕ). 1) (λ (x : ℕ × List ℕ). stored_version x.0 x.1)
+    version_cells 0 (columns_of table.Meta) [] [] (λ x. true) (λ x. refl) (λ x. refl) db ((version, base) ∷ []) out
+    (record { rises = (lit< tt, tt); rows = is }) a
+
+pub version_shown : (version : ℕ) (base : List ℕ) (old new : State) (out : List Row) → HasVersion version base old.now
+    → Shown meta_text [] old new out → out ≡ version_row version base ∷ []
+version_shown version base old new out (inl has, is) h =
+    let asks = asks_table table.Meta in
+    let read = reads_as meta_text [] old new store_schema has (Select (whole (in_order 0 [] (columns_of table.Meta))) asks.0)
+    asks.1 asks.3 asks.2 out h in
+    version_in_turn version base old.now.trees out is (read.answer Null)
+version_shown version base old new out (inr has, is) h =
+    let asks = asks_old_meta in
+    let read = reads_as meta_text [] old new old_schema has (Select (whole (in_order 0 [] (columns_of table.Meta))) asks.0)
+    asks.1 asks.3 asks.2 out h in
+    version_in_turn version base old.now.trees out is (read.answer Null)

@@ -95,7 +95,7 @@ add_hier_text = codes "INSERT INTO hier (a, b, typ) VALUES (?1, ?2, ?3)"
 abbrev pub add_hier_terms : List Term
 add_hier_terms = lit Null ∷ col 0 0 ∷ col 0 1 ∷ col 0 2 ∷ []
 
-pub add_hier_is : Means add_hier_text (Insert 5 (Values add_hier_terms 4))
+pub add_hier_is : Means add_hier_text (Insert 7 (Values add_hier_terms 4))
 unfolding understood everything
 add_hier_is = (refl, (refl, refl))
 
@@ -106,7 +106,7 @@ add_posting_text =
 abbrev pub add_posting_terms : List Term
 add_posting_terms = col 0 0 ∷ lit Null ∷ col 0 1 ∷ col 0 2 ∷ col 0 3 ∷ col 0 4 ∷ col 0 5 ∷ []
 
-pub add_posting_is : Means add_posting_text (Insert 6 (Values add_posting_terms 7))
+pub add_posting_is : Means add_posting_text (Insert 5 (Values add_posting_terms 7))
 unfolding understood everything
 add_posting_is = (refl, (refl, refl))
 
@@ -116,7 +116,7 @@ add_move_text = codes "INSERT INTO move (num, posting, source, target) VALUES (?
 abbrev pub add_move_terms : List Term
 add_move_terms = col 0 0 ∷ lit Null ∷ col 0 1 ∷ col 0 2 ∷ col 0 3 ∷ []
 
-pub add_move_is : Means add_move_text (Insert 7 (Values add_move_terms 5))
+pub add_move_is : Means add_move_text (Insert 6 (Values add_move_terms 5))
 unfolding understood everything
 add_move_is = (refl, (refl, refl))
 
@@ -150,9 +150,9 @@ abbrev pub withdraw_text : List ℕ
 withdraw_text = codes "UPDATE posting SET withdrawn = 1 WHERE num = ?1"
 
 abbrev pub withdraw_query : Query
-withdraw_query = plain_query 10 (same (col 1 0) (col 0 0) ∷ []) (posting_columns (col 1 5) (lit (Int (pos 1)))) []
+withdraw_query = plain_query 8 (same (col 1 0) (col 0 0) ∷ []) (posting_columns (col 1 5) (lit (Int (pos 1)))) []
 
-pub withdraw_is : Means withdraw_text (Update 6 (whole withdraw_query))
+pub withdraw_is : Means withdraw_text (Update 5 (whole withdraw_query))
 unfolding understood everything
 withdraw_is = (refl, (refl, refl))
 
@@ -160,9 +160,9 @@ abbrev pub set_place_text : List ℕ
 set_place_text = codes "UPDATE posting SET at = ?2 WHERE num = ?1"
 
 abbrev pub set_place_query : Query
-set_place_query = plain_query 10 (same (col 1 0) (col 0 0) ∷ []) (posting_columns (col 0 1) (col 1 6)) []
+set_place_query = plain_query 8 (same (col 1 0) (col 0 0) ∷ []) (posting_columns (col 0 1) (col 1 6)) []
 
-pub set_place_is : Means set_place_text (Update 6 (whole set_place_query))
+pub set_place_is : Means set_place_text (Update 5 (whole set_place_query))
 unfolding understood everything
 set_place_is = (refl, (refl, refl))
 
@@ -170,10 +170,10 @@ abbrev pub move_all_text : List ℕ
 move_all_text = codes "UPDATE posting SET at = ?2 WHERE at = ?1 AND withdrawn = 0"
 
 abbrev pub move_all_query : Query
-move_all_query = plain_query 10 (same (col 1 5) (col 0 0) ∷ same (col 1 6) (lit (Int (pos 0))) ∷ [])
+move_all_query = plain_query 8 (same (col 1 5) (col 0 0) ∷ same (col 1 6) (lit (Int (pos 0))) ∷ [])
     (posting_columns (col 0 1) (col 1 6)) []
 
-pub move_all_is : Means move_all_text (Update 6 (whole move_all_query))
+pub move_all_is : Means move_all_text (Update 5 (whole move_all_query))
 unfolding understood everything
 move_all_is = (refl, (refl, refl))
 
@@ -203,9 +203,9 @@ abbrev pub drop_hier_text : List ℕ
 drop_hier_text = codes "DELETE FROM hier WHERE a = ?1 AND b = ?2 AND typ = ?3"
 
 abbrev pub drop_hier_query : Query
-drop_hier_query = plain_query 8 (same (col 1 1) (col 0 0) ∷ same (col 1 2) (col 0 1) ∷ same (col 1 3) (col 0 2) ∷ [])
+drop_hier_query = plain_query 11 (same (col 1 1) (col 0 0) ∷ same (col 1 2) (col 0 1) ∷ same (col 1 3) (col 0 2) ∷ [])
     (col 1 0 ∷ []) []
 
-pub drop_hier_is : Means drop_hier_text (Delete 5 (whole drop_hier_query))
+pub drop_hier_is : Means drop_hier_text (Delete 7 (whole drop_hier_query))
 unfolding understood everything
 drop_hier_is = (refl, (refl, refl))

@@ -39,6 +39,11 @@ pub record Turns (From To : Database → Type 0) (old new : State) : Type 0 wher
   pub made : From old.now → To new.now
   pub inside : IsTrue new.in_transaction
 
+-- So it is, whichever tables it holds.
+pub record TurnsEach (From To : Tables → Database → Type 0) (old new : State) : Type 0 where
+  pub made : (t : Tables) → From t old.now → To t new.now
+  pub inside : IsTrue new.in_transaction
+
 -- Inside a transaction, over a disk that told no lie, a call that is done leads from the old state to the new like this.
 abbrev pub DoesInside : {S V E : Type 0} → Ghosts S → (State → State → Type 0) → MutBor (Held S) → MutBor (Held S)
     → Result V E → Type 0

@@ -32,9 +32,9 @@ tree_of table.Resource = 1
 tree_of table.Outside = 2
 tree_of table.Label = 4
 tree_of table.Link = 6
-tree_of table.Hier = 8
-tree_of table.Posting = 10
-tree_of table.Move = 12
+tree_of table.Hier = 11
+tree_of table.Posting = 8
+tree_of table.Move = 10
 
 abbrev pub places_of : Table → List ℕ
 places_of table.Meta = 0 ∷ 2 ∷ 3 ∷ []

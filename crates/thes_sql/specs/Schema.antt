@@ -96,10 +96,10 @@ index_of name table columns =
 
 -- postings by the concept at which they stand, and moves by their posting
 abbrev pub posting_at : Index
-posting_at = index_of (codes "posting_at") 10 (5 ∷ [])
+posting_at = index_of (codes "posting_at") 8 (5 ∷ [])
 
 abbrev pub move_posting : Index
-move_posting = index_of (codes "move_posting") 12 (2 ∷ [])
+move_posting = index_of (codes "move_posting") 10 (2 ∷ [])
 
 -- the schema after each of the ten texts that make it
 abbrev pub schema_0 : Schema
@@ -121,16 +121,16 @@ abbrev pub schema_5 : Schema
 schema_5 = created schema_4 link
 
 abbrev pub schema_6 : Schema
-schema_6 = created schema_5 hier
+schema_6 = created schema_5 posting
 
 abbrev pub schema_7 : Schema
-schema_7 = created schema_6 posting
+schema_7 = created schema_6 move
 
 abbrev pub schema_8 : Schema
-schema_8 = created schema_7 move
+schema_8 = created schema_7 hier
 
 abbrev pub schema_9 : Schema
-schema_9 = indexed schema_8 (record posting { tree = 10 }) posting_at
+schema_9 = indexed schema_8 (record posting { tree = 8 }) posting_at
 
 abbrev pub store_schema : Schema
-store_schema = indexed schema_9 (record move { tree = 12 }) move_posting
+store_schema = indexed schema_9 (record move { tree = 10 }) move_posting

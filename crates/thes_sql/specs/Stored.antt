@@ -122,10 +122,10 @@ pub record Hold (db : Trees) (t : Tables) : Type 0 where
   pub outside : HoldOutside t.outside (db 2)
   pub label : AreHidden label_values t.label (db 4)
   pub link : AreHidden link_values t.link (db 6)
-  pub hier : AreHidden hier_values t.hier (db 8)
-  pub posting : HoldPostings t.posting (db 10)
+  pub hier : AreHidden hier_values t.hier (db 11)
+  pub posting : HoldPostings t.posting (db 8)
   pub numbered : AreNumbered 1 t.posting
-  pub move : HoldMoves t.move (db 12)
+  pub move : HoldMoves t.move (db 10)
   pub spelled : AreSpelled t
 
 -- the database has the schema, and holds these tables

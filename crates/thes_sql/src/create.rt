@@ -3,17 +3,18 @@ ghost use Rattle.std.specs.Prelude.{◌≡◌, IfOk, IsTrue};
 ghost use Rattle.thes_rows.specs.Tables.{no_rows};
 ghost use Rattle.thes_sql.specs.Schema.{schema_0, store_schema};
 ghost use Rattle.thes_sql.specs.Stored.{Keeps, Hold};
-ghost use Rattle.thes_sql.specs.Does.{IsEmpty, Turns, DoesInside, StaysInside, IsOwnTransaction};
+ghost use Rattle.thes_sql.specs.Older.{old_schema, IsOldStore, IsEnlarged};
+ghost use Rattle.thes_sql.specs.Does.{IsEmpty, Turns, TurnsEach, DoesInside, StaysInside, IsOwnTransaction};
 ghost use Rattle.sqlite.specs.State.{HasCleanDisk, Survives};
 ghost use Rattle.sqlite.specs.Held.{state};
 
 use sqlite::{Alter, Connection, Error, Transaction, params};
 use thes_base::text::Base;
 
-// Makes the eight tables, and the indexes that find the postings at a place and the moves of a posting.
+// Makes the seven tables that a store of version 1 has, too.
 fn define_tables<S: Alter>(tx: &mut Transaction<'_, S>) -> Result<(), Error>
     ensures same_reference { tx.new.conn.ghost_name ≡ tx.old.conn.ghost_name }
-    ensures does { DoesInside S.Store (Turns (IsEmpty schema_0) (IsEmpty store_schema))
+    ensures does { DoesInside S.Store (Turns (IsEmpty schema_0) (IsEmpty old_schema))
         tx.old.conn tx.new.conn result }
     ensures stays { StaysInside S.Store tx.old.conn tx.new.conn }
 {
@@ -27,14 +28,27 @@ CREATE TABLE label (owner INTEGER NOT NULL, kind INTEGER NOT NULL, tag TEXT NOT 
 PRIMARY KEY (owner, kind, tag, text)) STRICT;\
 CREATE TABLE link (kind INTEGER NOT NULL, a INTEGER NOT NULL, b INTEGER NOT NULL, \
 PRIMARY KEY (kind, a, b)) STRICT;\
-CREATE TABLE hier (a INTEGER NOT NULL, b INTEGER NOT NULL, typ INTEGER NOT NULL, \
-PRIMARY KEY (a, b, typ)) STRICT;\
 CREATE TABLE posting (num INTEGER PRIMARY KEY, pkey TEXT NOT NULL UNIQUE, record TEXT NOT NULL, \
 first_at INTEGER NOT NULL, at INTEGER NOT NULL, withdrawn INTEGER NOT NULL) STRICT;\
 CREATE TABLE move (num INTEGER PRIMARY KEY, posting INTEGER NOT NULL, source INTEGER NOT NULL, \
-target INTEGER NOT NULL) STRICT;\
-CREATE INDEX posting_at ON posting (at);\
-CREATE INDEX move_posting ON move (posting);",
+target INTEGER NOT NULL) STRICT;",
+    )
+}
+
+/// Makes table hier, and the indexes that find the postings at a place and the moves of a posting.
+pub(crate) fn define_newer<S: Alter>(tx: &mut Transaction<'_, S>) -> Result<(), Error>
+    ensures same_reference { tx.new.conn.ghost_name ≡ tx.old.conn.ghost_name }
+    ensures does { DoesInside S.Store (Turns (IsEmpty old_schema) (IsEmpty store_schema))
+        tx.old.conn tx.new.conn result }
+    ensures renews { DoesInside S.Store (TurnsEach IsOldStore IsEnlarged) tx.old.conn tx.new.conn result }
+    ensures stays { StaysInside S.Store tx.old.conn tx.new.conn }
+{
+    tx.execute_batch(
+        "\
+CREATE TABLE hier (a INTEGER NOT NULL, b INTEGER NOT NULL, typ INTEGER NOT NULL, \
+PRIMARY KEY (a, b, typ)) STRICT;\
+CREATE INDEX IF NOT EXISTS posting_at ON posting (at);\
+CREATE INDEX IF NOT EXISTS move_posting ON move (posting);",
     )
 }
 
@@ -59,6 +73,7 @@ fn create_all<S: Alter>(tx: &mut Transaction<'_, S>, base: &Base) -> Result<(), 
     ensures stays { StaysInside S.Store tx.old.conn tx.new.conn }
 {
     define_tables(tx)?;
+    define_newer(tx)?;
     add_meta(tx, base)?;
     Ok(())
 }

@@ -3,6 +3,8 @@
 
 pub mod commit;
 pub mod create;
+pub mod migrate;
 pub mod reads;
 mod values;
+pub mod versions;
 mod writes;

@@ -103,7 +103,7 @@ raw_of db t h =
     h.label spelled.1.1.0 in
     let link = hidden_told (places_of table.Link) link_values link_cells (λ x. Unit {0}) (λ x _. refl) t.link (db 6)
     h.link (every t.link) in
-    let hier = hidden_told (places_of table.Hier) hier_values hier_cells (λ x. Unit {0}) (λ x _. refl) t.hier (db 8)
+    let hier = hidden_told (places_of table.Hier) hier_values hier_cells (λ x. Unit {0}) (λ x _. refl) t.hier (db 11)
     h.hier (every t.hier) in
     let posting = ap (picked (places_of table.Posting)) h.posting.rows
     ∙ map_back (places_of table.Posting) stored_posting posting_cells IsSpelledPosting posting_back t.posting spelled.1.1.1 in

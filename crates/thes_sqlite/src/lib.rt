@@ -6,4 +6,5 @@ mod finding;
 mod found;
 mod handing;
 pub mod keeper;
+pub mod migrating;
 mod rows;

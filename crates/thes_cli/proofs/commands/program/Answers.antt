@@ -13,4 +13,5 @@ returns c =
     let alphabetical = c.in_ok-subcommand-4.ensures.shape c.in_ok-display.ensures.local ∙ ap₂ with_subcommand export (ap top c.in_ok-display.ensures.app) in
     let hierarchical = c.in_ok-subcommand-5.ensures.shape c.in_ok-display-2.ensures.local ∙ ap₂ with_subcommand alphabetical (ap top c.in_ok-display-2.ensures.app) in
     let serve = c.in_ok-subcommand-6.ensures.shape c.in_ok-serve.ensures.local ∙ ap₂ with_subcommand hierarchical (ap top c.in_ok-serve.ensures.app) in
-    IfOk-weaker c.subcommand-7.result _ _ (λ r added. added.shape c.command-3.ensures.local ∙ ap₂ with_subcommand serve (ap top c.command-3.ensures.app)) c.subcommand-7.ensures
+    let check = c.in_ok-subcommand-7.ensures.shape c.command-3.ensures.local ∙ ap₂ with_subcommand serve (ap top c.command-3.ensures.app) in
+    IfOk-weaker c.subcommand-8.result _ _ (λ r added. added.shape c.command-4.ensures.local ∙ ap₂ with_subcommand check (ap top c.command-4.ensures.app)) c.subcommand-8.ensures

@@ -1,0 +1,67 @@
+//! A store of version 1, made one of version 2.
+ghost use Rattle.std.specs.Prelude.{◌≡◌, false};
+ghost use Rattle.thes_base.specs.Pipe.{IsFresh};
+ghost use Rattle.thes_cli.specs.Migrating.{MakesDatabase, MigratesDatabase, version_line};
+ghost use Rattle.thes_cli.specs.Parting.{PrintsText};
+
+use crate::ending::{print_out, tell_of};
+use crate::stores::fault_of;
+use sqlite::{Alter, Connection};
+use std::alloc::Global;
+use std::io::Write;
+use thes_base::pipe::Pipe;
+use thes_base::text::Base;
+use thes_sql::create::create_tables;
+use thes_sqlite::migrating::migrate;
+
+/// Tells the version that a store then has, and returns the exit status.
+pub fn tell_version<W: Write, E: Write>(output: &mut Pipe<W>, errors: &mut Pipe<E>) -> u8
+    requires output { IsFresh output.old }
+    requires errors { IsFresh errors.old }
+    ensures { PrintsText W.contents E.contents output.old output.new errors.old errors.new
+        version_line result }
+{
+    print_out(output, errors, "version 2\n".as_bytes())
+}
+
+/// Makes the store in a database one of version 2, or tells why it stays as it is; and returns the exit status with the
+/// connection.
+pub fn migrate_in_database<S: Alter, W: Write, E: Write>(
+    alloc: Global,
+    file: &str,
+    mut conn: Connection<S>,
+    output: &mut Pipe<W>,
+    errors: &mut Pipe<E>,
+) -> (u8, Connection<S>)
+    requires idle { conn.in_transaction ≡ false }
+    requires output { IsFresh output.old }
+    requires errors { IsFresh errors.old }
+    ensures { MigratesDatabase W.contents E.contents output.old output.new errors.old errors.new
+        S.Store file.now conn result.0 result.1 }
+{
+    match migrate(alloc, &mut conn) {
+        Ok(_) => (tell_version(output, errors), conn),
+        Err(fault) => (tell_of(alloc, errors, file, fault), conn),
+    }
+}
+
+/// Makes a new store with this base, in a database that has no tables yet, and tells its version.
+pub fn make_in_new_database<S: Alter, W: Write, E: Write>(
+    alloc: Global,
+    file: &str,
+    mut conn: Connection<S>,
+    base: &Base,
+    output: &mut Pipe<W>,
+    errors: &mut Pipe<E>,
+) -> (u8, Connection<S>)
+    requires idle { conn.in_transaction ≡ false }
+    requires output { IsFresh output.old }
+    requires errors { IsFresh errors.old }
+    ensures { MakesDatabase W.contents E.contents output.old output.new errors.old errors.new
+        S.Store file.now base.now conn result.0 result.1 }
+{
+    match create_tables(&mut conn, base) {
+        Ok(_) => (tell_version(output, errors), conn),
+        Err(error) => (tell_of(alloc, errors, file, fault_of(error)), conn),
+    }
+}
