@@ -2,7 +2,6 @@
 ghost use Rattle.std.specs.Prelude.{◌≡◌, false};
 ghost use Rattle.thes_base.specs.Pipe.{IsFresh};
 
-use crate::store::{invalid, machine_after};
 use std::alloc::{AllocError, Global};
 use std::io;
 use std::io::Write;
@@ -11,8 +10,8 @@ use thes_base::number::ResNo;
 use thes_base::pipe::Pipe;
 use thes_base::text::Tag;
 use thes_core::Core;
+use thes_desks::{Store, invalid, store_after};
 use thes_display::shown::{Shown, alphabetical, hierarchical};
-use thes_machine::Machine;
 
 /// Requests, the words of a display, and the display that is stored for them.
 #[derive(Drop)]
@@ -50,14 +49,6 @@ fn push_requests(requests: &mut String, lines: &str) -> Result<(), AllocError> {
         }
     }
     Ok(())
-}
-
-// The core of a machine, and nothing of its state.
-fn core_of(machine: &Machine) -> &Core
-    requires { machine.now.spent ≡ false }
-    ensures { result.now.spent ≡ false }
-{
-    machine.core()
 }
 
 // Each display stands in a function of its own, which promises nothing of it: a proof that meets its contract takes long.
@@ -104,15 +95,28 @@ fn text_in(alloc: Global, kind: &str, core: &Core, scheme: ResNo, tag: &Tag) -> 
     }
 }
 
-/// Makes the display of an example, or says by what name it is refused. The machine ends by one call: a function in which it
-/// ended at each way out took two minutes to prove.
+// The text of the display of a store.
+fn text_of(
+    alloc: Global,
+    kind: &str,
+    store: &mut Store,
+    scheme: ResNo,
+    tag: &Tag,
+) -> io::Result<String> {
+    match store.office.ready() {
+        Ok(core) => text_in(alloc, kind, core, scheme, tag),
+        Err(_) => Err(invalid()),
+    }
+}
+
+/// Makes the display of an example, or says by what name it is refused.
 pub fn show(alloc: Global, example: &Example) -> io::Result<String> {
     let mut words = example.words.split(' ');
     let kind = words.next().unwrap_or("");
     let scheme = ResNo::read(words.next().unwrap_or("")).map_err(|_| invalid())?;
     let tag = Tag::read(alloc, words.next().unwrap_or("")).map_err(|_| invalid())?;
-    let machine = machine_after(alloc, example.requests.as_str())?;
-    let text = text_in(alloc, kind, core_of(&machine), scheme, &tag);
-    drop(machine);
+    let mut store = store_after(alloc, example.requests.as_str())?;
+    let text = text_of(alloc, kind, &mut store, scheme, &tag);
+    drop(store);
     text
 }

@@ -3,7 +3,6 @@
 #![tactic(auto)]
 
 mod example;
-mod store;
 
 use crate::example::{Example, show};
 use std::alloc::Global;

@@ -9,4 +9,3 @@ pub mod ScriptLemmas
 pub mod ViewLemmas
 pub mod ListingLemmas
 pub mod ConceptLemmas
-pub mod CoreLemmas

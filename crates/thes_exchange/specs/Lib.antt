@@ -13,4 +13,4 @@ pub mod Listing
 pub mod ConceptMembers
 pub mod ViewOf
 pub mod Laws
-pub mod CoreDesk
+pub mod Viewing

@@ -3,7 +3,6 @@
 
 pub mod answer;
 pub mod concept;
-pub mod core_desk;
 pub mod desk;
 mod feed;
 pub mod laws;

@@ -4,34 +4,33 @@
 
 ghost use Rattle.std.specs.Prelude.{◌≡◌, false};
 
-mod store;
-
-use crate::store::machine_after;
 use std::alloc::Global;
 use std::rt::HostRuntime;
 use std::{env, fs, io};
 use thes_base::number::ResNo;
 use thes_base::pipe::Pipe;
+use thes_core::Core;
+use thes_desks::{Store, invalid, store_after};
 use thes_export::written::export;
-use thes_machine::Machine;
 
-// Writes the export of a machine.
-fn write_export<W: io::Write + Drop>(alloc: Global, machine: &Machine, device: W) -> io::Result<()>
-    requires { machine.now.spent ≡ false }
+// Writes the export of what a core holds.
+fn write_export<W: io::Write + Drop>(alloc: Global, core: &Core, device: W) -> io::Result<()>
+    requires { core.now.spent ≡ false }
 {
     let mut writer = Pipe::new(device);
-    match export(alloc, machine.core(), &mut writer) {
+    match export(alloc, core, &mut writer) {
         Ok(()) => Ok(()),
-        Err(_) => Err(store::invalid()),
+        Err(_) => Err(invalid()),
     }
 }
 
-// Writes the export of a machine so many times.
-fn write_exports(rt: &HostRuntime, alloc: Global, machine: &Machine, count: u32) -> io::Result<()>
-    requires { machine.now.spent ≡ false }
-{
+// Writes the export of a store so many times.
+fn write_exports(rt: &HostRuntime, alloc: Global, store: &mut Store, count: u32) -> io::Result<()> {
     for _ in 0..count {
-        write_export(alloc, machine, rt.stdout())?;
+        match store.office.ready() {
+            Ok(core) => write_export(alloc, core, rt.stdout())?,
+            Err(_) => return Err(invalid()),
+        }
     }
     Ok(())
 }
@@ -45,9 +44,9 @@ fn main(rt: HostRuntime) -> io::Result<()> {
     };
     for name in words {
         let requests = fs::read_to_string(&rt, name.as_str())?;
-        let machine = machine_after(alloc, requests.as_str())?;
-        let written = write_exports(&rt, alloc, &machine, count);
-        drop(machine);
+        let mut store = store_after(alloc, requests.as_str())?;
+        let written = write_exports(&rt, alloc, &mut store, count);
+        drop(store);
         written?;
     }
     Ok(())

@@ -5,11 +5,8 @@ use std::io::Write;
 use std::str;
 use thes_base::data::Limits;
 use thes_base::fault::{Fault, PipeFault};
-use thes_base::pipe::Pipe;
-use thes_base::text::Base;
-use thes_exchange::core_desk::core_script;
+use thes_desks::Store;
 use thes_exchange::script::Ended;
-use thes_machine::Machine;
 
 static REQUESTS: &str = r#"{"do":"scheme","tag":"en","text":"Animals"}
 {"do":"concept","scheme":1,"tag":"en","text":"Cats"}
@@ -63,6 +60,23 @@ static ANSWERS: &str = r#"{"ok":1}
 {"accepted":4,"standing":3,"withdrawn":1}
 "#;
 
+// What is asked of a store that was closed and opened again.
+static VIEWS: &str = r#"{"get":"totals"}
+{"get":"concept","number":2}
+{"get":"concept","number":3}
+{"get":"concept","number":4}
+{"get":"concept","number":6}
+{"get":"concept","number":7}
+{"get":"postings","concept":2}
+{"get":"postings","concept":3}
+{"get":"postings","concept":6}
+{"get":"postings","concept":7}
+{"get":"posting","number":1}
+{"get":"posting","number":2}
+{"get":"posting","number":3}
+{"get":"posting","number":4}
+"#;
+
 const FAULT: &str = "{\"fault\":\"OutOfMemory\"}";
 
 /// What became of a run of the script.
@@ -76,16 +90,24 @@ pub enum Outcome {
     Wrong,
 }
 
-// What is written for requests in a new store, and how the script ended.
-fn answer<W: Write>(alloc: Global, requests: &str, answers: W) -> (W, Result<Ended, PipeFault>) {
-    let Ok(base) = Base::read(alloc, "https://thesaurus.example/id/") else {
-        return (answers, Err(PipeFault::Fault(Fault::OutOfMemory)));
+// What is written for requests in a new store, how the script ended, and the store, if it was made.
+fn answer<W: Write>(
+    alloc: Global,
+    requests: &str,
+    answers: W,
+) -> (Option<Store>, W, Result<Ended, PipeFault>) {
+    let Ok(store) = Store::new(alloc, Limits::default()) else {
+        return (None, answers, Err(PipeFault::Fault(Fault::OutOfMemory)));
     };
-    let mut machine = Machine::new(alloc, base, Limits::default());
-    let mut reader = Pipe::new(requests.as_bytes());
-    let mut writer = Pipe::new(answers);
-    let ended = core_script(alloc, &mut reader, &mut writer, &mut machine);
-    (writer.into_device(), ended)
+    let (store, written, ended) = store.serve(alloc, requests.as_bytes(), answers);
+    (Some(store), written, ended)
+}
+
+// What a store shows that is closed, and opened again.
+fn views(alloc: Global, store: Option<Store>) -> Option<Vec<u8>> {
+    let store = store?.reopened(alloc, Limits::default()).ok()?;
+    let (_store, written, _) = store.serve(alloc, VIEWS.as_bytes(), Vec::new(alloc));
+    Some(written)
 }
 
 // The script's requests that were answered otherwise than by the fault, and their answers.
@@ -103,32 +125,43 @@ fn performed(alloc: Global, written: &str) -> Result<(String, String), AllocErro
     Ok((requests, answers))
 }
 
-// Whether the requests that were performed are answered in the same way where no others are made.
-fn is_kept(alloc: Global, written: &str) -> Result<bool, AllocError> {
+// Whether the requests that were performed are answered in the same way where no others are made, and leave the same tables.
+fn is_kept(alloc: Global, written: &str, store: Option<Store>) -> Result<bool, AllocError> {
     let (requests, answers) = performed(alloc, written)?;
-    let (again, _) = answer(alloc, requests.as_str(), Vec::new(alloc));
-    Ok(again.as_slice() == answers.as_bytes())
+    let (other, again, _) = answer(alloc, requests.as_str(), Vec::new(alloc));
+    if store.is_none() {
+        return Ok(written.is_empty());
+    }
+    let (Some(shown), Some(wanted)) = (views(alloc, store), views(alloc, other)) else {
+        return Ok(false);
+    };
+    Ok(again.as_slice() == answers.as_bytes() && shown == wanted)
 }
 
-// Whether a script that ran out of memory ended as it should: with each request answered, or with the one that closed the store.
+// Whether a script that ran out of memory ended as it should: with each request answered, or before the first one.
 fn is_ended(written: &str, ended: &Result<Ended, PipeFault>) -> bool {
     match ended {
         Ok(ended) => {
             ended.fault == Some(Fault::OutOfMemory)
                 && written.lines().count() == ANSWERS.lines().count()
         }
-        Err(fault) => *fault == PipeFault::Fault(Fault::OutOfMemory),
+        Err(fault) => written.is_empty() && *fault == PipeFault::Fault(Fault::OutOfMemory),
     }
 }
 
 // What became of a script for which this was written.
-fn judge(alloc: Global, written: &str, ended: &Result<Ended, PipeFault>) -> Outcome {
+fn judge(
+    alloc: Global,
+    written: &str,
+    ended: &Result<Ended, PipeFault>,
+    store: Option<Store>,
+) -> Outcome {
     if written == ANSWERS && ended.is_ok_and(|ended| ended.fault.is_none()) {
         return Outcome::Granted;
     }
     // Before the first line nothing is answered.
     let is_refused = written.is_empty() || written.contains(FAULT);
-    if is_refused && is_ended(written, ended) && is_kept(alloc, written).unwrap_or(false) {
+    if is_refused && is_ended(written, ended) && is_kept(alloc, written, store).unwrap_or(false) {
         return Outcome::Refused;
     }
     Outcome::Wrong
@@ -136,9 +169,9 @@ fn judge(alloc: Global, written: &str, ended: &Result<Ended, PipeFault>) -> Outc
 
 /// Runs the script in a new store.
 pub fn serve(alloc: Global) -> Outcome {
-    let (page, ended) = answer(alloc, REQUESTS, Page::new());
+    let (store, page, ended) = answer(alloc, REQUESTS, Page::new());
     match str::from_utf8(page.as_bytes()) {
-        Ok(written) => judge(alloc, written, &ended),
+        Ok(written) => judge(alloc, written, &ended, store),
         Err(_) => Outcome::Wrong,
     }
 }

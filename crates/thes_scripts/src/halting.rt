@@ -1,11 +1,11 @@
 //! Scripts whose reader or writer fails in mid-stream, at each of its calls in turn.
-use crate::store::{Store, text_of};
 use crate::stored::{Stored, push_line};
-use crate::ways::ended_text;
+use crate::ways::{ended_text, text_of};
 use Failing::{FullWriter, Reader, Writer};
 use std::alloc::{AllocError, Global};
 use std::io;
 use thes_base::fault::PipeFault;
+use thes_desks::Store;
 use thes_devices::{Filling, Halting};
 use thes_exchange::script::Ended;
 
@@ -90,21 +90,21 @@ fn first_wrong(alloc: Global, stored: &Stored, failing: Failing) -> io::Result<O
 }
 
 fn fate_after(alloc: Global, stored: &Stored, failing: Failing, calls: u32) -> io::Result<Fate> {
-    let mut store = Store::new(alloc, stored.limits)?;
-    let fate = fate_in(alloc, &mut store, stored, failing, calls);
-    drop(store);
-    fate
+    let store = Store::new(alloc, stored.limits)?;
+    let reader = failing.reader(stored.requests.as_str(), calls);
+    let (store, writer, ended) = store.serve(alloc, reader, failing.writer(alloc, calls));
+    fate_of(alloc, store, stored, failing, writer, ended)
 }
 
-fn fate_in(
+// What became of a script for which this was written, and which ended so.
+fn fate_of(
     alloc: Global,
-    store: &mut Store,
+    store: Store,
     stored: &Stored,
     failing: Failing,
-    calls: u32,
+    writer: Filling,
+    ended: Result<Ended, PipeFault>,
 ) -> io::Result<Fate> {
-    let reader = failing.reader(stored.requests.as_str(), calls);
-    let (writer, ended) = store.serve(alloc, reader, failing.writer(alloc, calls));
     let written = text_of(writer.bytes)?;
     if ended.is_ok() {
         return whole(written, ended, stored.answers.as_str());
@@ -124,15 +124,14 @@ fn whole(written: String, ended: Result<Ended, PipeFault>, wanted: &str) -> io::
 }
 
 // Has the store answer the requests behind those that were performed.
-fn resumed(
-    alloc: Global,
-    store: &mut Store,
-    stored: &Stored,
-    performed: usize,
-) -> io::Result<Fate> {
+fn resumed(alloc: Global, store: Store, stored: &Stored, performed: usize) -> io::Result<Fate> {
     let requests = behind(alloc, stored.requests.as_str(), performed)?;
     let wanted = behind(alloc, stored.answers.as_str(), performed)?;
-    let (written, ended) = store.serve(alloc, requests.as_str().as_bytes(), Vec::new(alloc));
+    let (_store, written, ended) = store.serve(
+        alloc,
+        requests.as_str().as_bytes(),
+        Vec::new(alloc),
+    );
     if ended_text(text_of(written)?, ended)? == wanted {
         return Ok(Fate::Resumed);
     }

@@ -1,12 +1,13 @@
 //! Scripts as lists of requests.
-use crate::store::{Store, text_of};
 use crate::stored::Stored;
+use crate::ways::text_of;
 use std::alloc::{AllocError, Global};
 use std::io;
 use std::io::ErrorKind;
+use thes_base::request::{Answer, Command};
+use thes_desks::Store;
 use thes_exchange::answer::{Reply, reply_line};
 use thes_exchange::request::{Memory, Request, read_request};
-use thes_machine::{Answer, Command};
 
 /// The answers of a new store that performs the requests of a script in one call. Each must be a command.
 pub fn list_answers(alloc: Global, stored: &Stored) -> io::Result<String> {

@@ -6,7 +6,6 @@ mod desk;
 mod halting;
 mod list;
 mod lookups;
-mod store;
 mod stored;
 mod ways;
 

@@ -2,11 +2,12 @@
 use crate::desk::Teller;
 use crate::halting::halting_answers;
 use crate::list::list_answers;
-use crate::store::{Store, text_of};
+use crate::lookups::look_up;
 use crate::stored::{Stored, Way, push_line};
 use std::alloc::{AllocError, Global};
 use std::io;
 use thes_base::fault::PipeFault;
+use thes_desks::Store;
 use thes_exchange::script::Ended;
 
 /// Runs a stored script. Returns its answers, and what its look-ups tell. Where it did not end as its answers say, a line
@@ -23,18 +24,25 @@ pub fn run(alloc: Global, stored: &Stored) -> io::Result<String> {
 // The answers of a new store, and what is looked up in it then. The store ends here, by one call, since a function in which it
 // ended at each `?` would take a minute to prove.
 fn script_answers(alloc: Global, stored: &Stored) -> io::Result<String> {
-    let mut store = Store::new(alloc, stored.limits)?;
-    let answers = answers_of(alloc, &mut store, stored);
+    let store = Store::new(alloc, stored.limits)?;
+    let requests = stored.requests.as_str().as_bytes();
+    let (mut store, written, ended) = store.serve(alloc, requests, Vec::new(alloc));
+    let answers = told_behind(alloc, &mut store, stored, written, ended);
     drop(store);
     answers
 }
 
-fn answers_of(alloc: Global, store: &mut Store, stored: &Stored) -> io::Result<String> {
-    let requests = stored.requests.as_str().as_bytes();
-    let (written, ended) = store.serve(alloc, requests, Vec::new(alloc));
+// The answers that were written, and behind them what is looked up.
+fn told_behind(
+    alloc: Global,
+    store: &mut Store,
+    stored: &Stored,
+    written: Vec<u8>,
+    ended: Result<Ended, PipeFault>,
+) -> io::Result<String> {
     let mut answers = ended_text(text_of(written)?, ended)?;
     for words in stored.lookups.as_str().lines() {
-        let told = store.look_up(alloc, words);
+        let told = look_up(alloc, store, words);
         push_told(&mut answers, &told)?;
     }
     Ok(answers)
@@ -70,4 +78,9 @@ pub fn ended_text(mut answers: String, ended: Result<Ended, PipeFault>) -> io::R
 
 fn is_refusal(answer: &str) -> bool {
     answer.starts_with(r#"{"no""#) || answer.starts_with(r#"{"bad""#)
+}
+
+/// The text of bytes.
+pub fn text_of(bytes: Vec<u8>) -> io::Result<String> {
+    String::from_utf8(bytes).map_err(|_| io::Error::from(io::ErrorKind::InvalidData))
 }

@@ -24,7 +24,7 @@ use Rattle.thes_exchange.specs.declared.desk.Viewed.{Viewed}
 use Rattle.thes_exchange.specs.declared.desk.Viewed.TheVariants as viewed
 use Rattle.thes_exchange.specs.declared.request.Query.TheVariants as asked
 use Rattle.thes_exchange.specs.declared.view.View.TheVariants as views
-use Rattle.thes_exchange.specs.CoreDesk.{IsViewed}
+use Rattle.thes_exchange.specs.Viewing.{IsViewed}
 use Rattle.thes_exchange.specs.Listing.{entries}
 use Rattle.thes_exchange.specs.ViewTexts.{entry_data, line_text, listing_data, postings_data}
 use Rattle.thes_service.specs.Desk.{OfficeShows}

@@ -8,7 +8,7 @@ use Rattle.thes_office.specs.Asks.{InShown}
 use Rattle.thes_office.specs.Office.{Goes, GoesOn, Kept, Performed, Same}
 use Rattle.thes_exchange.specs.declared.desk.Viewed.{Viewed}
 use Rattle.thes_exchange.specs.declared.request.Query.{Query}
-use Rattle.thes_exchange.specs.CoreDesk.{IsViewed}
+use Rattle.thes_exchange.specs.Viewing.{IsViewed}
 use Rattle.thes_exchange.specs.Serving.{Serving, Serves}
 
 -- An office may be asked at any time: what it runs out of, it loads again.

@@ -2,7 +2,7 @@
 ghost use Rattle.std.specs.Prelude.{◌≡◌, false, Ok, IfOk};
 ghost use Rattle.thes_base.specs.State.{State};
 ghost use Rattle.thes_core.specs.Kept.{Holds};
-ghost use Rattle.thes_exchange.specs.CoreDesk.{IsViewed};
+ghost use Rattle.thes_exchange.specs.Viewing.{IsViewed};
 ghost use Rattle.thes_service.specs.Desk.{OfficeShows};
 
 use crate::rows::Rows;

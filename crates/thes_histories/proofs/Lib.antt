@@ -1,5 +1,0 @@
-pub mod HistoryLemmas
-pub mod IndexLemmas
-pub mod KeyLemmas
-pub mod RisingLemmas
-pub mod StandingLemmas

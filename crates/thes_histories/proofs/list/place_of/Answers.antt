@@ -1,6 +1,0 @@
-use Rattle.std.proofs.Common.{sym}
-use Rattle.thes_histories.proofs.HistoryLemmas.{led_last}
-use Rattle.thes_histories.proofs.list.place_of.Goals as goal
-
-pub returns-in-Some : goal.returns-in-Some
-returns-in-Some c = sym (led_last c.args.history.now.first c.args.history.now.moves c.in-Some.step.now (rw (← c.as_slice.ensures) (sym c.in-Some.ensures.value)))

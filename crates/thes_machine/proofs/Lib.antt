@@ -1,4 +1,0 @@
-pub mod RoomLemmas
-pub mod HeldLemmas
-pub mod RunLemmas
-pub mod ShownLemmas
