@@ -19,7 +19,7 @@ pub trait Form {
     /// The fault of a text that lacks the form.
     const FAULT: FormFault;
 
-    /// Whether texts of the form are kept with their ASCII letters in lower case.
+    /// Tells whether texts of the form are kept with their ASCII letters in lower case.
     const LOWERED: bool;
 
     /// Checks whether a text has the form. If it does, so does the text as it is kept.

@@ -10,7 +10,7 @@ use std::io;
 use std::io::{ErrorKind, Read, Write};
 use std::marker::Model;
 
-/// How many reads and writes the call of an engine may still make, all its pipes together.
+/// The reads and writes that the call of an engine may still make, all its pipes together.
 #[derive(Drop)]
 pub struct Budget {
     left: u32,
@@ -25,7 +25,7 @@ impl Model for Budget {
 }
 
 impl Budget {
-    /// The budget of one call.
+    /// Makes the budget of one call.
     pub fn new() -> Budget
         ensures { result ≡ calls_limit }
     {
@@ -45,7 +45,7 @@ pub struct Pipe<T> {
     calls: u64,
 }
 
-/// Why a pipe gave up.
+/// The reason why a pipe stopped.
 #[derive(Clone, Copy, Debug, PartialEq, Eq)]
 pub enum Stop {
     /// The device failed.
@@ -84,7 +84,7 @@ fn is_failure(error: &io::Error) -> bool
 }
 
 impl<T> Pipe<T> {
-    /// A pipe of which nothing is noted yet.
+    /// Makes a pipe of which nothing is noted yet.
     pub fn new(device: T) -> Pipe<T>
         ensures device { device_of result ≡ device }
         ensures fresh { IsFresh result }
@@ -99,35 +99,35 @@ impl<T> Pipe<T> {
         }
     }
 
-    /// Whether the device failed.
+    /// Tells whether the device failed.
     pub fn failed(&self) -> bool
         ensures { result ≡ failed_of self.now }
     {
         self.failed
     }
 
-    /// Whether a read told the end of the input.
+    /// Tells whether a read told the end of the input.
     pub fn ended(&self) -> bool
         ensures { result ≡ ended_of self.now }
     {
         self.ended
     }
 
-    /// Whether a read or a write was one too many for the budget of a call, and so wasn't made.
+    /// Tells whether a read or a write was one too many for the budget of a call, and so wasn't made.
     pub fn denied(&self) -> bool
         ensures { result ≡ denied_of self.now }
     {
         self.denied
     }
 
-    /// How many reads or writes were made. The number stays at 18,446,744,073,709,551,615.
+    /// Counts the reads or writes that were made. The count stays at 18,446,744,073,709,551,615.
     pub fn calls(&self) -> u64
         ensures { result ≡ calls_of self.now }
     {
         self.calls
     }
 
-    /// The reader or writer back.
+    /// Gives the reader or writer back.
     pub fn into_device(self) -> T
         ensures { result ≡ device_of self }
     {
@@ -137,7 +137,7 @@ impl<T> Pipe<T> {
 }
 
 impl<R: Read> Pipe<R> {
-    /// One read of the device.
+    /// Reads from the device, by one call.
     pub fn read_once(&mut self, budget: &mut Budget, buf: &mut [u8]) -> io::Result<usize>
         requires room { 0 < length buf.old }
         requires left { 0 < budget.old }
@@ -198,7 +198,7 @@ impl<R: Read> Pipe<R> {
 }
 
 impl<W: Write> Pipe<W> {
-    /// One write to the device.
+    /// Writes to the device, by one call.
     pub fn write_once(&mut self, budget: &mut Budget, bytes: &[u8]) -> io::Result<usize>
         requires some { 0 < length bytes.now }
         requires left { 0 < budget.old }

@@ -54,7 +54,7 @@ fn fault_line(fault: PipeFault) -> Line
     line
 }
 
-/// The line of a refusal.
+/// Makes the line of a refusal.
 pub fn refusal_line(refusal: Refusal) -> Line
     ensures { result ≡ showing.refusal_line refusal }
 {
@@ -64,7 +64,7 @@ pub fn refusal_line(refusal: Refusal) -> Line
     line
 }
 
-/// The line of a form's fault.
+/// Makes the line of a form's fault.
 pub fn form_line(fault: FormFault) -> Line
     ensures { result ≡ parting.form_line fault }
 {
@@ -74,7 +74,7 @@ pub fn form_line(fault: FormFault) -> Line
     line
 }
 
-/// The line that tells how many rows of an import were new, again and refused.
+/// Makes the line that tells how many rows of an import were new, again and refused.
 pub fn counts_line(counts: Counts) -> ArrayString<96>
     ensures { result.bytes ≡ ends.counts_line counts }
 {

@@ -19,7 +19,7 @@ pub struct Screen<'a, R> {
 }
 
 impl<'a, R: Clock + Eprint> Screen<'a, R> {
-    /// A screen for work that begins now, unless the clock fails.
+    /// Makes a screen for work that begins now, unless the clock fails.
     pub fn new(rt: &'a R, is_import: bool) -> Option<Screen<'a, R>> {
         match Instant::now(rt) {
             Ok(last) => Some(Screen {

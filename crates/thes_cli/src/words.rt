@@ -38,7 +38,7 @@ pub struct Serving {
     pub count: u32,
 }
 
-/// What is done with a store.
+/// A task to do with a store.
 #[derive(Debug, Drop)]
 pub enum Task {
     /// Answers a script.
@@ -57,7 +57,7 @@ pub enum Task {
     Migrate,
 }
 
-/// What the words of the command line ask for.
+/// The job that the words of the command line ask for.
 #[derive(Debug, Drop)]
 pub struct Job {
     pub task: Task,
@@ -67,7 +67,7 @@ pub struct Job {
     pub base: Base,
 }
 
-/// Why the words of the command line ask for nothing to be done.
+/// The reason why the words of the command line ask for nothing to be done.
 #[derive(Debug, Drop)]
 pub enum Parting {
     /// Help, or the version, was asked for. This is its text.
@@ -118,7 +118,7 @@ impl From<IoError> for Parting {
 }
 
 impl Parting {
-    /// The program's exit status.
+    /// Returns the program's exit status.
     pub fn status(&self) -> u8
         ensures { result ≡ parting_status self.now }
     {
@@ -246,7 +246,7 @@ fn job_of(alloc: Global, options: &ArgMatches<'_>) -> Result<Job, Parting>
     }
 }
 
-/// What the words ask for, the program's name first.
+/// Plans what the words ask for, of which the first is the program's name.
 pub fn plan(alloc: Global, words: &[String]) -> Result<Job, Parting>
     ensures { Plans (map string_bytes words.now) result }
 {
@@ -257,7 +257,7 @@ pub fn plan(alloc: Global, words: &[String]) -> Result<Job, Parting>
     }
 }
 
-/// What the arguments of the process ask for.
+/// Plans what the arguments of the process ask for.
 pub fn plan_args(alloc: Global, args: Args) -> Result<Job, Parting>
     ensures { Plans (map string_bytes (into_iter_items args)) result }
 {

@@ -24,7 +24,7 @@ use thes_store::mem::MemKeeper;
 use thes_watch::progress::Progress;
 use thes_watch::watched::Watched;
 
-/// What is done over a store.
+/// A task with the file or the socket that it names opened.
 #[derive(Drop)]
 pub enum Work<F, L> {
     /// Answers a script.

@@ -13,7 +13,7 @@ use thes_base::fault::Refusal;
 use thes_base::number::ResNo;
 use thes_vocab::Vocab;
 
-/// Whether labels may be given to this resource, or taken from it.
+/// Judges whether labels may be given to this resource, or taken from it.
 pub fn judge_owner(vocab: &Vocab, owner: ResNo) -> Option<Refusal>
     ensures { unless_owner vocab.now.resources owner accepted result }
 {
@@ -29,7 +29,7 @@ pub fn judge_owner(vocab: &Vocab, owner: ResNo) -> Option<Refusal>
     None
 }
 
-/// Whether this is a live concept.
+/// Judges whether this is a live concept.
 pub fn judge_live_concept(vocab: &Vocab, concept: ResNo) -> Option<Refusal>
     ensures { unless_live_concept vocab.now.resources concept accepted result }
 {
@@ -45,7 +45,7 @@ pub fn judge_live_concept(vocab: &Vocab, concept: ResNo) -> Option<Refusal>
     None
 }
 
-/// Whether this is a concept whose replacements lead to a live one, here `place`.
+/// Judges whether this is a concept whose replacements lead to a live one, here `place`.
 pub fn judge_forwarded(vocab: &Vocab, concept: ResNo, place: ResNo) -> Option<Refusal>
     requires { place ≡ end_of concept (replacements vocab.now.resources concept) }
     ensures { unless_forwarded vocab.now.resources concept accepted result }
@@ -62,7 +62,7 @@ pub fn judge_forwarded(vocab: &Vocab, concept: ResNo, place: ResNo) -> Option<Re
     None
 }
 
-/// Whether these are two live concepts of one scheme.
+/// Judges whether these are two live concepts of one scheme.
 pub fn judge_pair(vocab: &Vocab, source: ResNo, target: ResNo) -> Option<Refusal>
     ensures { unless_pair vocab.now.resources source target accepted result }
 {
@@ -136,7 +136,7 @@ fn have_schemes(form: LinkForm, a: &Resource, b: &Resource) -> bool
     }
 }
 
-/// Whether a link may join these two, by its kind.
+/// Judges whether a link may join these two, by its kind.
 pub fn judge_ends(vocab: &Vocab, link: &Link) -> Option<Refusal>
     ensures { unless_ends vocab.now.resources link.now accepted result }
 {

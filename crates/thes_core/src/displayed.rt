@@ -1,4 +1,4 @@
-//! What displays ask of a core. None may be asked of a spent one.
+//! What displays ask of a core, which must not be spent.
 ghost use Rattle.std.specs.Prelude.{◌≡◌, ◌↔◌, ℕ, false, string_bytes, IfOk};
 ghost use Rattle.std.specs.Ordering.{nat_cmp};
 ghost use Rattle.thes_base.specs.declared.data.LinkKind.{LinkKind as Kind};

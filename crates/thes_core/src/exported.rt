@@ -6,7 +6,8 @@ use thes_base::data::Resource;
 use thes_base::text::Base;
 
 impl Core {
-    /// What the IRIs of the resources begin with, but for those of outside concepts.
+    /// Returns the base, with which the IRIs of the resources begin, but for those of outside
+    /// concepts.
     pub fn base(&self) -> &Base
         requires { self.now.spent ≡ false }
         ensures { result.now ≡ self.now.setting.base }
@@ -14,7 +15,7 @@ impl Core {
         self.thesaurus.vocab.base()
     }
 
-    /// All resources: number n stands at the place n - 1.
+    /// Lists all resources: number n stands at the place n - 1.
     pub fn resources(&self) -> &[Resource]
         requires { self.now.spent ≡ false }
         ensures all { result.now ≡ self.now.resources }

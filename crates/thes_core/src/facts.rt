@@ -7,7 +7,7 @@ use std::alloc::Global;
 use thes_base::number::PostNo;
 use thes_rows::rows::PostingRow;
 
-/// What a request has to be told of postings before it can be decided.
+/// Facts that a request has to be told of postings before it can be decided.
 #[derive(Debug, Drop)]
 pub struct Facts {
     /// For a Post, the posting of its key, if there is one.

@@ -1,4 +1,4 @@
-//! The machine in memory: what each request is answered with, and the state that it leaves.
+//! The machine over a vocabulary, links and sums of postings: the answer to each request, and the state that it leaves.
 #![tactic(auto)]
 
 mod arguments;

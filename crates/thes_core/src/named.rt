@@ -23,7 +23,7 @@ pub fn count_named(postings: &[PostNo]) -> u32
     }
 }
 
-/// What refuses that the posting named is withdrawn.
+/// Judges whether the posting named can be withdrawn.
 pub fn judge_withdraw(posting: PostNo, facts: &Facts) -> Option<Refusal>
     ensures { (histories : List History) → facts.now.named.items ≡ row_at histories posting ∷ []
         → unless_standing histories posting accepted result }
@@ -35,7 +35,7 @@ pub fn judge_withdraw(posting: PostNo, facts: &Facts) -> Option<Refusal>
     }
 }
 
-/// What refuses that the postings listed are moved from the source. Each sentence is asked of the whole list before the
+/// Judges whether the postings listed can be moved from the source. Each sentence is asked of the whole list before the
 /// next.
 pub fn judge_listed(
     alloc: Global,

@@ -23,7 +23,7 @@ use thes_base::data::{Label, Link, LinkKind, Resource, Totals, TypedKind};
 use thes_base::number::ResNo;
 use thes_base::text::{Iri, Tag, Text};
 
-/// How much a store holds.
+/// The sizes of a store.
 #[derive(Clone, Copy, Debug, PartialEq, Eq)]
 pub struct Sizes {
     pub resources: u64,
@@ -35,9 +35,9 @@ pub struct Sizes {
 }
 
 impl Core {
-    /// Whether running out of memory has left the state half changed. A spent core answers nothing more. In any other
-    /// each posting that isn't withdrawn stands at exactly one live concept, the counts add up, and the triples meet the
-    /// conditions.
+    /// Tells whether running out of memory has left the state half changed. A spent core answers nothing more. In any
+    /// other each posting that isn't withdrawn stands at exactly one live concept, the counts add up, and the triples
+    /// meet the conditions.
     pub fn is_spent(&self) -> bool
         ensures value { result ≡ self.now.spent }
         ensures in_order { result ≡ false → (s : State) → Holds self.now s → IsInOrder self.now.setting.base s }
@@ -45,7 +45,7 @@ impl Core {
         self.spent
     }
 
-    /// How much is held. Withdrawn postings count among those accepted.
+    /// Tells how much is held. Withdrawn postings count among those accepted.
     pub fn sizes(&self) -> Sizes
         requires { self.now.spent ≡ false }
         ensures resources { result.resources ≡ length self.now.resources }
@@ -66,7 +66,7 @@ impl Core {
         }
     }
 
-    /// How many postings were accepted, how many of them are withdrawn, and how many stand.
+    /// Counts the postings that were accepted, that of these are withdrawn, and that stand.
     pub fn totals(&self) -> Totals
         requires { self.now.spent ≡ false }
         ensures accepted { result.accepted ≡ self.now.sums.accepted }
@@ -76,7 +76,7 @@ impl Core {
         self.thesaurus.book.totals()
     }
 
-    /// How many postings stand at a concept.
+    /// Counts the postings that stand at a concept.
     pub fn count(&self, concept: ResNo) -> u64
         requires { self.now.spent ≡ false }
         ensures { result ≡ count_of self.now.sums concept }
@@ -84,7 +84,7 @@ impl Core {
         self.thesaurus.book.count(concept)
     }
 
-    /// The resource of a number.
+    /// Finds the resource of a number.
     pub fn resource(&self, n: ResNo) -> Option<&Resource>
         requires { self.now.spent ≡ false }
         ensures { option_copied result ≡ numbered self.now.resources n }
@@ -100,7 +100,7 @@ impl Core {
         self.thesaurus.vocab.replacements(alloc, concept)
     }
 
-    /// Whether the number is a live resource's.
+    /// Tells whether the number is a live resource's.
     pub fn is_live(&self, n: ResNo) -> bool
         requires { self.now.spent ≡ false }
         ensures { IsTrue result ↔ IsLive self.now.resources n }
@@ -108,7 +108,7 @@ impl Core {
         self.thesaurus.vocab.is_live(n)
     }
 
-    /// The owner's preferred label in the language.
+    /// Finds the owner's preferred label in the language.
     pub fn preferred(&self, owner: ResNo, tag: &Tag) -> Option<&Text>
         requires { self.now.spent ≡ false }
         ensures { option_copied result ≡ preferred_in self.now.labels owner tag.now }
@@ -116,7 +116,7 @@ impl Core {
         self.thesaurus.vocab.preferred(owner, tag)
     }
 
-    /// The labels of an owner, by kind, language and text.
+    /// Lists the labels of an owner, by kind, language and text.
     pub fn labels_of(&self, owner: ResNo) -> &[Label]
         requires { self.now.spent ≡ false }
         ensures { AreLabelsOf self.now.labels owner result.now }
@@ -124,7 +124,7 @@ impl Core {
         self.thesaurus.vocab.labels_of(owner)
     }
 
-    /// The live concept of the scheme that has this preferred label.
+    /// Finds the live concept of the scheme that has this preferred label.
     pub fn holder(&self, scheme: ResNo, tag: &Tag, text: &Text) -> Option<ResNo>
         requires { self.now.spent ≡ false }
         ensures { let s = self.now in
@@ -134,7 +134,7 @@ impl Core {
         self.thesaurus.vocab.holder(scheme, tag, text)
     }
 
-    /// The number of the outside concept with this IRI.
+    /// Finds the number of the outside concept with this IRI.
     pub fn outside(&self, iri: &Iri) -> Option<ResNo>
         requires { self.now.spent ≡ false }
         ensures { let has_iri = λ (n : ℕ). dict.get self.now.iris n ≡ Some iri.now in
@@ -143,7 +143,7 @@ impl Core {
         self.thesaurus.vocab.outside(iri)
     }
 
-    /// The IRI of an outside concept.
+    /// Finds the IRI of an outside concept.
     pub fn outside_iri(&self, n: ResNo) -> Option<&Iri>
         requires { self.now.spent ≡ false }
         ensures { option_copied result ≡ dict.get self.now.iris n }
@@ -151,7 +151,7 @@ impl Core {
         self.thesaurus.vocab.outside_iri(n)
     }
 
-    /// Whether the link is held, in the order of its ends in which it is kept.
+    /// Tells whether the link is held, in the order of its ends in which it is kept.
     pub fn has(&self, link: &Link) -> bool
         requires { self.now.spent ≡ false }
         ensures { let s = self.now in
@@ -160,7 +160,7 @@ impl Core {
         self.thesaurus.graph.has(link)
     }
 
-    /// The concepts that are broader than this one in its own scheme, by a link of whatever type, rising.
+    /// Lists the concepts that are broader than this one in its own scheme, by a link of whatever type, rising.
     pub fn broader_of(&self, alloc: Global, n: ResNo) -> Result<Vec<ResNo>, AllocError>
         requires { self.now.spent ≡ false }
         ensures { let is_broader = HasBroader self.now.links n in
@@ -169,7 +169,7 @@ impl Core {
         self.thesaurus.graph.broader_of(alloc, n)
     }
 
-    /// The concepts that are narrower than this one in its own scheme, by a link of whatever type, rising.
+    /// Lists the concepts that are narrower than this one in its own scheme, by a link of whatever type, rising.
     pub fn narrower_of(&self, alloc: Global, n: ResNo) -> Result<Vec<ResNo>, AllocError>
         requires { self.now.spent ≡ false }
         ensures { let is_narrower = λ (a : ℕ). HasBroader self.now.links a n in
@@ -178,7 +178,7 @@ impl Core {
         self.thesaurus.graph.narrower_of(alloc, n)
     }
 
-    /// The concepts related to this one in its own scheme, rising.
+    /// Lists the concepts related to this one in its own scheme, rising.
     pub fn related_of(&self, alloc: Global, n: ResNo) -> Result<Vec<ResNo>, AllocError>
         requires { self.now.spent ≡ false }
         ensures { let has = HasLink self.now.links kinds.Related in
@@ -187,7 +187,7 @@ impl Core {
         self.thesaurus.graph.related_of(alloc, n)
     }
 
-    /// The collections that the concept is a member of, rising.
+    /// Lists the collections that the concept is a member of, rising.
     pub fn collections_of(&self, alloc: Global, n: ResNo) -> Result<Vec<ResNo>, AllocError>
         requires { self.now.spent ≡ false }
         ensures { let has_member = λ (c : ℕ). HasLink self.now.links kinds.Member c n in
@@ -196,7 +196,7 @@ impl Core {
         self.thesaurus.graph.collections_of(alloc, n)
     }
 
-    /// The mappings of the concept as seen from it, by the words of their kinds and then by number.
+    /// Lists the mappings of the concept as seen from it, by the words of their kinds and then by number.
     pub fn mapped(&self, alloc: Global, n: ResNo) -> Result<Vec<(LinkKind, ResNo)>, AllocError>
         requires { self.now.spent ≡ false }
         ensures { let is_mapping = IsMapping self.now.links n in
@@ -205,7 +205,7 @@ impl Core {
         self.thesaurus.graph.mapped(alloc, n)
     }
 
-    /// The typed hierarchical links of the concept as seen from it, by their words and then by number.
+    /// Lists the typed hierarchical links of the concept as seen from it, by their words and then by number.
     pub fn typed_of(&self, alloc: Global, n: ResNo) -> Result<Vec<(TypedKind, ResNo)>, AllocError>
         requires { self.now.spent ≡ false }
         ensures { let is_typed = IsTyped self.now.links n in

@@ -2,7 +2,7 @@
 ghost use Rattle.std.specs.Prelude.{◌+◌, ◌≤◌, ◌↔◌, IsTrue, max};
 ghost use Rattle.thes_base.specs.State.{Fits};
 
-/// How many more of each sort a request makes.
+/// The counts by which each sort grows with a request.
 #[derive(Clone, Copy)]
 pub struct Growth {
     pub resources: u64,
@@ -30,7 +30,7 @@ impl Growth {
     };
 }
 
-/// Whether a count may rise by so many: to its limit at most, and not at all if it is past the limit already.
+/// Tells whether a count may rise by so many: to its limit at most, and not at all if it is past the limit already.
 pub fn may_rise(limit: u32, count: u64, more: u64) -> bool
     ensures { IsTrue result ↔ Fits limit count (count + more) }
 {

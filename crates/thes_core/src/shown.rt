@@ -27,7 +27,7 @@ fn of_kind<'a>(
 }
 
 impl Core {
-    /// The labels of one kind of an owner, by language and text.
+    /// Lists the labels of one kind of an owner, by language and text.
     pub fn labels_of_kind(
         &self,
         alloc: Global,

@@ -2,7 +2,7 @@
 use thes_base::request::Answer;
 use thes_rows::delta::Delta;
 
-/// What a core decides of a request before anything changes.
+/// A core's decision on a request, before anything changes.
 #[derive(Debug, Drop)]
 pub enum Verdict {
     /// The answer, which changes nothing: a refusal, or what a repeated key was answered before.

@@ -17,7 +17,7 @@ use thes_base::number::ResNo;
 use thes_base::text::Tag;
 use thes_core::Core;
 
-/// What an entry stands under: a concept's term, or an alternative label that leads to it.
+/// The heading of an entry: a concept's term, or an alternative label that leads to it.
 #[derive(Drop)]
 pub struct Heading {
     pub term: Term,

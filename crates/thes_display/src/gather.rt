@@ -22,7 +22,7 @@ use thes_base::number::ResNo;
 use thes_base::text::Tag;
 use thes_core::Core;
 
-/// The live concepts of a scheme under their terms, in alphabetical order.
+/// Lists the live concepts of a scheme under their terms, in alphabetical order.
 pub fn terms_of(
     alloc: Global,
     core: &Core,
@@ -40,7 +40,7 @@ pub fn terms_of(
     Ok(terms)
 }
 
-/// The key of each concept.
+/// Maps each concept to its key.
 pub fn keys_of(alloc: Global, terms: &[Term]) -> Result<BTreeMap<ResNo, usize>, AllocError>
     requires { HaveOneKey terms.now }
     ensures { IfOk result (λ keys. AreKeys terms.now (get nat_cmp keys)) }

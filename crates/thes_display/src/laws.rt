@@ -2,17 +2,18 @@
 ghost use Rattle.thes_display.specs.Alphabetical.{HasOneAlphabetical};
 ghost use Rattle.thes_display.specs.Hierarchical.{EachHasOneHome, HasOneHierarchical};
 
-/// A scheme of a state has one alphabetical display in a language.
+/// States that a scheme of a state has at most one alphabetical display in a language.
 pub fn one_alphabetical()
     ensures { HasOneAlphabetical }
 {}
 
-/// A scheme of a state has one hierarchical display in a language.
+/// States that a scheme of a state has at most one hierarchical display in a language.
 pub fn one_hierarchical()
     ensures { HasOneHierarchical }
 {}
 
-/// In the hierarchical display of a legal state each live concept of the scheme has exactly one line at home.
+/// States that in the hierarchical display of a legal state each live concept of the scheme has exactly one line at
+/// home.
 pub fn one_home()
     ensures { EachHasOneHome }
 {}

@@ -20,7 +20,7 @@ use thes_base::pipe::{Budget, Pipe};
 use thes_base::text::Tag;
 use thes_core::Core;
 
-/// What became of a display.
+/// The outcome of a display that was asked for.
 #[derive(Clone, Copy, Debug, PartialEq, Eq)]
 pub enum Shown {
     /// It was written.

@@ -18,7 +18,7 @@ pub enum Hierarchy {
     Instantial,
 }
 
-/// What a line below a concept's term says of it.
+/// A symbol: the sort of what a line below a concept's term says of it.
 #[derive(Clone, Copy, Debug, PartialEq, Eq)]
 pub enum Symbol {
     /// SN: a scope note.

@@ -113,7 +113,7 @@ fn take_below(alloc: Global, below: &mut Vec<Vec<Child>>, key: usize) -> Vec<Chi
     mem::replace(&mut below[key], Vec::new(alloc))
 }
 
-/// The lines of a hierarchy in the order of their paths.
+/// Writes the lines of a hierarchy in the order of their paths.
 pub fn hierarchy_text(
     alloc: Global,
     terms: &[Term],

@@ -7,7 +7,7 @@ use crate::line::Line;
 use thes_base::fault::{Fault, FormFault, Refusal};
 use thes_base::request::Answer;
 
-/// What a request is answered with.
+/// A reply to a line: an answer, or a fault.
 #[derive(Clone, Copy, Debug, PartialEq, Eq)]
 pub enum Reply {
     Answer(Answer),
@@ -15,7 +15,7 @@ pub enum Reply {
     Fault(Fault),
 }
 
-/// The line of a reply.
+/// Makes the line of a reply.
 pub fn reply_line(reply: Reply) -> Line
     ensures { result ≡ reply_text reply }
 {
@@ -74,7 +74,7 @@ fn name_line(before: &str, name: &str) -> Line
     line
 }
 
-/// The line of a refusal.
+/// Makes the line of a refusal.
 pub fn refusal_line(refusal: Refusal) -> Line
     ensures { result ≡ refusal_text refusal }
 {

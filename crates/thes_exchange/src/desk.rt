@@ -27,14 +27,14 @@ impl Model for ViewLine {
 }
 
 impl ViewLine {
-    /// A line of these bytes.
+    /// Makes a line of these bytes.
     pub fn new(bytes: Vec<u8>) -> ViewLine
         ensures { result ≡ bytes.items }
     {
         ViewLine { bytes }
     }
 
-    /// The line, with its line feed.
+    /// Returns the line, with its line feed.
     pub fn as_bytes(&self) -> &[u8]
         ensures { result.now ≡ self.now }
     {
@@ -42,14 +42,14 @@ impl ViewLine {
     }
 }
 
-/// What a query is answered with.
+/// The answer to a query.
 #[derive(Drop)]
 pub enum Viewed {
     Line(ViewLine),
     No(Refusal),
 }
 
-/// What performs requests and shows views: a state of its own, or a store that others see.
+/// Performs requests and shows views, over a state of its own or a store that others see.
 pub trait Desk {
     ghost performs: { Self → Command → Result Answer Fault → Self → Type 0 };
 
@@ -62,12 +62,12 @@ pub trait Desk {
         requires { is_open self.old ≡ true }
         ensures { performs self.old command.now result self.new };
 
-    /// The line of a view.
+    /// Shows a view, as its line.
     fn show(&mut self, alloc: Global, query: &Query) -> Result<Viewed, Fault>
         requires { is_open self.old ≡ true }
         ensures { shows self.old query.now result self.new };
 
-    /// Whether it may be asked anything. Running out of memory within a request can close it for good.
+    /// Tells whether it may be asked anything. Running out of memory within a request can close it for good.
     fn is_open(&self) -> bool
         ensures { result ≡ is_open self.now };
 }

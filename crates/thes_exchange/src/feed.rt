@@ -30,7 +30,7 @@ impl Model for Feed {
         × (0 < vec_len f.buffer) };
 }
 
-/// What was found where a line was looked for.
+/// The outcome of a search for a line.
 #[derive(Clone, Copy, Debug, PartialEq, Eq)]
 pub enum Found {
     Line,
@@ -51,7 +51,7 @@ const LINE_LIMIT: usize = 1_048_576;
 const BUFFER_SIZE: usize = 65_536;
 
 impl Feed {
-    /// An empty buffer.
+    /// Makes an empty buffer.
     pub fn new(alloc: Global) -> Result<Feed, AllocError>
         ensures { IfOk result (λ feed. feed ≡ []) }
     {
@@ -63,7 +63,7 @@ impl Feed {
         })
     }
 
-    /// The next byte, or none at the end of the input.
+    /// Takes the next byte, or none at the end of the input.
     pub fn next_byte<R: Read>(
         &mut self,
         reader: &mut Pipe<R>,

@@ -20,7 +20,7 @@ pub struct Lines {
 }
 
 impl Lines {
-    /// No line yet.
+    /// Starts before the first line.
     pub fn new(alloc: Global) -> Result<Lines, AllocError>
         ensures { IfOk result (λ lines. (lines.feed ≡ []) × (lines.count ≡ 0)) }
     {

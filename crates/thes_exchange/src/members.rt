@@ -13,10 +13,10 @@ use std::alloc::{AllocError, Global};
 use thes_base::data::{LabelKind, LinkKind};
 use thes_base::fault::{FormFault, ReadStop};
 
-/// What is no request.
+/// The fault of what is no request.
 pub const BAD_SHAPE: ReadStop = ReadStop::Form(FormFault::BadShape);
 
-/// An object with this many members.
+/// Checks that it is an object with this many members.
 pub fn has_members(count: usize, value: &Value<'_>) -> Result<(), ReadStop>
     ensures ok { OnOk result (has_count count (as_object (view value.now)) ≡ true) }
     ensures err { IfErr result (λ e. (e ≡ BAD_SHAPE)
@@ -28,7 +28,7 @@ pub fn has_members(count: usize, value: &Value<'_>) -> Result<(), ReadStop>
     }
 }
 
-/// The member with this name, a number.
+/// Finds the member with this name, a number.
 pub fn number_in<'a>(name: &str, value: &'a Value<'_>) -> Result<&'a Number, ReadStop>
     ensures ok { IfOk result (λ n. number_in name.now (view value.now) ≡ Some (number_view n.now)) }
     ensures err { IfErr result (λ e. (e ≡ BAD_SHAPE)
@@ -37,7 +37,7 @@ pub fn number_in<'a>(name: &str, value: &'a Value<'_>) -> Result<&'a Number, Rea
     value.get(name).and_then(Value::as_number).ok_or(BAD_SHAPE)
 }
 
-/// The member with this name, a text.
+/// Finds the member with this name, a text.
 pub fn text_in<'a>(name: &str, value: &'a Value<'_>) -> Result<&'a str, ReadStop>
     ensures ok { IfOk result (λ s. text_in name.now (view value.now) ≡ Some s.now) }
     ensures err { IfErr result (λ e. (e ≡ BAD_SHAPE) × (text_in name.now (view value.now) ≡ None)) }
@@ -45,7 +45,7 @@ pub fn text_in<'a>(name: &str, value: &'a Value<'_>) -> Result<&'a str, ReadStop
     value.get(name).and_then(Value::as_str).ok_or(BAD_SHAPE)
 }
 
-/// The member with this name, true or false.
+/// Finds the member with this name, true or false.
 pub fn truth_in(name: &str, value: &Value<'_>) -> Result<bool, ReadStop>
     ensures ok { IfOk result (λ b. truth_in name.now (view value.now) ≡ Some b) }
     ensures err { IfErr result (λ e. (e ≡ BAD_SHAPE)
@@ -54,7 +54,7 @@ pub fn truth_in(name: &str, value: &Value<'_>) -> Result<bool, ReadStop>
     value.get(name).and_then(Value::as_bool).ok_or(BAD_SHAPE)
 }
 
-/// The member with this name, the word of a kind of label.
+/// Finds the member with this name, the word of a kind of label.
 pub fn label_kind_in(name: &str, value: &Value<'_>) -> Result<LabelKind, ReadStop>
     ensures ok { IfOk result (λ k. option_and_then label_kind_named
         (text_in name.now (view value.now)) ≡ Some k) }
@@ -64,7 +64,7 @@ pub fn label_kind_in(name: &str, value: &Value<'_>) -> Result<LabelKind, ReadSto
     label_kind_named(text_in(name, value)?).ok_or(BAD_SHAPE)
 }
 
-/// The member with this name, the word of a kind of link.
+/// Finds the member with this name, the word of a kind of link.
 pub fn link_kind_in(name: &str, value: &Value<'_>) -> Result<LinkKind, ReadStop>
     ensures ok { IfOk result (λ k. option_and_then link_kind_named
         (text_in name.now (view value.now)) ≡ Some k) }
@@ -74,7 +74,7 @@ pub fn link_kind_in(name: &str, value: &Value<'_>) -> Result<LinkKind, ReadStop>
     link_kind_named(text_in(name, value)?).ok_or(BAD_SHAPE)
 }
 
-/// The member with this name, an array of numbers.
+/// Finds the member with this name, an array of numbers.
 pub fn numbers_in<'a>(
     alloc: Global,
     name: &str,
@@ -104,7 +104,7 @@ fn all_numbers<'a>(alloc: Global, values: &'a [Value<'_>]) -> Result<Vec<&'a Num
     Ok(numbers)
 }
 
-/// A value that is the word of something to do.
+/// Reads a value that is the word of something to do.
 pub fn verb_at(word: &Value<'_>) -> Result<Verb, ReadStop>
     ensures ok { IfOk result (λ v. option_and_then verb_named (as_str (view word.now)) ≡ Some v) }
     ensures err { IfErr result (λ e. (e ≡ BAD_SHAPE)
@@ -113,7 +113,7 @@ pub fn verb_at(word: &Value<'_>) -> Result<Verb, ReadStop>
     word.as_str().and_then(verb_named).ok_or(BAD_SHAPE)
 }
 
-/// A value that is the word of something to see.
+/// Reads a value that is the word of something to see.
 pub fn noun_at(word: &Value<'_>) -> Result<Noun, ReadStop>
     ensures ok { IfOk result (λ n. option_and_then noun_named (as_str (view word.now)) ≡ Some n) }
     ensures err { IfErr result (λ e. (e ≡ BAD_SHAPE)

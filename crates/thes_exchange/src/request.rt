@@ -28,7 +28,7 @@ use thes_base::text::{Iri, Key, Note, RecordName, Tag, Text};
 
 const BAD_NUMBER: ReadStop = ReadStop::Form(FormFault::BadNumber);
 
-/// What a request asks to see.
+/// A query: something that a request asks to see.
 #[derive(Clone, Copy, Debug, PartialEq, Eq)]
 pub enum Query {
     Totals,
@@ -433,7 +433,7 @@ impl Memory {
     }
 }
 
-/// What the bytes ask for.
+/// Reads what the bytes ask for.
 pub fn read_request(memory: &mut Memory, bytes: &[u8]) -> Result<Request, ReadStop>
     ensures { Gives (request_of bytes.now) result }
 {

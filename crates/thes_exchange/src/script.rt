@@ -17,7 +17,7 @@ use thes_base::fault::{Fault, PipeFault};
 use thes_base::pipe::{Budget, Pipe};
 use thes_base::request::Answer;
 
-/// How a script ended.
+/// The end of a script.
 #[derive(Clone, Copy, Debug, PartialEq, Eq)]
 pub struct Ended {
     /// Some answer was a refusal or a form fault.

@@ -16,7 +16,7 @@ use thes_base::fault::{Fault, ReadStop};
 use thes_base::pipe::{Budget, Pipe, Stop};
 use thes_base::request::{Answer, Command};
 
-/// What a line is answered with.
+/// The answer to a line.
 #[derive(Drop)]
 pub enum Outcome {
     Told(Reply),

@@ -15,7 +15,7 @@ use std::alloc::{AllocError, Global};
 use std::collections::BTreeMap;
 use thes_base::fault::{FormFault, ReadStop};
 
-/// What is no JSON.
+/// The fault of what is no JSON.
 pub const NOT_JSON: ReadStop = ReadStop::Form(FormFault::NotJson);
 
 const MAX_DEPTH: usize = 127;
@@ -50,7 +50,7 @@ impl<'a> Value<'a> {
         Ok(value)
     }
 
-    /// The member with this name.
+    /// Finds the member with this name.
     pub fn get(&self, name: &str) -> Option<&Value<'a>>
         ensures { option_map (λ v. view v.now) result ≡ get name.now (view self.now) }
     {
@@ -60,7 +60,7 @@ impl<'a> Value<'a> {
         }
     }
 
-    /// How many members it has, if it is an object.
+    /// Counts its members, if it is an object.
     pub fn member_count(&self) -> Option<usize>
         ensures { result ≡ option_map members_len (as_object (view self.now)) }
     {
@@ -70,7 +70,7 @@ impl<'a> Value<'a> {
         }
     }
 
-    /// The number that it is.
+    /// Returns the number that it is, if it is one.
     pub fn as_number(&self) -> Option<&Number>
         ensures { option_map (λ n. number_view n.now) result ≡ as_number (view self.now) }
     {
@@ -80,7 +80,7 @@ impl<'a> Value<'a> {
         }
     }
 
-    /// The text that it is.
+    /// Returns the text that it is, if it is one.
     pub fn as_str(&self) -> Option<&'a str>
         ensures { option_map (λ s. s.now) result ≡ as_str (view self.now) }
     {
@@ -90,7 +90,7 @@ impl<'a> Value<'a> {
         }
     }
 
-    /// Whether it is true or false.
+    /// Tells whether it is true or false, if it is either.
     pub fn as_bool(&self) -> Option<bool>
         ensures { result ≡ as_bool (view self.now) }
     {
@@ -100,7 +100,7 @@ impl<'a> Value<'a> {
         }
     }
 
-    /// The values of the array that it is.
+    /// Returns the values of the array that it is, if it is one.
     pub fn as_array(&self) -> Option<&Vec<Value<'a>>>
         ensures { option_map (λ v. items_view v.now.items) result ≡ as_array (view self.now) }
     {

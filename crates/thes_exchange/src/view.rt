@@ -79,7 +79,7 @@ impl<'a> Model for PostingRows<'a> {
     ghost view = { λ p. map (λ h. h.now) p.rows.items };
 }
 
-/// What is shown.
+/// A view: something that is shown.
 #[derive(Drop)]
 pub enum View<'a> {
     Totals(Totals),
@@ -391,7 +391,7 @@ fn posting_line(alloc: Global, history: &History) -> Result<Vec<u8>, AllocError>
     value_line(alloc, &posting_value(alloc, history)?)
 }
 
-/// The line of what is shown.
+/// Makes the line of a view.
 pub fn view_line(alloc: Global, view: &View) -> Result<Vec<u8>, AllocError>
     ensures { IfOk result (λ text. text.items ≡ view_text view.now) }
 {

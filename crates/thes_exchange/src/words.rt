@@ -4,7 +4,7 @@ ghost use Rattle.thes_exchange.specs.Words.{label_kind_named, link_kind_named, n
 
 use thes_base::data::{LabelKind, LinkKind};
 
-/// What a request does.
+/// The word of something that a request does.
 #[derive(Clone, Copy, Debug, PartialEq, Eq)]
 pub enum Verb {
     Scheme,
@@ -23,7 +23,7 @@ pub enum Verb {
     Withdraw,
 }
 
-/// What a request asks to see.
+/// The word of something that a request asks to see.
 #[derive(Clone, Copy, Debug, PartialEq, Eq)]
 pub enum Noun {
     Totals,
@@ -32,7 +32,7 @@ pub enum Noun {
     Posting,
 }
 
-/// The word at `do`.
+/// Finds the word at `do`.
 pub fn verb_named(word: &str) -> Option<Verb>
     ensures { result ≡ verb_named word.now }
 {
@@ -55,7 +55,7 @@ pub fn verb_named(word: &str) -> Option<Verb>
     }
 }
 
-/// The word at `get`.
+/// Finds the word at `get`.
 pub fn noun_named(word: &str) -> Option<Noun>
     ensures { result ≡ noun_named word.now }
 {
@@ -68,7 +68,7 @@ pub fn noun_named(word: &str) -> Option<Noun>
     }
 }
 
-/// The word of a kind of label.
+/// Finds the kind of label that a word names.
 pub fn label_kind_named(word: &str) -> Option<LabelKind>
     ensures { result ≡ label_kind_named word.now }
 {
@@ -81,7 +81,7 @@ pub fn label_kind_named(word: &str) -> Option<LabelKind>
     }
 }
 
-/// The word of a kind of link.
+/// Finds the kind of link that a word names.
 pub fn link_kind_named(word: &str) -> Option<LinkKind>
     ensures { result ≡ link_kind_named word.now }
 {

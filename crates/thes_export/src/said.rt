@@ -38,7 +38,7 @@ fn replacement_in(resource: &Resource) -> Option<ResNo>
     resource.replaced
 }
 
-/// Whether the resource is a concept.
+/// Tells whether the resource is a concept.
 pub(crate) fn is_concept(resource: &Resource) -> bool
     ensures { result ≡ is_concept_kind resource.now.kind }
 {

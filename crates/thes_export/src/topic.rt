@@ -11,7 +11,7 @@ use thes_base::data::Resource;
 use thes_base::number::ResNo;
 use thes_core::Core;
 
-/// What may be said of a resource.
+/// A topic: something that may be said of a resource.
 #[derive(Clone, Copy, Debug, PartialEq, Eq)]
 pub enum Topic {
     /// Its class.
@@ -22,7 +22,7 @@ pub enum Topic {
     Top,
     /// That it is dead.
     Death,
-    /// What it is replaced by.
+    /// Its replacement.
     Replacement,
     /// Its labels.
     Labels,

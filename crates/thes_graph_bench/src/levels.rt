@@ -123,7 +123,7 @@ fn judge_all(
     Ok(refused)
 }
 
-/// How many of so many related links, or merges, are refused in such a hierarchy.
+/// Counts those of so many related links, or merges, that are refused in such a hierarchy.
 pub fn refused(alloc: Global, nodes: u32, count: u32, merges: bool) -> Result<u32, AllocError> {
     let mut numbers = Numbers(1);
     let width = nodes / 12;

@@ -63,8 +63,8 @@ fn left(alloc: Global) -> u32 {
     1000000
 }
 
-/// How many requests for memory are left after that for a related link from 2 to 4 was judged, or was not, beside so many further
-/// nodes. None if something speaks against the link.
+/// Counts the requests for memory that are left once a related link from 2 to 4 was judged, or was not, beside so many
+/// further nodes. None if something speaks against the link.
 pub fn left_after(alloc: Global, further: u32, judged: bool) -> Result<Option<u32>, AllocError> {
     let graph = chain(alloc, further)?;
     match judge(alloc, &graph, &link(LinkKind::Related, 2, 4), judged)? {

@@ -8,7 +8,7 @@ use std::alloc::AllocError;
 use std::io::Read;
 use thes_base::pipe::{Budget, Pipe};
 
-/// Why there is no body.
+/// The reason why there is no body.
 #[derive(Clone, Copy, Debug, PartialEq, Eq)]
 pub enum BodyStop {
     Gone(Gone),

@@ -9,7 +9,7 @@ ghost use Rattle.thes_head.specs.Inbox.{spans_named, first_named};
 use crate::problem::Problem;
 use httparse::spans::HeaderSpan;
 
-/// Whether there is a field of this name, in whatever case.
+/// Tells whether there is a field of this name, in whatever case.
 pub fn has_field(bytes: &[u8], headers: &[HeaderSpan], name: &[u8]) -> bool
     requires { All (IsHeaderWithin (length bytes.now)) headers.now }
     ensures { result ≡ has_field (map to_ascii_lowercase name.now)

@@ -11,7 +11,7 @@ use httparse::{Error, Status, is_token, is_uri_token};
 // The request line, and 64 header lines.
 const LINES_LIMIT: usize = 65;
 
-/// What the bytes so far are.
+/// The verdict on the bytes so far.
 #[derive(Clone, Copy, Drop)]
 pub enum Head {
     /// They begin with a head, whose parts stand there.

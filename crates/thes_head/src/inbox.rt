@@ -12,7 +12,7 @@ use std::io::Read;
 use std::marker::Model;
 use thes_base::pipe::{Budget, Pipe, Stop};
 
-/// What was read of a connection so far: one byte more than a head may have, at most.
+/// The bytes that were read of a connection so far: one byte more than a head may have, at most.
 #[derive(Drop)]
 pub struct Inbox {
     buffer: Vec<u8>,
@@ -29,7 +29,7 @@ impl Model for Inbox {
     ghost invariant = { λ f. (f.filled ≤ 8193) × (vec_len f.buffer ≡ 8193) };
 }
 
-/// Why there is no request.
+/// The reason why there is no request.
 #[derive(Clone, Copy, Debug, PartialEq, Eq)]
 pub enum Gone {
     /// The input ended too early.
@@ -38,7 +38,7 @@ pub enum Gone {
     ReadFault,
 }
 
-/// Why there is no head.
+/// The reason why there is no head.
 #[derive(Clone, Copy, Debug, PartialEq, Eq)]
 pub enum HeadStop {
     Bad,

@@ -21,7 +21,7 @@ impl Verb {
     }
 }
 
-/// What a path names.
+/// A place: something that a path names.
 #[derive(Clone, Copy, Debug, PartialEq, Eq)]
 pub enum Place {
     Requests,

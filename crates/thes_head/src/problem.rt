@@ -1,7 +1,7 @@
 //! What can be wrong with a request, apart from a form.
 use crate::place::Verb;
 
-/// Why a request isn't looked at further.
+/// A reason why a request isn't looked at further.
 #[derive(Clone, Copy, Debug, PartialEq, Eq)]
 pub enum Problem {
     /// There is no head within its bounds, or its body's length is no number.

@@ -7,7 +7,7 @@ use form_urlencoded::parse;
 use std::alloc::{AllocError, Global};
 use std::borrow::CowStr;
 
-/// What a display is asked for: the texts of a scheme's number and of a tag.
+/// The two values of a display's query: the texts of a scheme's number and of a tag.
 #[derive(Drop)]
 pub struct Asked<'a> {
     pub scheme: CowStr<'a>,

@@ -11,14 +11,15 @@ use crate::place::{Place, find_place};
 use crate::problem::Problem;
 use httparse::spans::{HeaderSpan, RequestSpans};
 
-/// What a head asks for.
+/// The request that a head makes: a place, the number and the query of its target, and the length
+/// of its body.
 #[derive(Clone, Copy, Drop)]
 pub struct Want<'a> {
     pub place: Place,
     /// The text of the number in the path.
     pub number: &'a str,
     pub query: &'a str,
-    /// How many bytes of body are read.
+    /// The number of bytes that are read of a body.
     pub body: u32,
 }
 

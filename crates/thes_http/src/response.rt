@@ -121,7 +121,7 @@ fn problem_status(problem: Problem) -> Status
     }
 }
 
-/// What follows the head.
+/// The part of a response that follows its head.
 #[derive(Drop)]
 pub enum Body {
     Problem(Problem),
@@ -144,7 +144,7 @@ impl Body {
     }
 }
 
-/// What is written: a status, a type and a body.
+/// A response: a status, a type and a body.
 #[derive(Drop)]
 pub struct Response {
     pub status: Status,

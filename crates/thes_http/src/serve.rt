@@ -20,7 +20,7 @@ use thes_head::inbox::{Gone, HeadStop, Inbox};
 use thes_head::problem::Problem;
 use thes_head::want::want_in;
 
-/// How a connection ended.
+/// The end of a connection.
 #[derive(Clone, Copy, Debug, PartialEq, Eq)]
 pub enum Served {
     /// The answer was written, with this status.

@@ -89,7 +89,7 @@ fn next_stream<N: Net>(
 /// Serves as many connections, one after another.
 ///
 /// A client that goes away costs nothing but its own answer. An error is that of accepting a
-/// connection, or want of memory that has closed the service.
+/// connection, or OutOfMemory where that has closed the service.
 pub fn serve<N: Net, S: Service>(
     alloc: Global,
     listener: &N::Listener,

@@ -42,7 +42,7 @@ impl Page {
     }
 }
 
-/// What a posting file is answered with.
+/// The answer to a posting file.
 #[derive(Drop)]
 pub enum Imported {
     /// The outcome of each row.
@@ -58,14 +58,14 @@ pub enum Display {
     Hierarchical,
 }
 
-/// What is answered where a display was asked for.
+/// The answer to a request for a display.
 #[derive(Drop)]
 pub enum Displayed {
     Lines(Page),
     No(Refusal),
 }
 
-/// What performs requests and shows views, imports posting files, exports and displays.
+/// Performs requests and shows views, imports posting files, exports and displays.
 pub trait Service: Desk {
     ghost imports: { Self → List ℕ → Result Imported Fault → Self → Type 0 };
 

@@ -12,7 +12,7 @@ use thes_base::fault::{FormFault, ReadStop};
 use thes_base::number::ResNo;
 use thes_base::text::{Key, RecordName};
 
-/// What a record says: a posting, or why it is none.
+/// A record as it is read: a posting, or the fault for which it is none.
 #[derive(Debug, Drop)]
 pub enum Row {
     Post(Key, RecordName, ResNo),

@@ -15,7 +15,7 @@ use thes_base::pipe::{Budget, Pipe};
 use thes_office::Office;
 use thes_store::keeper::Keeper;
 
-/// How an import ended.
+/// The end of an import.
 #[derive(Clone, Copy, Debug, PartialEq, Eq)]
 pub enum Ended {
     /// All rows were performed.
@@ -24,7 +24,7 @@ pub enum Ended {
     Malformed,
 }
 
-/// What stopped an import. The rows that are counted were performed, and the next one was not.
+/// A stop within an import. The rows that are counted were performed, and the next one was not.
 #[derive(Clone, Copy, Debug, PartialEq, Eq)]
 pub struct Stopped {
     pub fault: PipeFault,

@@ -6,12 +6,12 @@ use itoa::Buffer;
 use thes_base::fault::FormFault;
 use thes_base::request::Answer;
 
-/// What a row of a posting file is answered with.
+/// The answer to a row of a posting file.
 #[derive(Clone, Copy, Debug, PartialEq, Eq)]
 pub enum Outcome {
     /// The answer to its posting.
     Told(Answer),
-    /// Why it is no posting.
+    /// The fault for which it is no posting.
     Bad(FormFault),
 }
 

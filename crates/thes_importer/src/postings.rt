@@ -13,7 +13,7 @@ use thes_import::row::Row;
 use thes_office::Office;
 use thes_store::keeper::Keeper;
 
-/// What a posting file is answered with.
+/// The answer to a posting file.
 #[derive(Debug, Drop)]
 pub enum Imported {
     /// All rows were performed.
@@ -22,7 +22,7 @@ pub enum Imported {
     Malformed,
 }
 
-/// What ended an import before the last row. The rows told in the report were performed, and the next one was not.
+/// An end of an import before its last row. The rows told in the report were performed, and the next one was not.
 #[derive(Debug, Drop)]
 pub struct Halted {
     pub fault: Fault,

@@ -7,7 +7,7 @@ use crate::outcome::{LINE_LIMIT, Outcome};
 use std::alloc::{AllocError, Global};
 use thes_base::request::Answer;
 
-/// How many rows there were, by what they were answered with.
+/// The counts of rows, by what they were answered with.
 #[derive(Clone, Copy, Debug, PartialEq, Eq)]
 pub struct Counts {
     /// Rows that made a posting.
@@ -52,7 +52,7 @@ impl Counts {
     }
 }
 
-/// What rows were answered with.
+/// The text of what rows were answered with, and their counts.
 #[derive(Debug, Drop)]
 pub struct Report {
     /// A heading and a line for each row; nothing at all where memory ran out before the first row.

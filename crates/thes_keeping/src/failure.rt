@@ -3,7 +3,7 @@
 use std::alloc::AllocError;
 use thes_base::fault::{Fault, ReadStop};
 
-/// Why a keeper isn't filled.
+/// The reason why a keeper isn't filled.
 #[derive(Clone, Copy, Debug, PartialEq, Eq)]
 pub enum Failure {
     Memory,

@@ -29,7 +29,7 @@ impl<T: Ord + Drop> Lists<T> {
         }
     }
 
-    /// The values of a number.
+    /// Returns the values of a number.
     pub fn at(&self, n: ResNo) -> &[T]
         ensures { result.now ≡ listed_at self.now n }
     {

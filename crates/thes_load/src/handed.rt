@@ -14,7 +14,8 @@ use thes_base::fault::{Fault, Table};
 use thes_post::book::Book;
 use thes_rows::cells::Cell;
 
-/// What rows tell that load: the vocabulary with its links, and the sums of the postings.
+/// The parts that rows tell which load: the vocabulary with its links, and the sums of the
+/// postings.
 #[derive(Drop)]
 pub struct LoadedParts {
     pub linked: LinkedVocab,

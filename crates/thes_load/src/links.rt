@@ -23,7 +23,7 @@ use thes_graph::judge::in_order;
 use thes_rows::cells::Cell;
 use thes_rows::rows::{HierRow, HierType};
 
-/// What is kept of the rows of link and of hier: their links.
+/// Keeps of the rows of link and of hier their links.
 #[derive(Drop)]
 pub struct LinkLoad {
     pub graph: Graph,

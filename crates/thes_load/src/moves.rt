@@ -17,7 +17,7 @@ use thes_base::number::{PostNo, ResNo};
 use thes_rows::cells::Cell;
 use thes_rows::rows::MoveRow;
 
-/// What is kept of the rows of move: how many there were, and the place of each posting to which they lead.
+/// Keeps of the rows of move how many there were, and the place of each posting to which they lead.
 #[derive(Drop)]
 pub struct MoveLoad {
     pub places: Vec<ResNo>,

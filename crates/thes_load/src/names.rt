@@ -15,7 +15,7 @@ use thes_rows::cells::Cell;
 use thes_rows::rows::{LabelRow, OutsideRow};
 use thes_vocab::{Vocab, VocabLoad};
 
-/// What is kept of the rows of outside: the IRIs, and the last number.
+/// Keeps of the rows of outside the IRIs, and the last number.
 #[derive(Drop)]
 pub struct OutsideLoad {
     pub vocab: VocabLoad,

@@ -21,7 +21,7 @@ use thes_post::tally::Tally;
 use thes_rows::cells::Cell;
 use thes_rows::rows::PostingRow;
 
-/// What is kept of the rows of posting: their keys, their first concepts, their places and their sums.
+/// Keeps of the rows of posting their keys, their first concepts, their places and their sums.
 #[derive(Drop)]
 pub struct PostingLoad {
     pub keys: BTreeSet<Key>,

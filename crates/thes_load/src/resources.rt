@@ -16,7 +16,7 @@ use thes_base::number::ResNo;
 use thes_graph::graph::Graph;
 use thes_rows::cells::Cell;
 
-/// What is kept of the rows of resource: all of them.
+/// Keeps all of the rows of resource.
 #[derive(Drop)]
 pub struct ResourceLoad {
     pub resources: Vec<Resource>,

@@ -17,7 +17,8 @@ use thes_base::text::Base;
 use thes_rows::cells::Cell;
 use thes_vocab::VocabLoad;
 
-/// What is kept while the rows of one table are read, or the fault that was found, and the table that is read then.
+/// A stage of a load: what is kept while the rows of one table are read, or the fault that was found, and the table
+/// that is read then.
 #[derive(Drop)]
 pub enum Stage {
     Meta(Option<MetaRow>),

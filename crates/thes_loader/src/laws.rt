@@ -2,12 +2,13 @@
 ghost use Rattle.thes_loader.specs.Arranged.{AnyOrder};
 ghost use Rattle.thes_loader.specs.Handed.{ReadsHanded};
 
-/// A loader to which all rows of a store were handed has read them.
+/// States that a loader to which all rows of a store were handed has read them.
 pub fn reads_handed()
     ensures { ReadsHanded }
 {}
 
-/// Rows have one verdict in any order within each table, once numbered tables are in the order of their numbers.
+/// States that rows have one verdict in any order within each table, once numbered tables are in the order of their
+/// numbers.
 pub fn any_order()
     ensures { AnyOrder }
 {}

@@ -7,7 +7,7 @@ use std::marker::Model;
 use thes_base::data::Totals;
 use thes_base::number::{PostNo, ResNo};
 
-/// How many postings stand at each concept, how many were accepted and withdrawn, and how many moves were made.
+/// Counts the postings that stand at each concept, those that were accepted and withdrawn, and the moves.
 #[derive(Drop)]
 pub struct Book {
     counts: Vec<u32>,

@@ -7,7 +7,7 @@ ghost use Rattle.thes_post.specs.Rising.{RisesFrom};
 use std::alloc::{AllocError, Global};
 use thes_base::number::PostNo;
 
-/// The same numbers in order.
+/// Copies the numbers, in order.
 pub fn sorted(alloc: Global, numbers: &[PostNo]) -> Result<Vec<PostNo>, AllocError>
     ensures permutation { IfOk result (λ v. IsPermutation numbers.now v.items) }
     ensures in_order { IfOk result (λ v. IsNonDecreasing v.items) }
@@ -18,7 +18,7 @@ pub fn sorted(alloc: Global, numbers: &[PostNo]) -> Result<Vec<PostNo>, AllocErr
     Ok(list)
 }
 
-/// Whether each number is above the one before it.
+/// Tells whether each number is above the one before it.
 pub fn is_rising(numbers: &[PostNo]) -> bool
     ensures { IsTrue result ↔ RisesFrom 0 numbers.now }
 {

@@ -53,7 +53,7 @@ impl Change {
     }
 }
 
-/// The changes of an accepted request fit the rows of its state, and make those of the next.
+/// States that the changes of an accepted request fit the rows of its state, and make those of the next.
 pub fn changes_lead()
     ensures { ChangesLead }
 {}

@@ -12,13 +12,14 @@ use thes_base::pipe::Pipe;
 use thes_exchange::script::{Ended, script};
 use thes_store::keeper::Keeper;
 
-/// Answers each line of the input by a step of the machine, which leads the keeper's tables on, or by a view of the state
-/// that they show.
+/// Answers each line of the input by a step of the machine, which leads the keeper's tables on, or by a view of the
+/// state that they show.
 ///
-/// Whatever the lines are, the tables then show the state that the requests among them lead to from the one before. In it
-/// each posting that isn't withdrawn stands at exactly one live concept, the counts add up, and the triples meet the
-/// conditions. Where the keeper fails or memory runs out, the line is answered by the fault, and the tables stay. Lines and
-/// their limits are those of `script`; `OutOfMemory` ends it only before the first line.
+/// Whatever the lines are: where the keeper is up as the call ends, the tables show a state to which a run of the
+/// machine leads from the one before. In it each posting that isn't withdrawn stands at exactly one live concept, the
+/// counts add up, and the triples meet the conditions. Where the keeper fails or memory runs out, the line is answered
+/// by the fault, and the tables stay. Lines and their limits are those of `script`; `OutOfMemory` ends it only before
+/// the first line.
 pub fn office_script<K: Keeper, R: Read, W: Write>(
     alloc: Global,
     reader: &mut Pipe<R>,

@@ -13,9 +13,9 @@ use thes_store::keeper::Keeper;
 
 /// Serves as many connections of a listener, one after another.
 ///
-/// Whatever clients send, the tables then show the state that the requests performed lead to from the one before. In it each
-/// posting that isn't withdrawn stands at exactly one live concept, the counts add up, and the triples meet the conditions.
-/// An error is that of accepting a connection.
+/// Whatever clients send: where the keeper is up as the call ends, the tables show a state to which a run of the
+/// machine leads from the one before. In it each posting that isn't withdrawn stands at exactly one live concept, the
+/// counts add up, and the triples meet the conditions. An error is that of accepting a connection.
 pub fn office_serve<N: Net, K: Keeper>(
     alloc: Global,
     listener: &N::Listener,

@@ -12,7 +12,7 @@ use thes_rows::rows::{HierRow, HierType, LabelRow, MoveRow, PostingRow};
 use thes_sql::commit::commit_all;
 use thes_sql::create::create_tables;
 
-/// Why the store isn't filled.
+/// The reason why the store isn't filled.
 #[derive(Debug, Drop)]
 pub enum Failure {
     Memory,

@@ -7,7 +7,7 @@ use thes_rows::rows::PostingRow;
 use thes_store::keeper::Posting;
 use thes_store::sink::{PostingSink, RowSink};
 
-/// What a keeper hands out, a row on a line after its table's name.
+/// Writes what a keeper hands out, a row on a line after its table's name.
 #[derive(Drop)]
 pub struct Lines {
     text: String,

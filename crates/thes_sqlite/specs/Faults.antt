@@ -4,7 +4,7 @@ use Rattle.thes_base.specs.declared.fault.Fault.{Fault}
 use Rattle.thes_base.specs.declared.fault.Fault.TheVariants as faults
 use Rattle.thes_store.specs.Causes.{most}
 
--- want of memory, or a fault of the store
+-- running out of memory, or a fault of the store
 abbrev pub IsKeeperFault : Fault → Type 0
 IsKeeperFault fault = (fault ≡ faults.OutOfMemory) ⊎ (fault ≡ faults.Store)
 

@@ -12,7 +12,7 @@ use Rattle.thes_sql.specs.Stored.{Keeps, Hold}
 use Rattle.thes_sql.specs.Older.{KeepsOld, HasKnownSchema, renewed}
 use Rattle.thes_sqlite.specs.Kept.{IsUp}
 
--- want of memory, a fault of the store, a newer version, or a table that is not as version 1 has it
+-- running out of memory, a fault of the store, a newer version, or a table that is not as version 1 has it
 abbrev pub IsMigrateFault : Fault → Type 0
 IsMigrateFault fault =
     (fault ≡ OutOfMemory) ⊎ ((fault ≡ Store) ⊎ ((fault ≡ NewerStore) ⊎ ((fault ≡ BadStore table.Meta)

@@ -5,7 +5,7 @@ ghost use Rattle.thes_sqlite.specs.Faults.{IsKeeperFault, IsCounted};
 use sqlite::{Error, ErrorCode};
 use thes_base::fault::Fault;
 
-/// Tells which fault an error is: want of memory, or one of the store.
+/// Tells which fault an error is: running out of memory, or one of the store.
 pub(crate) fn fault_of(error: Error) -> Fault
     ensures { IsKeeperFault result }
 {

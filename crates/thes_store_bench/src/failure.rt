@@ -6,7 +6,7 @@ use std::io;
 use thes_base::fault::{Fault, ReadStop};
 use thes_keeping::failure::Failure as Unkept;
 
-/// Why something can't be timed.
+/// The reason why something can't be timed.
 #[derive(Debug, Drop)]
 pub enum Failure {
     Keeping(Unkept),

@@ -12,7 +12,7 @@ use thes_rows::cells::{Cell, CellText};
 use thes_rows::numbers::{label_number, link_number, resource_number};
 use thes_store::sink::RowSink;
 
-/// How many labels each resource has.
+/// The number of labels that each resource has.
 const LABELS: u32 = 10;
 
 /// Of how many resources and postings a store is. Each posting has a move; there are as many links as resources, half of

@@ -1,22 +1,22 @@
 //! What holds of rows, whatever reads them.
 ghost use Rattle.thes_tables.specs.Laws.{OneVerdict, LoadsLegal, LegalLoads, JudgesInTurn};
 
-/// Rows have at most one verdict.
+/// States that rows have at most one verdict.
 pub fn one_verdict()
     ensures { OneVerdict }
 {}
 
-/// Rows that load are the rows of a legal state, the one that they tell.
+/// States that rows which load are the rows of a legal state, the one that they tell.
 pub fn loads_legal()
     ensures { LoadsLegal }
 {}
 
-/// The rows of a legal state load, and tell it.
+/// States that the rows of a legal state load, and tell it.
 pub fn legal_loads()
     ensures { LegalLoads }
 {}
 
-/// The tables are judged in turn: the first that has no rows which meet its rule is named.
+/// States that tables are judged in turn: the first that has no rows which meet its rule is named.
 pub fn judges_in_turn()
     ensures { JudgesInTurn }
 {}

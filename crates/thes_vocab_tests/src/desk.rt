@@ -10,7 +10,7 @@ use thes_base::number::ResNo;
 use thes_base::text::{Base, Iri, Note, Tag, Text};
 use thes_vocab::Vocab;
 
-/// What a change is answered with.
+/// The answer to a change.
 #[derive(Clone, Copy, Debug, PartialEq, Eq)]
 pub enum Answer {
     Done,
@@ -19,19 +19,19 @@ pub enum Answer {
     No(Refusal),
 }
 
-/// What is done with a label.
+/// A change of a label.
 #[derive(Clone, Copy)]
 pub enum Change {
     Add,
     Remove,
 }
 
-/// A resource's number.
+/// Makes a resource's number.
 pub fn no(n: u32) -> ResNo {
     ResNo::new(n.max(1))
 }
 
-/// A label of this kind.
+/// Makes a label of this kind.
 pub fn label(alloc: Global, kind: LabelKind, tag: &str, text: &str) -> Result<Label, ReadStop> {
     let tag = Tag::read(alloc, tag)?;
     let value = match kind {
@@ -84,7 +84,7 @@ pub struct Desk {
 
 // Changes.
 impl Desk {
-    /// No resources, under the base of the examples.
+    /// Makes a desk without resources, under the base of the examples.
     pub fn new(alloc: Global) -> Result<Desk, ReadStop> {
         let base = Base::read(alloc, "https://thesaurus.example/id/")?;
         let vocab = Vocab::new(alloc, base);
@@ -101,28 +101,28 @@ impl Desk {
         Ok(Answer::Number(self.vocab.add_resource(new)?.get()))
     }
 
-    /// A scheme, named in English.
+    /// Adds a scheme, named in English.
     pub fn scheme(&mut self, text: &str) -> Result<Answer, ReadStop> {
         let tag = Tag::read(self.alloc, "en")?;
         let text = Text::read(self.alloc, text)?;
         Ok(self.make(NewResource::Scheme(tag, text))?)
     }
 
-    /// A concept, named in English.
+    /// Adds a concept, named in English.
     pub fn concept(&mut self, scheme: u32, text: &str) -> Result<Answer, ReadStop> {
         let tag = Tag::read(self.alloc, "en")?;
         let text = Text::read(self.alloc, text)?;
         Ok(self.make(NewResource::Concept(no(scheme), tag, text))?)
     }
 
-    /// A collection, named in English.
+    /// Adds a collection, named in English.
     pub fn collection(&mut self, scheme: u32, text: &str) -> Result<Answer, ReadStop> {
         let tag = Tag::read(self.alloc, "en")?;
         let text = Text::read(self.alloc, text)?;
         Ok(self.make(NewResource::Collection(no(scheme), tag, text))?)
     }
 
-    /// An outside concept.
+    /// Adds an outside concept.
     pub fn outside(&mut self, iri: &str) -> Result<Answer, ReadStop> {
         let iri = Iri::read(self.alloc, iri)?;
         Ok(self.make(NewResource::Outside(iri))?)
@@ -183,7 +183,7 @@ impl Desk {
         Ok(Answer::Done)
     }
 
-    /// Another preferred label.
+    /// Replaces a preferred label.
     pub fn relabel(
         &mut self,
         owner: u32,
@@ -206,7 +206,7 @@ impl Desk {
         Ok(Answer::Gained(gained))
     }
 
-    /// A dead concept without a replacement.
+    /// Marks a concept dead, without a replacement.
     pub fn deprecate(&mut self, n: u32) -> Answer {
         let n = no(n);
         if !is_live_concept(&self.vocab, n) {
@@ -216,7 +216,7 @@ impl Desk {
         Answer::Done
     }
 
-    /// A dead concept, replaced by the target.
+    /// Marks a concept dead, replaced by the target.
     pub fn replace(&mut self, source: u32, target: u32) -> Answer {
         let (source, target) = (no(source), no(target));
         if !is_live_concept(&self.vocab, source) || !may_replace(&self.vocab, source, target) {
@@ -229,37 +229,37 @@ impl Desk {
 
 // Readers.
 impl Desk {
-    /// How many resources and labels there are.
+    /// Counts the resources and the labels.
     pub fn counts(&self) -> (u64, u64) {
         (self.vocab.resource_count(), self.vocab.label_count())
     }
 
-    /// The resource.
+    /// Finds a resource.
     pub fn resource(&self, n: u32) -> Option<Resource> {
         self.vocab.resource(no(n)).copied()
     }
 
-    /// Whether it is live.
+    /// Tells whether a resource is live.
     pub fn is_live(&self, n: u32) -> bool {
         self.vocab.is_live(no(n))
     }
 
-    /// The live concepts of a scheme.
+    /// Lists the live concepts of a scheme.
     pub fn live_of(&self, scheme: u32) -> &[ResNo] {
         self.vocab.live_of(no(scheme))
     }
 
-    /// The labels of an owner.
+    /// Lists the labels of an owner.
     pub fn labels_of(&self, owner: u32) -> &[Label] {
         self.vocab.labels_of(no(owner))
     }
 
-    /// How many labels the target would gain.
+    /// Counts the labels that the target would gain.
     pub fn taken_count(&self, source: u32, target: u32) -> u64 {
         self.vocab.taken_count(no(source), no(target))
     }
 
-    /// The preferred label.
+    /// Finds a preferred label.
     pub fn preferred(&self, owner: u32, tag: &str) -> Result<Option<&str>, ReadStop> {
         let tag = Tag::read(self.alloc, tag)?;
         Ok(match self.vocab.preferred(no(owner), &tag) {
@@ -268,20 +268,20 @@ impl Desk {
         })
     }
 
-    /// Who holds the preferred label.
+    /// Finds the holder of a preferred label.
     pub fn holder(&self, scheme: u32, tag: &str, text: &str) -> Result<Option<ResNo>, ReadStop> {
         let tag = Tag::read(self.alloc, tag)?;
         let text = Text::read(self.alloc, text)?;
         Ok(self.vocab.holder(no(scheme), &tag, &text))
     }
 
-    /// The outside concept with the IRI.
+    /// Finds the outside concept with an IRI.
     pub fn number_of(&self, iri: &str) -> Result<Option<ResNo>, ReadStop> {
         let iri = Iri::read(self.alloc, iri)?;
         Ok(self.vocab.outside(&iri))
     }
 
-    /// The IRI of an outside concept.
+    /// Finds the IRI of an outside concept.
     pub fn iri_of(&self, n: u32) -> Option<&str> {
         match self.vocab.outside_iri(no(n)) {
             Some(iri) => Some(iri.as_str()),
