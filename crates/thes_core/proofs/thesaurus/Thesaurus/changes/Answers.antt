@@ -13,17 +13,17 @@ use Rattle.thes_core.proofs.thesaurus.Thesaurus.changes.Goals as goal
 pub returns-in-Scheme : goal.returns-in-Scheme
 returns-in-Scheme c =
     by_law_at c.args.self.now c.args.facts.now c.args.command.now _ c.in-Scheme.is c.changes_made.result
-    (IfOk-weaker c.changes_made.result _ _ (λ delta e hs ok are. e hs ∙ ap (λ (r : Resource). changes_made r c.in-Scheme.tag c.in-Scheme.text (state_of c.args.self.now hs)) c.live.ensures) c.changes_made.ensures)
+    (IfOk-weaker c.changes_made.result _ _ (λ delta e hs ok are. e hs ∙ ap (λ (r : Resource). changes_made r c.in-Scheme.tag c.in-Scheme.text (state_of c.args.self.now hs)) c.new.ensures) c.changes_made.ensures)
 
 pub returns-in-Concept : goal.returns-in-Concept
 returns-in-Concept c =
     by_law_at c.args.self.now c.args.facts.now c.args.command.now _ c.in-Concept.is c.changes_made-in-Concept.result
-    (IfOk-weaker c.changes_made-in-Concept.result _ _ (λ delta e hs ok are. e hs ∙ ap (λ (r : Resource). changes_made r c.in-Concept.tag c.in-Concept.text (state_of c.args.self.now hs)) c.live-in-Concept.ensures) c.changes_made-in-Concept.ensures)
+    (IfOk-weaker c.changes_made-in-Concept.result _ _ (λ delta e hs ok are. e hs ∙ ap (λ (r : Resource). changes_made r c.in-Concept.tag c.in-Concept.text (state_of c.args.self.now hs)) c.new-in-Concept.ensures) c.changes_made-in-Concept.ensures)
 
 pub returns-in-Collection : goal.returns-in-Collection
 returns-in-Collection c =
     by_law_at c.args.self.now c.args.facts.now c.args.command.now _ c.in-Collection.is c.changes_made-in-Collection.result
-    (IfOk-weaker c.changes_made-in-Collection.result _ _ (λ delta e hs ok are. e hs ∙ ap (λ (r : Resource). changes_made r c.in-Collection.tag c.in-Collection.text (state_of c.args.self.now hs)) c.live-in-Collection.ensures) c.changes_made-in-Collection.ensures)
+    (IfOk-weaker c.changes_made-in-Collection.result _ _ (λ delta e hs ok are. e hs ∙ ap (λ (r : Resource). changes_made r c.in-Collection.tag c.in-Collection.text (state_of c.args.self.now hs)) c.new-in-Collection.ensures) c.changes_made-in-Collection.ensures)
 
 pub returns-in-Outside : goal.returns-in-Outside
 returns-in-Outside c =

@@ -25,7 +25,7 @@ returns c = λ hs ok are.
     let made = c.in_ok-delta.ensures hs in
     let places = c.in_ok-push_places.ensures in
     let moves = c.in_ok-push_moves.ensures in
-    let resource = c.live-resource.ensures ∙ ap concept_resource (sym c.scheme.ensures) in
+    let resource = c.new-resource.ensures ∙ ap concept_resource (sym c.scheme.ensures) in
     moves
     ∙ (λ i. (places ∙ (λ j. made j ++ map (placed_at (number j)) (c.as_slice.ensures.value j))) i ++ map change.AddMove (moves_from (first i) c.args.source (number i) (moving i)))
     ∙ ap (λ r. (changes_made r c.args.tag.now c.args.text.now (state_of t hs) ++ map (placed_at (next_number (state_of t hs))) c.in_ok-moving.moving.items) ++ map change.AddMove (moves_from (move_count hs + 1) c.args.source (next_number (state_of t hs)) c.in_ok-moving.moving.items)) resource
