@@ -2,7 +2,6 @@
 -- its rest is; and where it refuses nothing, the row says what its rest says, and no more.
 use Rattle.std.proofs.Common.{ℕ, inl, inr, refl}
 use Rattle.std.specs.Prelude.{Option, None, Some, List}
-use Rattle.std.specs.FinMap as dict
 use Rattle.thes_base.specs.declared.data.Resource.{Resource}
 use Rattle.thes_base.specs.declared.data.Link.{Link}
 use Rattle.thes_base.specs.declared.data.History.{History}

@@ -1,7 +1,6 @@
 -- Each request whose texts have their forms leaves each text of the state its form.
-use Rattle.std.proofs.Common.{◌≡◌, ◌⊎◌, ℕ, zero, suc, ◌+◌, List, [], ◌∷◌, ◌++◌, refl, sym, subst, inl, inr, true}
+use Rattle.std.proofs.Common.{◌≡◌, ◌⊎◌, ℕ, ◌+◌, List, [], ◌∷◌, ◌++◌, refl, sym, subst, inl, inr, true}
 use Rattle.std.specs.Prelude.{Option, None, Some, Bool, count_by}
-use Rattle.std.specs.Ordering.{nat_cmp}
 use Rattle.std.specs.FinSet as set
 use Rattle.std.specs.FinMap as dict
 use Rattle.thes_base.specs.declared.data.LabelKind.{LabelKind}
@@ -13,20 +12,20 @@ use Rattle.thes_base.specs.declared.request.Command.TheVariants as request
 use Rattle.thes_base.specs.declared.request.Answer.{Answer}
 use Rattle.thes_base.specs.Forms.{IsBase, IsIri}
 use Rattle.thes_base.specs.Resources.{Iris, numbered, set_numbered}
-use Rattle.thes_base.specs.Labels.{Label, Labels, label_cmp, preferred_in, is_name}
+use Rattle.thes_base.specs.Labels.{Label, Labels, preferred_in, is_name}
 use Rattle.thes_base.specs.Postings.{withdraw, moved_those}
 use Rattle.thes_base.specs.State.{State, empty_state}
 use Rattle.thes_base.specs.Texts.{IsLabelForm, IsPostingForm, HasForms, HaveForms}
 use Rattle.thes_base.specs.Changes.{label, next_number, renamed, taken_kind, taken_labels}
 use Rattle.thes_base.specs.Refusals.{Setting}
 use Rattle.thes_base.specs.Machine.{Step, next_state, owned}
-use Rattle.thes_base.proofs.NumberedLemmas.{numbered_bound, push_cases, set_cases}
+use Rattle.thes_base.proofs.NumberedLemmas.{none_at, numbered_bound, push_cases, set_cases}
 use Rattle.thes_base.proofs.MoveLemmas.{Moved, numbered_moved}
-use Rattle.thes_base.proofs.LabelSets.{inserted_cases, removed_cases}
+use Rattle.thes_base.proofs.LabelSets.{inserted_cases, no_label, removed_cases}
 use Rattle.thes_base.proofs.Renamed.{renamed_cases}
 use Rattle.thes_base.proofs.MergedLabels.{union_cases}
 use Rattle.thes_base.proofs.PreferredLemmas.{preferred_found}
-use Rattle.thes_base.proofs.ResourcesKept.{iri_cases}
+use Rattle.thes_base.proofs.ResourcesKept.{iri_cases, no_iri}
 
 -- the label has its form
 abbrev IsFormed : Label → Type 0
@@ -130,17 +129,10 @@ step_texts setting s t command answer forms texts step = elim (step_either setti
 ]
 
 -- the empty state has no text
-none_at : {A : Type 0} (n : ℕ) (x : A) → numbered [] n ≡ Some x → ⊥
-none_at zero x e = cc
-none_at (suc n) x e = cc
-
 pub texts_empty : (base : List ℕ) → IsBase base → HaveForms base empty_state
 texts_empty base form = record {
   base_form = form;
-  iris = λ n iri e. absurd (let q = dict.get-empty {X = List ℕ} nat_cmp n in both_ways _ iri q e);
-  labels = λ l h. absurd (let e = set.contains-empty label_cmp l in cc);
+  iris = λ n iri e. absurd (no_iri n iri e);
+  labels = λ l h. absurd (no_label l h);
   postings = λ n h e. absurd (none_at n h e);
 }
-  where
-    both_ways : (o : Option (List ℕ)) (iri : List ℕ) → o ≡ None → o ≡ Some iri → ⊥
-    both_ways o iri p q = cc

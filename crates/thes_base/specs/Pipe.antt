@@ -1,5 +1,5 @@
 -- What is noted of a reader or a writer.
-use Rattle.std.specs.Prelude.{◌≡◌, ℕ, ◌+◌, ◌-◌, ◌^◌, ◌≤◌, min, Bool, false, List, length, take, Option}
+use Rattle.std.specs.Prelude.{◌≡◌, ℕ, ◌+◌, ◌-◌, ◌^◌, ◌≤◌, min, Bool, false, IsTrue, List, length, take, Option}
 use Rattle.std.specs.Io.KnownBytes.{Appends}
 use Rattle.thes_base.specs.declared.fault.PipeFault.{PipeFault}
 use Rattle.thes_base.specs.declared.fault.PipeFault.TheVariants.{Read, Write, TooLong}
@@ -46,6 +46,12 @@ pub record PaysCalls {T : Type 0} (old new : Pipe T) (before after : ℕ) : Type
   pub fell : after ≤ before
   pub calls : calls_of new ≡ counted (calls_of old) (before - after)
 
+-- an engine's call with this pipe alone kept to the limit
+pub record KeepsCalls {T : Type 0} (old new : Pipe T) : Type 0 where
+  pub calls : ℕ
+  pub within : calls ≤ calls_limit
+  pub counts : calls_of new ≡ counted (calls_of old) calls
+
 -- an engine's call with two pipes kept to the limit
 pub record KeepsToLimit {R W : Type 0} (reader reader' : Pipe R) (writer writer' : Pipe W) : Type 0 where
   pub reads : ℕ
@@ -81,3 +87,9 @@ reading_fault stops.TooLong = TooLong
 abbrev pub writing_fault : Stop → PipeFault
 writing_fault stops.Failed = Write
 writing_fault stops.TooLong = TooLong
+
+-- a front of the text was written, since the device failed or the budget was used up
+abbrev pub IsCut : {W : Type 0} → (W → Option (List ℕ)) → List ℕ → Pipe W → Pipe W → PipeFault → Type 0
+IsCut contents text old new Write = IsTrue (failed_of new) × AppendsFront (written contents old) (written contents new) text
+IsCut contents text old new TooLong = IsTrue (denied_of new) × AppendsFront (written contents old) (written contents new) text
+IsCut contents text old new _ = ⊥

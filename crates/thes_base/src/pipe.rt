@@ -3,7 +3,7 @@ ghost use Rattle.std.specs.Prelude.{◌≡◌, ◌≢◌, ◌+◌, ◌<◌, leng
 ghost use Rattle.std.specs.Io.{ReadsAtMost, WritesAtMost};
 ghost use Rattle.std.specs.Io.KnownBytes.{ReadConsumes, WriteAppends, Appends};
 ghost use Rattle.std.specs.IoError.{error_kind};
-ghost use Rattle.thes_base.specs.Pipe.{device_of, failed_of, ended_of, denied_of, calls_of, counted, IsFresh, PaysCalls, calls_limit, unread, written, AppendsFront, reading_fault, writing_fault};
+ghost use Rattle.thes_base.specs.Pipe.{device_of, failed_of, ended_of, denied_of, calls_of, counted, IsFresh, KeepsCalls, PaysCalls, calls_limit, unread, written, AppendsFront, IsCut, reading_fault, writing_fault};
 
 use crate::fault::PipeFault;
 use std::io;
@@ -262,5 +262,19 @@ impl<W: Write> Pipe<W> {
             }
         }
         Ok(())
+    }
+
+    /// Writes a whole text, within a budget of its own.
+    pub fn write_text(&mut self, text: &[u8]) -> Result<(), PipeFault>
+        requires { IsFresh self.old }
+        ensures ok { OnOk result (Appends (written W.contents self.old)
+            (written W.contents self.new) text.now) }
+        ensures err { IfErr result (IsCut W.contents text.now self.old self.new) }
+        ensures calls { KeepsCalls self.old self.new }
+    {
+        match self.write_all(&mut Budget::new(), text) {
+            Ok(()) => Ok(()),
+            Err(stop) => Err(stop.writing()),
+        }
     }
 }

@@ -3,6 +3,7 @@ use Rattle.std.proofs.Common.{◌≡◌, ◌∙◌, ◌⊎◌, ap, sym, refl, su
 use Rattle.std.specs.Prelude.{IsSome, IfSome, is_some, option_map, unwrap_or, find, codes}
 use Rattle.std.specs.Option.{option_map_or}
 use Rattle.std.specs.Str.{bytes_eq}
+use Rattle.std.proofs.lemmas.Bool.{not-false, or_parts}
 use Rattle.clap.specs.Values.{IsUnsignedIn, read_as}
 use Rattle.clap.specs.Walk.{Row, Text, answers_to, finished, first_of, nothing_held, one_of, rows_after, settled, walk, walk_from}
 use Rattle.clap.specs.Words.{App, fault_of, subcommand_of}
@@ -18,7 +19,7 @@ use Rattle.thes_http.specs.declared.service.Display.TheVariants.{Alphabetical, H
 use Rattle.thes_cli.specs.Commands.{program}
 use Rattle.thes_cli.specs.CommandLine.{Completes, HasCommand, display_name, script, import, export, display, serve, check, migrate}
 use Rattle.thes_cli.proofs.ReadingLemmas.{if_some_of, some_and}
-use Rattle.thes_cli.proofs.WalkedLemmas.{AllFit, Found, both_false, both_none, found_given, found_or_none, level_fit, not_false, wanted_given}
+use Rattle.thes_cli.proofs.WalkedLemmas.{AllFit, Found, both_none, found_given, found_or_none, level_fit, wanted_given}
 
 -- any value
 abbrev Any : Text → Reading → Text → Type 0
@@ -55,17 +56,17 @@ import_completes words none =
     let top = (built Rattle.thes_cli.specs.Commands.import).top in
     let rows = rows_after top.rules [] words in
     let fit = level_fit Any top words (((refl, λ v e. tt), refl), ((tt, refl), tt)) none in
-    let file = both_false (not (is_given (codes "file") rows)) _ (wanted_given false false _ fit.1) in
-    import refl (given_some (codes "file") rows fit.0 (not_false _ file.0))
+    let file = or_parts (not (is_given (codes "file") rows)) _ (wanted_given false false _ fit.1) in
+    import refl (given_some (codes "file") rows fit.0 (not-false _ file.0))
 
 display_completes : (d : Display) → IsCompleted (built (Rattle.thes_cli.specs.Commands.display (display_name d))).top
 display_completes d words none =
     let top = (built (Rattle.thes_cli.specs.Commands.display (display_name d))).top in
     let rows = rows_after top.rules [] words in
     let fit = level_fit Any top words (((refl, λ v e. tt), refl), (((refl, λ v e. tt), refl), ((tt, refl), tt))) none in
-    let scheme = both_false (not (is_given (codes "scheme") rows)) _ (wanted_given false false _ fit.1) in
-    let lang = both_false (not (is_given (codes "lang") rows)) _ scheme.1 in
-    display d refl (given_some (codes "scheme") rows fit.0 (not_false _ scheme.0), given_some (codes "lang") rows fit.0 (not_false _ lang.0))
+    let scheme = or_parts (not (is_given (codes "scheme") rows)) _ (wanted_given false false _ fit.1) in
+    let lang = or_parts (not (is_given (codes "lang") rows)) _ scheme.1 in
+    display d refl (given_some (codes "scheme") rows fit.0 (not-false _ scheme.0), given_some (codes "lang") rows fit.0 (not-false _ lang.0))
 
 -- the text that is read as a number is the one that was written
 as_written : (id : Text) (rows : List Row) (v : Text) (how : Reading) → first_of id rows ≡ Some v → one_of id rows ≡ Some (read_as how v) → how ≡ AsWritten
@@ -98,8 +99,8 @@ serve_completes words none =
         ((tt, refl), tt),
       ),
     ) none in
-    let given = both_false (not (is_given (codes "port") rows)) _ (wanted_given false false _ fit.1) in
-    let found = found_given Numbers (codes "port") rows fit.0 (not_false _ given.0) in
+    let given = or_parts (not (is_given (codes "port") rows)) _ (wanted_given false false _ fit.1) in
+    let found = found_given Numbers (codes "port") rows fit.0 (not-false _ given.0) in
     let port = found.4.0 refl in
     let count = count_found rows (found_or_none Numbers (codes "count") rows fit.0) in
     serve refl (record {

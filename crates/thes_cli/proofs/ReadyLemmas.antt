@@ -9,6 +9,7 @@ use Rattle.thes_base.specs.declared.fault.Fault.{Fault}
 use Rattle.thes_base.specs.declared.fault.PipeFault.{PipeFault}
 use Rattle.thes_base.specs.declared.fault.PipeFault.TheVariants as pipe
 use Rattle.thes_base.specs.declared.pipe.Pipe.{Pipe}
+use Rattle.thes_base.specs.Pipe.{KeepsCalls}
 use Rattle.thes_rows.specs.Cells.{Raw}
 use Rattle.thes_core.specs.Kept as core
 use Rattle.thes_core.specs.Kept.{Holds}
@@ -68,7 +69,7 @@ module _ {K : Type 0} (rows : K → Raw) (is_up : K → Type 0) (failed : K → 
     pub export_written : (old new : Kept K) (result : Result (Bor core.Kept) Fault) (copy : Bor core.Kept) (ended : Result (Unit {0}) PipeFault) → Readied rows is_up failed old result new → result ≡ Ok copy
         → ((s : State) → Holds copy.now s → OnOk ended (export.IsExported out copy.now.setting.base s output output'))
         → ((s : State) → Holds copy.now s → IfErr ended (export.IsStopped out copy.now.setting.base s output output'))
-        → export.KeepsCalls output output' → WritesExport rows is_up failed out old output ended new output'
+        → KeepsCalls output output' → WritesExport rows is_up failed out old output ended new output'
     export_written old new result copy (Ok done) ready is ok err calls =
         let here = handed old new result copy ready is in record {
           ready = Ok tt;
@@ -88,7 +89,7 @@ module _ {K : Type 0} (rows : K → Raw) (is_up : K → Type 0) (failed : K → 
         → Readied rows is_up failed old result new → result ≡ Ok copy
         → ((s : State) → Holds copy.now s → IfOk ended (display.IsShown out s.resources scheme (IsDisplay kind scheme tag s) output output'))
         → ((s : State) → Holds copy.now s → IfErr ended (display.IsStopped out (IsDisplay kind scheme tag s) output output'))
-        → display.KeepsCalls output output' → ShowsDisplay rows is_up failed out kind scheme tag old output ended new output'
+        → KeepsCalls output output' → ShowsDisplay rows is_up failed out kind scheme tag old output ended new output'
     display_written kind scheme tag old new result copy (Ok shown) ready is ok err calls =
         let here = handed old new result copy ready is in record {
           ready = Ok tt;

@@ -331,11 +331,3 @@ wanted_given true b x e = absurd (cc)
 wanted_given false true x e = absurd (cc)
 wanted_given false false true e = absurd (cc)
 wanted_given false false false e = refl
-
-pub both_false : (a b : Bool) → (a || b) ≡ false → (a ≡ false) × (b ≡ false)
-both_false true b e = absurd (true≢false e)
-both_false false b e = (refl, e)
-
-pub not_false : (a : Bool) → not a ≡ false → a ≡ true
-not_false true e = refl
-not_false false e = absurd (true≢false e)

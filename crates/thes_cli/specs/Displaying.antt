@@ -7,11 +7,12 @@ use Rattle.thes_base.specs.declared.fault.PipeFault.{PipeFault}
 use Rattle.thes_base.specs.declared.fault.PipeFault.TheVariants as pipe
 use Rattle.thes_base.specs.declared.fault.Refusal.{Refusal}
 use Rattle.thes_base.specs.declared.pipe.Pipe.{Pipe}
+use Rattle.thes_base.specs.Pipe.{KeepsCalls}
 use Rattle.thes_rows.specs.Cells.{Raw}
 use Rattle.thes_office.specs.Office.{Goes, Kept, Same}
 use Rattle.thes_display.specs.Alphabetical.{IsAlphabetical}
 use Rattle.thes_display.specs.Hierarchical.{IsHierarchical}
-use Rattle.thes_display.specs.Shown.{IsShown, IsStopped, KeepsCalls}
+use Rattle.thes_display.specs.Shown.{IsShown, IsStopped}
 use Rattle.thes_display.specs.declared.shown.Shown.{Shown}
 use Rattle.thes_display.specs.declared.shown.Shown.TheVariants.{Written, No}
 use Rattle.thes_http.specs.declared.service.Display.{Display}

@@ -1,9 +1,9 @@
 //! A display of a scheme of a store in a language.
 ghost use Rattle.std.specs.Prelude.{◌≡◌, false, Ok, IfOk, IfErr};
-ghost use Rattle.thes_base.specs.Pipe.{IsFresh};
+ghost use Rattle.thes_base.specs.Pipe.{IsFresh, KeepsCalls};
 ghost use Rattle.thes_base.specs.State.{State};
 ghost use Rattle.thes_core.specs.Kept.{Holds};
-ghost use Rattle.thes_display.specs.Shown.{IsShown, IsStopped, KeepsCalls};
+ghost use Rattle.thes_display.specs.Shown.{IsShown, IsStopped};
 ghost use Rattle.thes_cli.specs.Displaying.{DisplaysStore, EndsShown, IsDisplay, ShowsDisplay};
 
 use crate::ending::{print_error, refusal_line, tell};

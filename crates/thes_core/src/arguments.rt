@@ -1,14 +1,12 @@
 //! What a request's arguments are refused for: numbers that name nothing, the wrong kind of resource, a dead
 //! concept, one resource twice, or the wrong schemes.
-ghost use Rattle.std.specs.Prelude.{◌≡◌, ◌↔◌, ℕ, List, Some, IsTrue};
-ghost use Rattle.thes_base.specs.declared.data.Resource.{Resource};
+ghost use Rattle.std.specs.Prelude.{◌≡◌};
 ghost use Rattle.thes_base.specs.Rows.{accepted};
-ghost use Rattle.thes_base.specs.Resources.{numbered, replacements};
-ghost use Rattle.thes_base.specs.Links.{form_of};
+ghost use Rattle.thes_base.specs.Resources.{replacements};
 ghost use Rattle.thes_base.specs.Postings.{end_of};
-ghost use Rattle.thes_base.specs.Refusals.{AreEnds, HaveSchemes, unless_owner, unless_live_concept, unless_forwarded, unless_ends, unless_pair};
+ghost use Rattle.thes_base.specs.Refusals.{unless_owner, unless_live_concept, unless_forwarded, unless_ends, unless_pair};
 
-use thes_base::data::{Link, LinkForm, LinkKind, Resource, ResourceKind};
+use thes_base::data::{Link, ResourceKind};
 use thes_base::fault::Refusal;
 use thes_base::number::ResNo;
 use thes_vocab::Vocab;
@@ -87,55 +85,6 @@ pub fn judge_pair(vocab: &Vocab, source: ResNo, target: ResNo) -> Option<Refusal
     None
 }
 
-// What a kind of link joins.
-fn form(kind: LinkKind) -> LinkForm
-    ensures { result ≡ form_of kind }
-{
-    match kind {
-        LinkKind::Broader
-        | LinkKind::BroaderGeneric
-        | LinkKind::BroaderPartitive
-        | LinkKind::BroaderInstantial
-        | LinkKind::Related => LinkForm::Within,
-        LinkKind::Member => LinkForm::Membership,
-        LinkKind::Exact
-        | LinkKind::Close
-        | LinkKind::Broad
-        | LinkKind::Narrow
-        | LinkKind::RelMatch => LinkForm::Mapping,
-    }
-}
-
-// Whether the two ends are of the kinds that the form of the link asks for.
-fn are_ends(form: LinkForm, a: &Resource, b: &Resource) -> bool
-    ensures { (resources : List Resource) (m n : ℕ)
-        → numbered resources m ≡ Some a.now → numbered resources n ≡ Some b.now
-        → IsTrue result ↔ AreEnds resources form m n }
-{
-    match form {
-        LinkForm::Within => a.kind == ResourceKind::Concept && b.kind == ResourceKind::Concept,
-        LinkForm::Mapping => {
-            a.kind == ResourceKind::Concept
-                && (b.kind == ResourceKind::Concept || b.kind == ResourceKind::Outside)
-        }
-        LinkForm::Membership => {
-            a.kind == ResourceKind::Collection && b.kind == ResourceKind::Concept
-        }
-    }
-}
-
-// Whether the schemes of the two ends are those that the form of the link asks for.
-fn have_schemes(form: LinkForm, a: &Resource, b: &Resource) -> bool
-    ensures { (resources : List Resource) (m n : ℕ)
-        → numbered resources m ≡ Some a.now → numbered resources n ≡ Some b.now
-        → IsTrue result ↔ HaveSchemes resources form m n }
-{
-    match form {
-        LinkForm::Within | LinkForm::Membership => a.scheme == b.scheme,
-        LinkForm::Mapping => b.kind != ResourceKind::Concept || a.scheme != b.scheme,
-    }
-}
-
 /// Judges whether a link may join these two, by its kind.
 pub fn judge_ends(vocab: &Vocab, link: &Link) -> Option<Refusal>
     ensures { unless_ends vocab.now.resources link.now accepted result }
@@ -146,8 +95,8 @@ pub fn judge_ends(vocab: &Vocab, link: &Link) -> Option<Refusal>
     let Some(b) = vocab.resource(link.b).copied() else {
         return Some(Refusal::UnknownResource);
     };
-    let form = form(link.kind);
-    if !are_ends(form, &a, &b) {
+    let form = link.kind.form();
+    if !form.are_ends(&a, &b) {
         return Some(Refusal::WrongKind);
     }
     if !a.live || !b.live {
@@ -156,7 +105,7 @@ pub fn judge_ends(vocab: &Vocab, link: &Link) -> Option<Refusal>
     if link.a == link.b {
         return Some(Refusal::SameResource);
     }
-    if !have_schemes(form, &a, &b) {
+    if !form.have_schemes(&a, &b) {
         return Some(Refusal::OtherScheme);
     }
     None

@@ -1,5 +1,5 @@
 //! The changes of rows that an accepted request makes.
-ghost use Rattle.std.specs.Prelude.{◌≡◌, ◌<◌, ◌+◌, ◌^◌, ◌∷◌, [], IfOk, List, None, length, true};
+ghost use Rattle.std.specs.Prelude.{◌≡◌, ◌<◌, ◌+◌, ◌^◌, ◌∷◌, [], IfOk, List, length};
 ghost use Rattle.thes_base.specs.declared.data.History.{History};
 ghost use Rattle.thes_base.specs.declared.data.LabelKind.TheVariants.{Pref, Alt};
 ghost use Rattle.thes_base.specs.declared.request.Command.TheVariants as request;
@@ -36,18 +36,6 @@ fn one(alloc: Global, change: Change) -> Result<Delta, AllocError>
     let mut delta = Delta::new(alloc);
     delta.push(change)?;
     Ok(delta)
-}
-
-// A live resource that nothing replaces.
-fn live(kind: ResourceKind, scheme: Option<ResNo>) -> Resource
-    ensures { result ≡ record { kind = kind; scheme = scheme; live = true; replaced = None } }
-{
-    Resource {
-        kind,
-        scheme,
-        live: true,
-        replaced: None,
-    }
 }
 
 // The row of a preferred label.
@@ -140,13 +128,13 @@ impl Thesaurus {
     {
         match command {
             Command::Scheme(tag, text) => {
-                self.changes_made(live(ResourceKind::Scheme, None), tag, text)
+                self.changes_made(Resource::new(ResourceKind::Scheme, None), tag, text)
             }
             Command::Concept(scheme, tag, text) => {
-                self.changes_made(live(ResourceKind::Concept, Some(*scheme)), tag, text)
+                self.changes_made(Resource::new(ResourceKind::Concept, Some(*scheme)), tag, text)
             }
             Command::Collection(scheme, tag, text) => {
-                self.changes_made(live(ResourceKind::Collection, Some(*scheme)), tag, text)
+                self.changes_made(Resource::new(ResourceKind::Collection, Some(*scheme)), tag, text)
             }
             Command::Outside(iri) => self.changes_outside(iri),
             Command::AddLabel(owner, label) => one(
@@ -206,7 +194,7 @@ impl Thesaurus {
             → delta ≡ changes_of (request.Outside iri.now) (state_of self.now histories)) }
     {
         let number = self.next();
-        let resource = live(ResourceKind::Outside, None);
+        let resource = Resource::new(ResourceKind::Outside, None);
         let mut delta = one(self.alloc, Change::AddResource(number, resource))?;
         delta.push(Change::AddOutside(number, iri.try_clone(self.alloc)?))?;
         Ok(delta)

@@ -2,7 +2,7 @@
 use Rattle.std.proofs.Common.{◌≡◌, ◌⊎◌, ◌∙◌, ◌<◌, ◌≤◌, ◌+◌, sym, ap, refl, subst, ℕ, zero, suc, Bool, true, false, ◌||◌, List, [], ◌∷◌, ◌++◌, length, get_or, arith, eqb, eqb-true, ne_eqb, true≢false, ⊎_elim, inl, inr}
 use Rattle.std.specs.FinSet.{contains}
 use Rattle.std.specs.List.{AllByRecursion, IsDistinct, list_any}
-use Rattle.std.proofs.lemmas.Bool.{cases_lt, or_cases}
+use Rattle.std.proofs.lemmas.Bool.{cases_lt, or_cases, or_left, or_right}
 use Rattle.std.proofs.lemmas.Map.Keys.{IsDistinct-cons}
 use Rattle.std.proofs.lemmas.Map.Steps.{length-le_from_distinct_below}
 use Rattle.std.proofs.lemmas.Option.{slice_get-get_or}
@@ -23,13 +23,6 @@ use Rattle.thes_display.proofs.GatherLemmas.{key_within, one_concept, types_are,
 use Rattle.thes_display.proofs.KeyedLemmas.{closed, key_of, one_key}
 
 -- Which concept is broader, as a test.
-
-or_first : (x y : Bool) → x ≡ true → (x || y) ≡ true
-or_first x y e = ap (λ b. b || y) e
-
-or_later : (x y : Bool) → y ≡ true → (x || y) ≡ true
-or_later true y e = refl
-or_later false y e = e
 
 abbrev held : Links → LinkKind → ℕ → ℕ → Bool
 held links kind a b = contains links (record { kind = kind; a = a; b = b })
@@ -52,11 +45,11 @@ broader_from links a b e = elim (or_cases _ _ e) [
 ]
 
 broader_to : (links : Links) (a b : ℕ) → HasBroader links a b → is_broader links a b ≡ true
-broader_to links a b (kinds.Broader, is, l) = or_first _ _ l
-broader_to links a b (kinds.BroaderGeneric, is, l) = or_later (held links kinds.Broader a b) _ (or_first _ _ l)
-broader_to links a b (kinds.BroaderPartitive, is, l) = or_later (held links kinds.Broader a b) _ (or_later (held links kinds.BroaderGeneric a b) _ (or_first _ _ l))
+broader_to links a b (kinds.Broader, is, l) = or_left _ _ l
+broader_to links a b (kinds.BroaderGeneric, is, l) = or_right (held links kinds.Broader a b) _ (or_left _ _ l)
+broader_to links a b (kinds.BroaderPartitive, is, l) = or_right (held links kinds.Broader a b) _ (or_right (held links kinds.BroaderGeneric a b) _ (or_left _ _ l))
 broader_to links a b (kinds.BroaderInstantial, is, l) =
-    or_later (held links kinds.Broader a b) _ (or_later (held links kinds.BroaderGeneric a b) _ (or_later (held links kinds.BroaderPartitive a b) _ l))
+    or_right (held links kinds.Broader a b) _ (or_right (held links kinds.BroaderGeneric a b) _ (or_right (held links kinds.BroaderPartitive a b) _ l))
 broader_to links a b (kinds.Related, is, l) = absurd (let e = is.1 in cc)
 broader_to links a b (kinds.Exact, is, l) = absurd (let e = is.1 in cc)
 broader_to links a b (kinds.Close, is, l) = absurd (let e = is.1 in cc)

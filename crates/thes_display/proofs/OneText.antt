@@ -12,7 +12,7 @@ use Rattle.thes_display.specs.Hierarchical.{IsAway, IsHome, IsTop, AreTypes, Has
 use Rattle.thes_display.specs.Lines.{IsLine, line_cmp, lines_text, path}
 use Rattle.thes_display.specs.Order.{Term}
 use Rattle.thes_display.proofs.HeadingLemmas.{heading_total}
-use Rattle.thes_display.proofs.OneListing.{one_listing}
+use Rattle.thes_base.proofs.OneListing.{one_listing}
 use Rattle.thes_display.proofs.OrderLemmas.{term_total}
 
 -- texts are one where each element's is

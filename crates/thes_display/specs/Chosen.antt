@@ -4,8 +4,10 @@ use Rattle.thes_base.specs.declared.data.LabelKind.{LabelKind}
 use Rattle.thes_base.specs.declared.data.LinkKind.{LinkKind}
 use Rattle.thes_base.specs.Labels.{Labels, HasLabel}
 use Rattle.thes_base.specs.Links.{Links}
-use Rattle.thes_base.specs.Views.{HasLink}
+use Rattle.thes_base.specs.Views.{HasBroader, HasLink}
 use Rattle.thes_core.specs.Terms.{term_text}
+use Rattle.thes_display.specs.declared.chosen.Side.{Side}
+use Rattle.thes_display.specs.declared.chosen.Side.TheVariants.{Broader, Narrower}
 use Rattle.thes_display.specs.Order.{Term}
 
 -- such a concept under its term
@@ -16,6 +18,12 @@ IsTermOf labels tag P t = P t.concept × (t.text ≡ term_text labels tag t.conc
 abbrev pub IsLabelTerm : Labels → ℕ → LabelKind → List ℕ → Term → Type 0
 IsLabelTerm labels n kind tag t = (t.concept ≡ n) × HasLabel labels n kind tag t.text
 
--- m is narrower than n by a link of this kind
-abbrev pub IsBelow : Links → LinkKind → ℕ → ℕ → Type 0
-IsBelow links kind n m = HasLink links kind m n
+-- m is on this side of n
+abbrev pub IsBeside : Links → Side → ℕ → ℕ → Type 0
+IsBeside links Broader n m = HasBroader links n m
+IsBeside links Narrower n m = HasBroader links m n
+
+-- m is on this side of n by a link of this kind
+abbrev pub IsLinked : Links → Side → LinkKind → ℕ → ℕ → Type 0
+IsLinked links Broader kind n m = HasLink links kind n m
+IsLinked links Narrower kind n m = HasLink links kind m n

@@ -1,5 +1,5 @@
 -- What becomes of a display that is asked for.
-use Rattle.std.specs.Prelude.{◌≡◌, ◌≤◌, ℕ, List, Option, IsTrue}
+use Rattle.std.specs.Prelude.{◌≡◌, ℕ, List, Option}
 use Rattle.std.specs.Io.KnownBytes.{Appends}
 use Rattle.thes_base.specs.declared.data.Resource.{Resource}
 use Rattle.thes_base.specs.declared.fault.Fault.TheVariants.{OutOfMemory}
@@ -8,7 +8,7 @@ use Rattle.thes_base.specs.declared.fault.PipeFault.TheVariants as pipe
 use Rattle.thes_base.specs.declared.fault.Refusal.{Refusal}
 use Rattle.thes_base.specs.declared.fault.Refusal.TheVariants as no
 use Rattle.thes_base.specs.declared.pipe.Pipe.{Pipe}
-use Rattle.thes_base.specs.Pipe.{AppendsFront, calls_limit, calls_of, counted, denied_of, failed_of, written}
+use Rattle.thes_base.specs.Pipe.{IsCut, written}
 use Rattle.thes_base.specs.Resources.{Exists, IsScheme}
 use Rattle.thes_display.specs.declared.shown.Shown.{Shown}
 use Rattle.thes_display.specs.declared.shown.Shown.TheVariants.{Written, No}
@@ -19,19 +19,7 @@ IsNoScheme resources n no.UnknownResource = Exists resources n → ⊥
 IsNoScheme resources n no.WrongKind = Exists resources n × (IsScheme resources n → ⊥)
 IsNoScheme resources n _ = ⊥
 
--- the calls of the writer are within the limit of an engine's call
-pub record KeepsCalls {W : Type 0} (old new : Pipe W) : Type 0 where
-  pub writes : ℕ
-  pub within : writes ≤ calls_limit
-  pub wrote : calls_of new ≡ counted (calls_of old) writes
-
 module _ {W : Type 0} (contents : W → Option (List ℕ)) where
-  -- a front of the text was written, since the device failed or the budget was used up
-  abbrev pub IsCut : List ℕ → Pipe W → Pipe W → PipeFault → Type 0
-  IsCut text old new pipe.Write = IsTrue (failed_of new) × AppendsFront (written contents old) (written contents new) text
-  IsCut text old new pipe.TooLong = IsTrue (denied_of new) × AppendsFront (written contents old) (written contents new) text
-  IsCut text old new _ = ⊥
-
   -- the display of a scheme is written; nothing is written where there is none
   abbrev pub IsShown : List Resource → ℕ → (List ℕ → Type 0) → Pipe W → Pipe W → Shown → Type 0
   IsShown resources scheme IsText old new Written = IsScheme resources scheme × ((text : List ℕ) × IsText text × Appends (written contents old) (written contents new) text)
@@ -41,4 +29,4 @@ module _ {W : Type 0} (contents : W → Option (List ℕ)) where
   abbrev pub IsStopped : (List ℕ → Type 0) → Pipe W → Pipe W → PipeFault → Type 0
   IsStopped IsText old new (pipe.Fault OutOfMemory) = new ≡ old
   IsStopped IsText old new (pipe.Fault _) = ⊥
-  IsStopped IsText old new fault = (text : List ℕ) × IsText text × IsCut text old new fault
+  IsStopped IsText old new fault = (text : List ℕ) × IsText text × IsCut contents text old new fault

@@ -7,7 +7,7 @@ ghost use Rattle.thes_base.specs.Listing.{IsListing};
 ghost use Rattle.thes_base.specs.Views.{HasLink};
 ghost use Rattle.thes_core.specs.Kept.{with_histories};
 ghost use Rattle.thes_display.specs.Alphabetical.{IsUnder};
-ghost use Rattle.thes_display.specs.Chosen.{IsTermOf, IsLabelTerm, IsBelow};
+ghost use Rattle.thes_display.specs.Chosen.{IsBeside, IsLabelTerm, IsLinked, IsTermOf};
 ghost use Rattle.thes_display.specs.Order.{term_cmp};
 
 use crate::symbol::Symbol;
@@ -72,42 +72,53 @@ pub(crate) fn labels_in(
     Ok(terms)
 }
 
-// The concepts that are broader by a link of this kind, rising.
-fn broader_by(
-    alloc: Global,
-    core: &Core,
-    kind: LinkKind,
-    n: ResNo,
-) -> Result<Vec<ResNo>, AllocError>
-    requires unspent { core.now.spent ≡ false }
-    requires hierarchical { IsHierarchical kind }
-    ensures { IfOk result (λ found. IsListing nat_cmp (HasLink core.now.links kind n) found.items) }
-{
-    let broader = core.broader_of(alloc, n)?;
-    let mut found = Vec::new(alloc);
-    for m in &broader {
-        if has_link(core, kind, n, *m) {
-            found.push(*m)?;
-        }
-    }
-    Ok(found)
+/// Where the concepts stand to which links lead.
+#[derive(Clone, Copy)]
+pub(crate) enum Side {
+    Broader,
+    Narrower,
 }
 
-// The concepts that are narrower by a link of this kind, rising.
-fn narrower_by(
+// The concepts on a side of this one, rising.
+fn beside(alloc: Global, core: &Core, side: Side, n: ResNo) -> Result<Vec<ResNo>, AllocError>
+    requires { core.now.spent ≡ false }
+    ensures { IfOk result (λ found. IsListing nat_cmp (IsBeside core.now.links side n) found.items) }
+{
+    match side {
+        Side::Broader => core.broader_of(alloc, n),
+        Side::Narrower => core.narrower_of(alloc, n),
+    }
+}
+
+// Whether m stands on this side of n by a link of this kind.
+fn is_linked(core: &Core, side: Side, kind: LinkKind, n: ResNo, m: ResNo) -> bool
+    requires unspent { core.now.spent ≡ false }
+    requires hierarchical { IsHierarchical kind }
+    ensures { IsTrue result ↔ IsLinked core.now.links side kind n m }
+{
+    match side {
+        Side::Broader => has_link(core, kind, n, m),
+        Side::Narrower => has_link(core, kind, m, n),
+    }
+}
+
+// The concepts on a side of this one by a link of this kind, rising.
+fn linked(
     alloc: Global,
     core: &Core,
+    side: Side,
     kind: LinkKind,
     n: ResNo,
 ) -> Result<Vec<ResNo>, AllocError>
     requires unspent { core.now.spent ≡ false }
     requires hierarchical { IsHierarchical kind }
-    ensures { IfOk result (λ found. IsListing nat_cmp (IsBelow core.now.links kind n) found.items) }
+    ensures { let is_linked = IsLinked core.now.links side kind n in
+        IfOk result (λ found. IsListing nat_cmp is_linked found.items) }
 {
-    let narrower = core.narrower_of(alloc, n)?;
+    let among = beside(alloc, core, side, n)?;
     let mut found = Vec::new(alloc);
-    for m in &narrower {
-        if has_link(core, kind, *m, n) {
+    for m in &among {
+        if is_linked(core, side, kind, n, *m) {
             found.push(*m)?;
         }
     }
@@ -130,11 +141,11 @@ pub fn under(
         Symbol::ScopeNote => labels_in(alloc, core, n, LabelKind::Scope, tag),
         Symbol::UsedFor => labels_in(alloc, core, n, LabelKind::Alt, tag),
         Symbol::Broader(hierarchy) => {
-            let broader = broader_by(alloc, core, hierarchy.kind(), n)?;
+            let broader = linked(alloc, core, Side::Broader, hierarchy.kind(), n)?;
             Ok(terms_of_all(alloc, core, broader.as_slice(), tag)?)
         }
         Symbol::Narrower(hierarchy) => {
-            let narrower = narrower_by(alloc, core, hierarchy.kind(), n)?;
+            let narrower = linked(alloc, core, Side::Narrower, hierarchy.kind(), n)?;
             Ok(terms_of_all(alloc, core, narrower.as_slice(), tag)?)
         }
         Symbol::Related => {

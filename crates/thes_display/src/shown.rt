@@ -1,13 +1,12 @@
 //! The displays of a scheme, written to a pipe.
-ghost use Rattle.std.specs.Prelude.{◌≡◌, false, IfOk, IfErr, OnOk, MatchOption};
-ghost use Rattle.std.specs.Io.KnownBytes.{Appends};
-ghost use Rattle.thes_base.specs.Pipe.{IsFresh, written};
+ghost use Rattle.std.specs.Prelude.{◌≡◌, false, IfOk, IfErr, MatchOption};
+ghost use Rattle.thes_base.specs.Pipe.{IsFresh, KeepsCalls};
 ghost use Rattle.thes_base.specs.Resources.{IsScheme};
 ghost use Rattle.thes_base.specs.State.{State};
 ghost use Rattle.thes_core.specs.Kept.{Holds};
 ghost use Rattle.thes_display.specs.Alphabetical.{IsAlphabetical};
 ghost use Rattle.thes_display.specs.Hierarchical.{IsHierarchical};
-ghost use Rattle.thes_display.specs.Shown.{IsCut, IsNoScheme, IsShown, IsStopped, KeepsCalls};
+ghost use Rattle.thes_display.specs.Shown.{IsNoScheme, IsShown, IsStopped};
 
 use crate::entry::alphabetical_text;
 use crate::gather::hierarchical_text;
@@ -16,7 +15,7 @@ use std::io::Write;
 use thes_base::data::ResourceKind;
 use thes_base::fault::{PipeFault, Refusal};
 use thes_base::number::ResNo;
-use thes_base::pipe::{Budget, Pipe};
+use thes_base::pipe::Pipe;
 use thes_base::text::Tag;
 use thes_core::Core;
 
@@ -44,20 +43,6 @@ pub fn judge_scheme(core: &Core, scheme: ResNo) -> Option<Refusal>
     }
 }
 
-// Writes a whole text.
-fn write_text<W: Write>(writer: &mut Pipe<W>, text: &[u8]) -> Result<(), PipeFault>
-    requires { IsFresh writer.old }
-    ensures ok { OnOk result (Appends (written W.contents writer.old) (written W.contents writer.new) text.now) }
-    ensures err { IfErr result (IsCut W.contents text.now writer.old writer.new) }
-    ensures calls { KeepsCalls writer.old writer.new }
-{
-    let mut budget = Budget::new();
-    match writer.write_all(&mut budget, text) {
-        Ok(()) => Ok(()),
-        Err(stop) => Err(stop.writing()),
-    }
-}
-
 /// Writes the hierarchical display of a scheme in a language, of the state that the core holds. All memory is had before the
 /// first byte is written.
 pub fn hierarchical<W: Write>(
@@ -81,7 +66,7 @@ pub fn hierarchical<W: Write>(
         return Ok(Shown::No(refusal));
     }
     let text = hierarchical_text(alloc, core, scheme, tag)?;
-    write_text(writer, text.as_slice())?;
+    writer.write_text(text.as_slice())?;
     Ok(Shown::Written)
 }
 
@@ -108,6 +93,6 @@ pub fn alphabetical<W: Write>(
         return Ok(Shown::No(refusal));
     }
     let text = alphabetical_text(alloc, core, scheme, tag)?;
-    write_text(writer, text.as_slice())?;
+    writer.write_text(text.as_slice())?;
     Ok(Shown::Written)
 }

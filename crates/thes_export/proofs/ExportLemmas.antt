@@ -11,7 +11,7 @@ use Rattle.thes_export.specs.Spelling.{line_of, statement_of}
 use Rattle.thes_export.specs.Export.{IsTripleLine, IsExport, IsReadAs}
 use Rattle.thes_export.proofs.Documents.{AllWritable, lines_text, document_same}
 use Rattle.thes_export.proofs.Spelled.{lines_read, line_spelled, one_line}
-use Rattle.thes_export.proofs.OneListing.{one_listing}
+use Rattle.thes_base.proofs.OneListing.{one_listing}
 use Rattle.thes_export.proofs.Legality.{asserted_writable}
 
 module _ (base : List ℕ) (s : State) (legal : Legal base s) where

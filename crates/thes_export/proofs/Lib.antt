@@ -4,7 +4,6 @@ pub mod Readings
 pub mod Documents
 pub mod Spelled
 pub mod Legality
-pub mod OneListing
 pub mod ExportLemmas
 pub mod LineLemmas
 pub mod AddedLemmas

@@ -4,7 +4,7 @@ use Rattle.std.specs.Prelude.{option_and_then, OnOk, nat_lt, if◌then◌else◌
 use Rattle.thes_base.specs.Links.{HeldIn, exchanged, is_symmetric, norm}
 use Rattle.std.specs.Ordering.{nat_cmp, eq_by_cmp}
 use Rattle.std.specs.Cmp.{Equal-is}
-use Rattle.std.proofs.lemmas.Bool.{or_cases, or_left, or_right}
+use Rattle.std.proofs.lemmas.Bool.{and_parts, both_ways, not-true, or_cases, or_left, or_right}
 use Rattle.thes_base.specs.declared.data.Resource.{Resource}
 use Rattle.thes_base.specs.declared.data.ResourceKind.{ResourceKind}
 use Rattle.thes_base.specs.declared.data.ResourceKind.TheVariants as kinds
@@ -100,19 +100,11 @@ module _ (core : Kept) (n : ℕ) (r : Resource) where
 
   -- Dead concepts.
 
-  and_both : (a b : Bool) → (a && b) ≡ true → (a ≡ true) × (b ≡ true)
-  and_both true b e = (refl, e)
-  and_both false b e = absurd (true≢false (sym e))
-
-  not_both : (a : Bool) → not a ≡ true → a ≡ true → ⊥
-  not_both true e f = true≢false (sym e)
-  not_both false e f = true≢false (sym f)
-
   pub death_line : (line : List ℕ) (old new : List (List ℕ)) → numbered core.resources n ≡ Some r → (is_concept_kind r.kind && not r.live) ≡ true → line ≡ line_of (dead_triple core n) → Adds (λ l. l ≡ line) old new → Adds (IsLineOf (IsOf core Death n)) old new
   death_line line old new found e made =
-      let parts = and_both (is_concept_kind r.kind) (not r.live) e in
+      let parts = and_parts (is_concept_kind r.kind) (not r.live) e in
       one_triple (IsOf core Death n) (dead_triple core n) line old new made
-      ((r, found, parts.0), (λ live. not_both r.live parts.1 (ap (λ (z : Resource). z.live) (sym (same_resource live.0 found live.1)) ∙ live.2)), refl)
+      ((r, found, parts.0), (λ live. both_ways r.live (not-true r.live parts.1) (ap (λ (z : Resource). z.live) (sym (same_resource live.0 found live.1)) ∙ live.2)), refl)
       (λ t w. w.2)
 
   live_or : (a b : Bool) → (a && not b) ≡ false → a ≡ true → b ≡ true

@@ -1,31 +1,16 @@
 //! An export, written to a pipe.
 ghost use Rattle.std.specs.Prelude.{◌≡◌, false, IfErr, OnOk};
-ghost use Rattle.std.specs.Io.KnownBytes.{Appends};
-ghost use Rattle.thes_base.specs.Pipe.{IsFresh, written};
+ghost use Rattle.thes_base.specs.Pipe.{IsFresh, KeepsCalls};
 ghost use Rattle.thes_base.specs.State.{State};
 ghost use Rattle.thes_core.specs.Kept.{Holds};
-ghost use Rattle.thes_export.specs.Written.{IsCut, IsExported, IsStopped, KeepsCalls};
+ghost use Rattle.thes_export.specs.Written.{IsExported, IsStopped};
 
 use crate::gather::export_text;
 use std::alloc::Global;
 use std::io::Write;
 use thes_base::fault::PipeFault;
-use thes_base::pipe::{Budget, Pipe};
+use thes_base::pipe::Pipe;
 use thes_core::Core;
-
-// Writes a whole text.
-fn write_text<W: Write>(writer: &mut Pipe<W>, text: &[u8]) -> Result<(), PipeFault>
-    requires { IsFresh writer.old }
-    ensures ok { OnOk result (Appends (written W.contents writer.old) (written W.contents writer.new) text.now) }
-    ensures err { IfErr result (IsCut W.contents text.now writer.old writer.new) }
-    ensures calls { KeepsCalls writer.old writer.new }
-{
-    let mut budget = Budget::new();
-    match writer.write_all(&mut budget, text) {
-        Ok(()) => Ok(()),
-        Err(stop) => Err(stop.writing()),
-    }
-}
 
 /// Writes the export of the state that the core holds, as N-Triples. All memory is had before the first byte is written.
 pub fn export<W: Write>(alloc: Global, core: &Core, writer: &mut Pipe<W>) -> Result<(), PipeFault>
@@ -38,6 +23,6 @@ pub fn export<W: Write>(alloc: Global, core: &Core, writer: &mut Pipe<W>) -> Res
     ensures calls { KeepsCalls writer.old writer.new }
 {
     let text = export_text(alloc, core)?;
-    write_text(writer, text.as_slice())?;
+    writer.write_text(text.as_slice())?;
     Ok(())
 }

@@ -1,9 +1,19 @@
--- The nodes that a walk met, as a list and as a set.
-use Rattle.std.specs.Prelude.{◌≡◌, ℕ, List, nat_eq}
-use Rattle.std.specs.Ordering.{nat_cmp}
-use Rattle.std.specs.BTreeSet.{BTreeSet, contains}
+-- The nodes that a walk met, as a list and, where they are many, as marks at their numbers.
+use Rattle.std.specs.Prelude.{◌≡◌, ◌<◌, ◌||◌, ℕ, Bool, false, List, length, get_or, nat_eq}
 use Rattle.std.specs.List.{list_any}
 
--- the set has the nodes of the list, and no others
-abbrev pub IsMet : List ℕ → BTreeSet ℕ → Type 0
-IsMet nodes met = (n : ℕ) → contains nat_cmp met n ≡ list_any (nat_eq n) nodes
+-- there is a mark at this number
+abbrev pub is_marked : List Bool → ℕ → Bool
+is_marked marks n = get_or marks n false
+
+-- the nodes of the list are marked, and no others
+abbrev pub AreMarked : List ℕ → List Bool → Type 0
+AreMarked nodes marks = (n : ℕ) → is_marked marks n ≡ list_any (nat_eq n) nodes
+
+-- one more number is marked
+abbrev pub IsOneMore : (old new : List Bool) → ℕ → Type 0
+IsOneMore old new n = (m : ℕ) → is_marked new m ≡ (nat_eq m n || is_marked old m)
+
+-- the nodes of a list that has many are marked, and no others
+abbrev pub IsMet : List ℕ → List Bool → Type 0
+IsMet nodes marks = 16 < length nodes → AreMarked nodes marks

@@ -11,6 +11,7 @@ pub mod judge;
 mod linked;
 pub mod links;
 mod mapped;
+mod marks;
 mod nodes;
 mod relation;
 pub mod side;

@@ -2,16 +2,16 @@
 ghost use Rattle.std.specs.Prelude.{◌≡◌, ◌<◌, ◌^◌, ◌∷◌, [], Contains, IfOk, OnOk, IfSome, MatchBool, length, slice_get};
 ghost use Rattle.thes_graph.specs.Steps.{GrowsBy};
 
+use crate::marks::{FEW, has_mark, mark_more};
 use std::alloc::{AllocError, Global};
-use std::collections::BTreeSet;
 use std::marker::Model;
 use thes_base::number::ResNo;
 
-/// Nodes in the order in which a walk met them, each once; seen by contracts as that list.
+/// Nodes in the order in which a walk met them, each once; seen by contracts as that list. Where they are many, they are marked too.
 #[derive(Drop)]
 pub struct Nodes {
     list: Vec<ResNo>,
-    met: BTreeSet<ResNo>,
+    marks: Vec<bool>,
 }
 
 impl Model for Nodes {
@@ -22,7 +22,7 @@ impl Model for Nodes {
 
     ghost view = { λ a. a.list.items };
 
-    ghost invariant = { λ a. IsMet a.list.items a.met };
+    ghost invariant = { λ a. IsMet a.list.items a.marks.items };
 }
 
 impl Nodes {
@@ -32,7 +32,7 @@ impl Nodes {
     {
         Nodes {
             list: Vec::new(alloc),
-            met: BTreeSet::new(alloc),
+            marks: Vec::new(alloc),
         }
     }
 
@@ -41,9 +41,8 @@ impl Nodes {
         ensures { IfOk result (λ nodes. nodes ≡ start ∷ []) }
     {
         let list = vec![in alloc; start]?;
-        let mut met = BTreeSet::new(alloc);
-        met.insert(start)?;
-        Ok(Nodes { list, met })
+        let marks = Vec::new(alloc);
+        Ok(Nodes { list, marks })
     }
 
     /// The nodes in the order in which they were met.
@@ -65,7 +64,10 @@ impl Nodes {
     pub fn has(&self, n: ResNo) -> bool
         ensures { MatchBool result (Contains self.now n) (Contains self.now n → ⊥) }
     {
-        self.met.contains(&n)
+        if self.list.len() <= FEW {
+            return self.list.contains(&n);
+        }
+        has_mark(&self.marks, n)
     }
 
     /// Notes that a node was met.
@@ -73,10 +75,12 @@ impl Nodes {
         ensures grows { OnOk result (GrowsBy self.old self.new (λ m. n ≡ m)) }
         ensures small { length self.new < 2 ^ 63 }
     {
-        self.list.reserve(1)?;
-        if self.met.insert(n)? {
-            self.list.push(n)?;
+        if self.has(n) {
+            return Ok(());
         }
+        self.list.reserve(1)?;
+        mark_more(&mut self.marks, self.list.as_slice(), n)?;
+        self.list.push(n)?;
         Ok(())
     }
 }

@@ -1,11 +1,11 @@
 -- One connection: what was taken of the reader, what it was answered with, and what was written.
 use Rattle.std.specs.Prelude.{ℕ, ◌≡◌, List, Option}
-use Rattle.std.specs.Io.KnownBytes.{Consumes, Appends, IsAtEnd}
-use Rattle.thes_base.specs.Pipe.{AppendsFront, unread, written}
+use Rattle.std.specs.Io.KnownBytes.{Consumes, IsAtEnd}
+use Rattle.thes_base.specs.Pipe.{unread}
 use Rattle.thes_exchange.specs.Script.{Scene}
 use Rattle.thes_http.specs.declared.response.Status.{Status}
 use Rattle.thes_http.specs.declared.response.Response.{Response}
-use Rattle.thes_http.specs.Responses.{response_text}
+use Rattle.thes_http.specs.Responses.{WritesFront, WritesResponse}
 use Rattle.thes_http.specs.Serving.{Doing, Answers, IsCut}
 
 -- bytes were taken, and are answered so
@@ -35,14 +35,14 @@ module _ {R W S : Type 0} (remaining : R → Option (List ℕ)) (contents : W �
   pub record IsServed (status : Status) : Type 0 where
     pub response : Response
     pub answer : IsAnsweredBy response
-    pub text : Appends (written contents old.writer) (written contents new.writer) (response_text response)
+    pub text : WritesResponse contents response old.writer new.writer
     pub is_status : status ≡ response.status
 
   -- a front of the answer was written
   pub record IsServedInPart : Type 0 where
     pub response : Response
     pub answer : IsAnsweredBy response
-    pub text : AppendsFront (written contents old.writer) (written contents new.writer) (response_text response)
+    pub text : WritesFront contents response old.writer new.writer
 
 -- nothing was done or written
 abbrev pub IsUntouched : {R W S : Type 0} → Scene R W S → Scene R W S → Type 0

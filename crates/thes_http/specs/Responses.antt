@@ -1,7 +1,10 @@
 -- What is written: a status, a type and a body.
-use Rattle.std.specs.Prelude.{ℕ, ◌++◌, [], List, unwrap_or, length, codes, decimal, Result, Ok, Err}
+use Rattle.std.specs.Prelude.{ℕ, ◌++◌, [], List, Option, unwrap_or, length, codes, decimal, Result, Ok, Err}
+use Rattle.std.specs.Io.KnownBytes.{Appends}
 use Rattle.thes_base.specs.declared.fault.Fault.{Fault}
 use Rattle.thes_base.specs.declared.fault.FormFault.{FormFault}
+use Rattle.thes_base.specs.declared.pipe.Pipe.{Pipe}
+use Rattle.thes_base.specs.Pipe.{AppendsFront, written}
 use Rattle.thes_base.specs.declared.request.Answer.{Answer}
 use Rattle.thes_base.specs.declared.request.Answer.TheVariants.{No}
 use Rattle.thes_exchange.specs.declared.answer.Reply.{Reply}
@@ -106,6 +109,14 @@ head_text r =
 -- the head, and then the body
 abbrev pub response_text : Response → List ℕ
 response_text r = head_text r ++ body_text r.body
+
+-- the response was written
+abbrev pub WritesResponse : {W : Type 0} → (W → Option (List ℕ)) → Response → Pipe W → Pipe W → Type 0
+WritesResponse contents r old new = Appends (written contents old) (written contents new) (response_text r)
+
+-- a front of it was written
+abbrev pub WritesFront : {W : Type 0} → (W → Option (List ℕ)) → Response → Pipe W → Pipe W → Type 0
+WritesFront contents r old new = AppendsFront (written contents old) (written contents new) (response_text r)
 
 -- Responses.
 

@@ -1,8 +1,7 @@
 //! What a request is answered with, and its bytes.
 ghost use Rattle.std.specs.Prelude.{◌≡◌, ◌≤◌, ◌↔◌, true, false, length, OnOk, OnErr, IsErrOf};
-ghost use Rattle.std.specs.Io.KnownBytes.{Appends};
-ghost use Rattle.thes_base.specs.Pipe.{failed_of, denied_of, written, AppendsFront, PaysCalls};
-ghost use Rattle.thes_http.specs.Responses.{status_code, status_line, media_type, problem_text, problem_status, allow_text, body_text, head_text, response_text, told, page_response, problem_response, form_response, fault_response, performed_response, viewed_response, imported_response, exported_response, displayed_response};
+ghost use Rattle.thes_base.specs.Pipe.{failed_of, denied_of, PaysCalls};
+ghost use Rattle.thes_http.specs.Responses.{status_code, status_line, media_type, problem_text, problem_status, allow_text, body_text, head_text, WritesFront, WritesResponse, told, page_response, problem_response, form_response, fault_response, performed_response, viewed_response, imported_response, exported_response, displayed_response};
 
 use crate::head_text::HeadText;
 use crate::service::{Displayed, Imported, Page};
@@ -294,10 +293,8 @@ impl Response {
     ) -> Result<(), Stop>
         requires fresh { failed_of writer.old ≡ false }
         requires body { body.now ≡ body_text self.now.body }
-        ensures ok { OnOk result (Appends (written W.contents writer.old)
-            (written W.contents writer.new) (response_text self.now)) }
-        ensures err { OnErr result (AppendsFront (written W.contents writer.old)
-            (written W.contents writer.new) (response_text self.now)) }
+        ensures ok { OnOk result (WritesResponse W.contents self.now writer.old writer.new) }
+        ensures err { OnErr result (WritesFront W.contents self.now writer.old writer.new) }
         ensures failed { IsErrOf result Stop.Failed ↔ (failed_of writer.new ≡ true) }
         ensures denied { IsErrOf result Stop.TooLong → denied_of writer.new ≡ true }
         ensures paid { PaysCalls writer.old writer.new budget.old budget.new }
@@ -316,10 +313,8 @@ impl Response {
     /// Writes the answer. It takes no memory.
     pub fn write<W: Write>(&self, writer: &mut Pipe<W>, budget: &mut Budget) -> Result<(), Stop>
         requires { failed_of writer.old ≡ false }
-        ensures ok { OnOk result (Appends (written W.contents writer.old)
-            (written W.contents writer.new) (response_text self.now)) }
-        ensures err { OnErr result (AppendsFront (written W.contents writer.old)
-            (written W.contents writer.new) (response_text self.now)) }
+        ensures ok { OnOk result (WritesResponse W.contents self.now writer.old writer.new) }
+        ensures err { OnErr result (WritesFront W.contents self.now writer.old writer.new) }
         ensures failed { IsErrOf result Stop.Failed ↔ (failed_of writer.new ≡ true) }
         ensures denied { IsErrOf result Stop.TooLong → denied_of writer.new ≡ true }
         ensures paid { PaysCalls writer.old writer.new budget.old budget.new }

@@ -17,7 +17,7 @@ use Rattle.thes_import.specs.declared.row.Row.{Row}
 use Rattle.thes_import.specs.declared.row.Row.TheVariants as row
 use Rattle.thes_office.specs.Office.{ChangesNothing, Goes, GoesOn, Kept, Same, Steps}
 use Rattle.thes_office.specs.Shows.{Shows}
-use Rattle.thes_office.proofs.KeptLemmas.{goes_on_by}
+use Rattle.thes_office.proofs.KeptLemmas.{goes_on_by, goes_on_none}
 use Rattle.thes_importer.specs.Imports.{AddsRow, ImportsRows, ImportsSome, PerformsRow, PerformsRows, TellsRow}
 use Rattle.thes_importer.specs.Outcomes.{IsOutcome, Tells, answer_in, answers_of, post_in, posts_of, row_count}
 use Rattle.thes_importer.specs.declared.outcome.Outcome.{Outcome}
@@ -32,15 +32,7 @@ all_parts P (x ∷ xs) ys all = let rest = all_parts P xs ys all.1 in ((all.0, r
 -- no row was performed yet
 performs_none : (limits : Limits) (raw : Raw) (base : List ℕ) (s : State) → Shows raw base s → IsInOrder base s → PerformsRows limits raw [] [] raw
 performs_none limits raw base s shows in_order = record {
-  goes_on = record {
-    base = base;
-    before = s;
-    after = s;
-    showed = shows;
-    run = refl;
-    shows = shows;
-    in_order = in_order;
-  };
+  goes_on = goes_on_none limits raw base s shows in_order;
   same = λ all. refl;
 }
 

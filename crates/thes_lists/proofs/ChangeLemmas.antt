@@ -1,9 +1,9 @@
 -- One list is written.
-use Rattle.std.proofs.Common.{◌≡◌, ◌≢◌, ◌<◌, ◌≤◌, ◌+◌, ◌∷◌, ◌++◌, length, length-append, set, get_or, inl, inr, ℕ, true, false, [], Vec, Global, refl, sym, ap, subst, ◌∙◌, arith}
+use Rattle.std.proofs.Common.{ltb, ◌≡◌, ◌≢◌, ◌<◌, ◌≤◌, ◌+◌, ◌∷◌, ◌++◌, length, length-append, set, get_or, inl, inr, ℕ, true, false, [], Vec, Global, refl, sym, ap, subst, ◌∙◌, arith}
 use Rattle.std.specs.Prelude.{Option, Some, None, vec_len, slice_get}
 use Rattle.std.specs.Option.{is_some, IsSomeAnd, option_map_or}
 use Rattle.std.specs.Vec.{vec_capacity}
-use Rattle.std.proofs.lemmas.Bool.{cases_eq, cases_lt}
+use Rattle.std.proofs.lemmas.Bool.{cases_eq, cases_lt, ltb-true}
 use Rattle.std.specs.Vec.{with_item}
 use Rattle.std.proofs.lemmas.Grind.{get_or-set_at}
 use Rattle.std.proofs.lemmas.List.{get_or_push, get_or_append_left, get_or-set_other, length-set}
@@ -16,16 +16,16 @@ IsRoomy v = vec_len v < vec_capacity v
 
 module _ {A : Type 0} (old new : Lists A) (n : ℕ) (v : Vec A Global) (written : slice_get new.lists.items n ≡ Some v)
     (elsewhere : (m : ℕ) → m ≢ n → slice_get new.lists.items m ≡ slice_get old.lists.items m) where
-  pub changes_written : ChangesAt old new n v.items
+  changes_written : ChangesAt old new n v.items
   changes_written = record {
     here = ap (λ o. option_map_or (λ (w : Vec A Global). w.items) o []) written;
     others = λ m apart. ap (λ o. option_map_or (λ (w : Vec A Global). w.items) o []) (elsewhere m apart);
   }
 
-  pub rooms_elsewhere : (m : ℕ) → m ≢ n → HasSpare old m → HasSpare new m
+  rooms_elsewhere : (m : ℕ) → m ≢ n → HasSpare old m → HasSpare new m
   rooms_elsewhere m apart room = subst (λ o. IsSomeAnd o IsRoomy) (sym (elsewhere m apart)) room
 
-  pub lists_kept : KeepsLists old new
+  lists_kept : KeepsLists old new
   lists_kept m has = elim (cases_eq m n) [
     | inl here ↦ subst (HasList new) (sym here) (ap is_some written)
     | inr apart ↦ subst (λ o. is_some o ≡ true) (sym (elsewhere m apart)) has
@@ -62,10 +62,10 @@ module _ {A : Type 0} (old new : Lists A) (n : ℕ) (v : Vec A Global) (written 
 
   -- a list with more room
   module _ (before : Vec A Global) (was : Some before ≡ slice_get old.lists.items n) where
-    pub same_grown : v.items ≡ before.items → AreSame old new
+    same_grown : v.items ≡ before.items → AreSame old new
     same_grown same = same_written (same ∙ ap (λ o. option_map_or (λ (w : Vec A Global). w.items) o []) was)
 
-    pub rooms_grown : vec_len v ≡ vec_len before → vec_capacity before ≤ vec_capacity v → KeepsRooms old new
+    rooms_grown : vec_len v ≡ vec_len before → vec_capacity before ≤ vec_capacity v → KeepsRooms old new
     rooms_grown len capacity = rooms_written (λ room. more (subst (λ o. IsSomeAnd o IsRoomy) (sym was) room))
       where
         more : IsRoomy before → IsRoomy v
@@ -109,16 +109,19 @@ module _ {A : Type 0} (old new : Lists A) (v : Vec A Global) (empty : v.items �
   lists_pushed = lists_kept old new (length old.lists.items) v last_written before_last
 
 -- the list of a number that has one is written
-module _ {A : Type 0} (lists : Lists A) (n i : ℕ) (at : i ≡ n) (inside : i < length lists.lists.items) (v : Vec A Global) where
-  abbrev pub wrote : Lists A
+module _ {A : Type 0} (lists : Lists A) (n i : ℕ) (at : i ≡ n) (found : ltb i (length lists.lists.items) ≡ true) (v : Vec A Global) where
+  inside : i < length lists.lists.items
+  inside = ltb-true i (length lists.lists.items) found
+
+  abbrev wrote : Lists A
   wrote = record lists { lists = with_item lists.lists i v }
 
-  pub wrote_here : slice_get wrote.lists.items n ≡ Some v
+  wrote_here : slice_get wrote.lists.items n ≡ Some v
   wrote_here =
       slice_get-get_or (set lists.lists.items i v) n v (omega (arith, at, inside, length-set lists.lists.items i v))
       ∙ ap Some (get_or-set_at lists.lists.items i n v v (sym at) inside)
 
-  pub wrote_elsewhere : (m : ℕ) → m ≢ n → slice_get wrote.lists.items m ≡ slice_get lists.lists.items m
+  wrote_elsewhere : (m : ℕ) → m ≢ n → slice_get wrote.lists.items m ≡ slice_get lists.lists.items m
   wrote_elsewhere m apart = elim (cases_lt m (length lists.lists.items)) [
     | inl within ↦
         slice_get-get_or (set lists.lists.items i v) m v (omega (arith, within, length-set lists.lists.items i v))
@@ -129,8 +132,25 @@ module _ {A : Type 0} (lists : Lists A) (n i : ℕ) (at : i ≡ n) (inside : i <
         ∙ sym (slice_get_past lists.lists.items m past)
   ]
 
-  pub was_there : v ≡ get_or lists.lists.items i v → Some v ≡ slice_get lists.lists.items n
-  was_there is = ap Some is ∙ sym (slice_get-get_or lists.lists.items i v inside) ∙ ap (slice_get lists.lists.items) at
+  pub changes_at : ChangesAt lists wrote n v.items
+  changes_at = changes_written lists wrote n v wrote_here wrote_elsewhere
 
-  pub was_listed : v ≡ get_or lists.lists.items i v → listed_at lists n ≡ v.items
-  was_listed is = ap (λ o. option_map_or (λ (w : Vec A Global). w.items) o []) (sym (was_there is))
+  pub lists_stay : KeepsLists lists wrote
+  lists_stay = lists_kept lists wrote n v wrote_here wrote_elsewhere
+
+  pub rooms_stay : (m : ℕ) → m ≢ n → HasSpare lists m → HasSpare wrote m
+  rooms_stay = rooms_elsewhere lists wrote n v wrote_here wrote_elsewhere
+
+  -- in place of this list
+  module _ (before : Vec A Global) (is : before ≡ get_or lists.lists.items i before) where
+    was_there : Some before ≡ slice_get lists.lists.items n
+    was_there = ap Some is ∙ sym (slice_get-get_or lists.lists.items i before inside) ∙ ap (slice_get lists.lists.items) at
+
+    pub was_listed : listed_at lists n ≡ before.items
+    was_listed = ap (λ o. option_map_or (λ (w : Vec A Global). w.items) o []) (sym was_there)
+
+    pub same_reserved : v.items ≡ before.items → AreSame lists wrote
+    same_reserved = same_grown lists wrote n v wrote_here wrote_elsewhere before was_there
+
+    pub rooms_reserved : vec_len v ≡ vec_len before → vec_capacity before ≤ vec_capacity v → KeepsRooms lists wrote
+    rooms_reserved = rooms_grown lists wrote n v wrote_here wrote_elsewhere before was_there

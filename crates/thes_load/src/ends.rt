@@ -1,12 +1,9 @@
 //! What the resources with given numbers are, and what links may join.
-ghost use Rattle.std.specs.Prelude.{◌≡◌, ◌↔◌, ℕ, List, Some, IsTrue, option_copied};
-ghost use Rattle.thes_base.specs.declared.data.Resource.{Resource};
+ghost use Rattle.std.specs.Prelude.{◌≡◌, ◌↔◌, IsTrue, option_copied};
 ghost use Rattle.thes_base.specs.Resources.{numbered, IsConcept, is_live_concept, is_outside};
-ghost use Rattle.thes_base.specs.Links.{form_of};
-ghost use Rattle.thes_base.specs.Refusals.{AreEnds, HaveSchemes};
 ghost use Rattle.thes_load.specs.Linking.{IsFitLink};
 
-use thes_base::data::{Link, LinkForm, LinkKind, Resource, ResourceKind};
+use thes_base::data::{Link, Resource, ResourceKind};
 use thes_base::number::ResNo;
 
 /// Finds the resource with this number.
@@ -46,53 +43,6 @@ pub fn is_outside(resources: &[Resource], n: ResNo) -> bool
     }
 }
 
-// What a kind of link joins.
-fn form(kind: LinkKind) -> LinkForm
-    ensures { result ≡ form_of kind }
-{
-    match kind {
-        LinkKind::Broader
-        | LinkKind::BroaderGeneric
-        | LinkKind::BroaderPartitive
-        | LinkKind::BroaderInstantial
-        | LinkKind::Related => LinkForm::Within,
-        LinkKind::Member => LinkForm::Membership,
-        LinkKind::Exact
-        | LinkKind::Close
-        | LinkKind::Broad
-        | LinkKind::Narrow
-        | LinkKind::RelMatch => LinkForm::Mapping,
-    }
-}
-
-// Whether the two ends are of the kinds that the form of the link asks for.
-fn are_ends(form: LinkForm, a: &Resource, b: &Resource) -> bool
-    ensures { (resources : List Resource) (m n : ℕ) → numbered resources m ≡ Some a.now → numbered resources n ≡ Some b.now
-        → IsTrue result ↔ AreEnds resources form m n }
-{
-    match form {
-        LinkForm::Within => a.kind == ResourceKind::Concept && b.kind == ResourceKind::Concept,
-        LinkForm::Mapping => {
-            a.kind == ResourceKind::Concept
-                && (b.kind == ResourceKind::Concept || b.kind == ResourceKind::Outside)
-        }
-        LinkForm::Membership => {
-            a.kind == ResourceKind::Collection && b.kind == ResourceKind::Concept
-        }
-    }
-}
-
-// Whether the schemes of the two ends are those that the form of the link asks for.
-fn have_schemes(form: LinkForm, a: &Resource, b: &Resource) -> bool
-    ensures { (resources : List Resource) (m n : ℕ) → numbered resources m ≡ Some a.now → numbered resources n ≡ Some b.now
-        → IsTrue result ↔ HaveSchemes resources form m n }
-{
-    match form {
-        LinkForm::Within | LinkForm::Membership => a.scheme == b.scheme,
-        LinkForm::Mapping => b.kind != ResourceKind::Concept || a.scheme != b.scheme,
-    }
-}
-
 /// Checks whether a link has the ends that its kind asks for, whatever their order.
 pub fn is_fit(resources: &[Resource], link: &Link) -> bool
     ensures { IsTrue result ↔ IsFitLink resources.now link.now }
@@ -103,6 +53,10 @@ pub fn is_fit(resources: &[Resource], link: &Link) -> bool
     let Some(b) = resource_at(resources, link.b).copied() else {
         return false;
     };
-    let form = form(link.kind);
-    are_ends(form, &a, &b) && a.live && b.live && link.a != link.b && have_schemes(form, &a, &b)
+    let form = link.kind.form();
+    form.are_ends(&a, &b)
+        && a.live
+        && b.live
+        && link.a != link.b
+        && form.have_schemes(&a, &b)
 }

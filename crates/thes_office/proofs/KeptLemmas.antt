@@ -7,6 +7,7 @@ use Rattle.thes_base.specs.declared.fault.Fault.{Fault}
 use Rattle.thes_base.specs.declared.fault.Fault.TheVariants as faults
 use Rattle.thes_base.specs.declared.request.Answer.{Answer}
 use Rattle.thes_base.specs.declared.request.Command.{Command}
+use Rattle.thes_base.specs.Headline.{IsInOrder}
 use Rattle.thes_base.specs.Machine.{Run, Step}
 use Rattle.thes_base.specs.Refusals.{Setting}
 use Rattle.thes_base.specs.State.{State}
@@ -19,6 +20,18 @@ use Rattle.thes_office.specs.Office.{AreLimits, Goes, GoesOn, IsConsistent, IsCo
 use Rattle.thes_office.specs.Shows.{Shows}
 use Rattle.thes_office.proofs.ShowLemmas.{faulty_shows_none, shows_one, shows_same}
 use Rattle.thes_office.proofs.StepLemmas.{copies_over}
+
+-- no requests lead nowhere
+pub goes_on_none : (limits : Limits) (raw : Raw) (base : List ℕ) (s : State) → Shows raw base s → IsInOrder base s → GoesOn limits raw [] [] raw
+goes_on_none limits raw base s shows in_order = record {
+  base = base;
+  before = s;
+  after = s;
+  showed = shows;
+  run = refl;
+  shows = shows;
+  in_order = in_order;
+}
 
 module _ {K : Type 0} (rows : K → Raw) (is_up : K → Type 0) where
   -- after a load
@@ -136,15 +149,7 @@ module _ {K : Type 0} (rows : K → Raw) (is_up : K → Type 0) (failed : K → 
         count = refl;
         given = [];
         kept = sym (append-nil before);
-        goes_on = λ up. let x = consistent.shows up in record {
-          base = x.0;
-          before = x.1;
-          after = x.1;
-          showed = x.2;
-          run = refl;
-          shows = x.2;
-          in_order = legal_is_in_order x.0 x.1 x.2.legal;
-        };
+        goes_on = λ up. let x = consistent.shows up in goes_on_none limits (rows keeper) x.0 x.1 x.2 (legal_is_in_order x.0 x.1 x.2.legal);
       }
 
   -- one more request

@@ -6,49 +6,15 @@ use std::alloc::{AllocError, Global};
 use std::io;
 use thes_base::fault::PipeFault;
 use thes_desks::Store;
-use thes_devices::{Filling, Halting};
+use thes_desks::failing::Failing;
 use thes_exchange::script::Ended;
 
-// The device that fails: a reader that breaks, a writer that breaks, or one that is full.
-#[derive(Clone, Copy, Debug, PartialEq, Eq)]
-enum Failing {
-    Reader,
-    Writer,
-    FullWriter,
-}
-
-impl Failing {
-    // A reader that gives the requests, for so many calls if it is the device that fails.
-    fn reader<'a>(self, requests: &'a str, calls: u32) -> Halting<'a> {
-        Halting {
-            bytes: requests.as_bytes(),
-            calls: if self == Reader { calls } else { u32::MAX },
-        }
-    }
-
-    // A writer that takes bytes, for so many calls if it is the device that fails.
-    fn writer(self, alloc: Global, calls: u32) -> Filling {
-        Filling {
-            bytes: Vec::new(alloc),
-            calls: if self == Reader { u32::MAX } else { calls },
-            is_full: self == FullWriter,
-        }
-    }
-
-    fn fault(self) -> PipeFault {
-        match self {
-            Reader => PipeFault::Read,
-            Writer | FullWriter => PipeFault::Write,
-        }
-    }
-
-    // How many requests were performed: those that are answered, and the one whose answer a writer failed to take.
-    fn performed(self, written: &str) -> usize {
-        let answered = written.bytes().filter(|byte| *byte == b'\n').count();
-        match self {
-            Reader => answered,
-            Writer | FullWriter => answered.saturating_add(1),
-        }
+// How many requests were performed: those that are answered, and the one whose answer a writer failed to take.
+fn performed(failing: Failing, written: &str) -> usize {
+    let answered = written.bytes().filter(|byte| *byte == b'\n').count();
+    match failing {
+        Reader => answered,
+        Writer | FullWriter => answered.saturating_add(1),
     }
 }
 
@@ -90,21 +56,21 @@ fn first_wrong(alloc: Global, stored: &Stored, failing: Failing) -> io::Result<O
 }
 
 fn fate_after(alloc: Global, stored: &Stored, failing: Failing, calls: u32) -> io::Result<Fate> {
-    let store = Store::new(alloc, stored.limits)?;
-    let reader = failing.reader(stored.requests.as_str(), calls);
-    let (store, writer, ended) = store.serve(alloc, reader, failing.writer(alloc, calls));
-    fate_of(alloc, store, stored, failing, writer, ended)
+    let mut store = Store::new(alloc, stored.limits)?;
+    let fate = fate_in(alloc, &mut store, stored, failing, calls);
+    drop(store);
+    fate
 }
 
-// What became of a script for which this was written, and which ended so.
-fn fate_of(
+fn fate_in(
     alloc: Global,
-    store: Store,
+    store: &mut Store,
     stored: &Stored,
     failing: Failing,
-    writer: Filling,
-    ended: Result<Ended, PipeFault>,
+    calls: u32,
 ) -> io::Result<Fate> {
+    let reader = failing.reader(stored.requests.as_str(), calls);
+    let (writer, ended) = store.serve(alloc, reader, failing.writer(alloc, calls));
     let written = text_of(writer.bytes)?;
     if ended.is_ok() {
         return whole(written, ended, stored.answers.as_str());
@@ -112,7 +78,7 @@ fn fate_of(
     if ended != Err(failing.fault()) || !stored.answers.as_str().starts_with(written.as_str()) {
         return Ok(Fate::Wrong);
     }
-    let performed = failing.performed(written.as_str());
+    let performed = performed(failing, written.as_str());
     resumed(alloc, store, stored, performed)
 }
 
@@ -124,14 +90,15 @@ fn whole(written: String, ended: Result<Ended, PipeFault>, wanted: &str) -> io::
 }
 
 // Has the store answer the requests behind those that were performed.
-fn resumed(alloc: Global, store: Store, stored: &Stored, performed: usize) -> io::Result<Fate> {
+fn resumed(
+    alloc: Global,
+    store: &mut Store,
+    stored: &Stored,
+    performed: usize,
+) -> io::Result<Fate> {
     let requests = behind(alloc, stored.requests.as_str(), performed)?;
     let wanted = behind(alloc, stored.answers.as_str(), performed)?;
-    let (_store, written, ended) = store.serve(
-        alloc,
-        requests.as_str().as_bytes(),
-        Vec::new(alloc),
-    );
+    let (written, ended) = store.serve(alloc, requests.as_str().as_bytes(), Vec::new(alloc));
     if ended_text(text_of(written)?, ended)? == wanted {
         return Ok(Fate::Resumed);
     }

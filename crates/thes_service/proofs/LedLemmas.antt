@@ -11,7 +11,7 @@ use Rattle.thes_base.specs.State.{State}
 use Rattle.thes_rows.specs.Cells.{Raw}
 use Rattle.thes_office.specs.Office.{Goes, GoesOn, Kept, Same, Steps}
 use Rattle.thes_office.specs.Shows.{Shows}
-use Rattle.thes_office.proofs.KeptLemmas.{goes_on_by}
+use Rattle.thes_office.proofs.KeptLemmas.{goes_on_by, goes_on_none}
 use Rattle.thes_exchange.specs.declared.answer.Reply.TheVariants as reply
 use Rattle.thes_exchange.specs.declared.serve.Outcome.{Outcome}
 use Rattle.thes_exchange.specs.declared.serve.Outcome.TheVariants.{Told, Shown}
@@ -26,19 +26,7 @@ module _ {K : Type 0} (rows : K → Raw) (is_up : K → Type 0) (failed : K → 
     limits = refl;
     was = λ up. up;
     later = omega arith;
-    goes_on = λ up. let x = shows up in (
-      [],
-      [],
-      record {
-        base = x.0;
-        before = x.1;
-        after = x.1;
-        showed = x.2;
-        run = refl;
-        shows = x.2;
-        in_order = x.3;
-      },
-    );
+    goes_on = λ up. let x = shows up in ([], [], goes_on_none office.limits (rows office.keeper) x.0 x.1 x.2 x.3);
   }
 
   -- a call that leaves the tables

@@ -10,7 +10,7 @@ use sqlite::types::ValueRef;
 use thes_base::data::{Link, Resource};
 use thes_base::number::ResNo;
 use thes_base::text::Iri;
-use thes_rows::numbers::{flag_number, label_number, link_number, resource_number, type_number};
+use thes_rows::numbers::{flag_number, resource_number, type_number};
 use thes_rows::rows::{HierRow, LabelRow, MoveRow, PostingRow};
 
 // The number of a resource, if there is one.
@@ -51,7 +51,7 @@ pub(crate) fn label_values(row: &LabelRow) -> [ValueRef<'_>; 4]
 {
     *params![
         row.owner.get(),
-        label_number(row.label.kind()),
+        row.label.kind().number(),
         row.label.tag.as_str(),
         row.label.text()
     ]
@@ -61,7 +61,7 @@ pub(crate) fn label_values(row: &LabelRow) -> [ValueRef<'_>; 4]
 pub(crate) fn link_values(link: &Link) -> [ValueRef<'static>; 3]
     ensures { bound result ≡ values (link_cells link.now) }
 {
-    *params![link_number(link.kind), link.a.get(), link.b.get()]
+    *params![link.kind.number(), link.a.get(), link.b.get()]
 }
 
 // The values of a row of hier.

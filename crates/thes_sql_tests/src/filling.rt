@@ -42,16 +42,6 @@ impl From<ReadStop> for Failure {
     }
 }
 
-// A live resource of this kind.
-fn resource(kind: ResourceKind, scheme: Option<ResNo>) -> Resource {
-    Resource {
-        kind,
-        scheme,
-        live: true,
-        replaced: None,
-    }
-}
-
 // A preferred label in English.
 fn label(alloc: Global, owner: ResNo, text: &str) -> Result<LabelRow, Failure> {
     Ok(LabelRow {
@@ -97,19 +87,19 @@ fn make_named(
 // A scheme with three concepts, and an outside concept.
 fn make_resources(alloc: Global, delta: &mut Delta) -> Result<(), Failure> {
     let scheme = ResNo::new(1);
-    let concept = resource(ResourceKind::Concept, Some(scheme));
+    let concept = Resource::new(ResourceKind::Concept, Some(scheme));
     make_named(
         alloc,
         delta,
         scheme,
-        resource(ResourceKind::Scheme, None),
+        Resource::new(ResourceKind::Scheme, None),
         "Animals",
     )?;
     make_named(alloc, delta, ResNo::new(2), concept, "Cats")?;
     make_named(alloc, delta, ResNo::new(3), concept, "Mammals")?;
     make_named(alloc, delta, ResNo::new(4), concept, "Pets")?;
     let outside = ResNo::new(5);
-    delta.push(Change::AddResource(outside, resource(ResourceKind::Outside, None)))?;
+    delta.push(Change::AddResource(outside, Resource::new(ResourceKind::Outside, None)))?;
     let iri = Iri::read(alloc, "http://example.org/x")?;
     delta.push(Change::AddOutside(outside, iri))?;
     Ok(())

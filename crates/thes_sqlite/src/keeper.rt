@@ -30,6 +30,7 @@ use thes_rows::rows::PostingRow;
 use thes_sql::commit::commit_all;
 use thes_sql::create::create_tables;
 use thes_sql::reads::rows_standing;
+use thes_store::handing::tables_in_order;
 use thes_store::keeper::{Keeper, Posting};
 use thes_store::sink::{PostingSink, RowSink};
 
@@ -186,17 +187,7 @@ impl<S: Alter> Keeper for SqlKeeper<S> {
         ensures cause { HasCause self.old.failures self.new.failures result }
         ensures first { self.new.first ≡ self.old.first }
     {
-        let names = [
-            Table::Meta,
-            Table::Resource,
-            Table::Outside,
-            Table::Label,
-            Table::Link,
-            Table::Hier,
-            Table::Posting,
-            Table::Move,
-        ];
-        self.hand_tables(&names, sink)
+        self.hand_tables(&tables_in_order(), sink)
     }
 
     fn commit(&mut self, delta: &Delta) -> Result<(), Fault>

@@ -12,7 +12,7 @@ use Rattle.thes_base.specs.declared.data.Resource.{Resource}
 use Rattle.thes_rows.specs.declared.cells.Cell.{Cell}
 use Rattle.thes_rows.specs.Cells.{Raw, resource_cells, resource_rows}
 use Rattle.thes_store.specs.Handing.{Takes, TakesSome, Hands, handed_of, handed}
-use Rattle.thes_store.specs.Loading.{rows_of, handed_tables}
+use Rattle.thes_store.specs.Loading.{rows_of, handed_tables, table_order}
 use Rattle.thes_store.proofs.Places.{take_one, split_at}
 
 module _ {S A : Type 0} (gives : S → A → Result (Unit {0}) Fault → S → Type 0) where
@@ -121,8 +121,8 @@ after_tables before raw [] = append-nil before
 after_tables before raw (name ∷ names) = sym (append_assoc before (handed_of name (rows_of name raw)) (handed_tables raw names)) ∙ after_tables (before ++ handed_of name (rows_of name raw)) raw names
 
 -- all tables, in their order
-pub all_tables : (raw : Raw) → handed_tables raw (table.Meta ∷ table.Resource ∷ table.Outside ∷ table.Label ∷ table.Link ∷ table.Hier ∷ table.Posting ∷ table.Move ∷ []) ≡ handed raw
-all_tables raw = after_tables [] raw (table.Meta ∷ table.Resource ∷ table.Outside ∷ table.Label ∷ table.Link ∷ table.Hier ∷ table.Posting ∷ table.Move ∷ [])
+pub all_tables : (raw : Raw) (names : List Table) → names ≡ table_order → handed_tables raw names ≡ handed raw
+all_tables raw names is = ap (handed_tables raw) is ∙ after_tables [] raw table_order
 
 -- One part after another.
 

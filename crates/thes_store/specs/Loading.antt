@@ -17,6 +17,11 @@ rows_of table.Hier raw = raw.hier
 rows_of table.Posting raw = raw.posting
 rows_of table.Move raw = raw.move
 
+-- all tables, in the order in which they are handed out
+abbrev pub table_order : List Table
+table_order =
+    table.Meta ∷ table.Resource ∷ table.Outside ∷ table.Label ∷ table.Link ∷ table.Hier ∷ table.Posting ∷ table.Move ∷ []
+
 -- the tables with these names, in turn
 abbrev pub handed_tables : Raw → List Table → List (Table × Option (List Cell))
 handed_tables raw [] = []

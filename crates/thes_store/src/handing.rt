@@ -7,7 +7,7 @@ ghost use Rattle.thes_rows.specs.declared.cells.Cell.TheVariants.{Text};
 ghost use Rattle.thes_rows.specs.Cells.{number_cell, optional_cell, meta_cells, resource_cells, resource_rows, listed};
 ghost use Rattle.thes_base.specs.declared.fault.Table.TheVariants as table;
 ghost use Rattle.thes_store.specs.Handing.{Hands, handed_of, handed};
-ghost use Rattle.thes_store.specs.Loading.{rows_of, handed_tables};
+ghost use Rattle.thes_store.specs.Loading.{rows_of, handed_tables, table_order};
 ghost use Rattle.thes_store.specs.Room.{tables_of};
 ghost use Rattle.thes_store.specs.Slots.{rows_in};
 
@@ -20,7 +20,7 @@ use thes_base::fault::{Fault, Table};
 use thes_base::number::ResNo;
 use thes_base::text::Base;
 use thes_rows::cells::{Cell, CellText};
-use thes_rows::numbers::{flag_number, label_number, link_number, resource_number, type_number};
+use thes_rows::numbers::{flag_number, resource_number, type_number};
 use thes_rows::rows::{HierRow, LabelRow, MoveRow, OutsideRow, PostingRow};
 
 /// A row that is told by cells.
@@ -84,7 +84,7 @@ impl AsCells for LabelRow {
     ghost cells_of = { label_cells };
 
     fn hand<S: RowSink>(&self, alloc: Global, name: Table, sink: &mut S) -> Result<(), Fault> {
-        let kind = label_number(self.label.kind());
+        let kind = self.label.kind().number();
         let tag = text(alloc, self.label.tag.as_str())?;
         let label = text(alloc, self.label.text())?;
         hand_row(name, &[int(self.owner.get()), int(kind), tag, label], sink)
@@ -97,7 +97,7 @@ impl AsCells for Link {
     ghost cells_of = { link_cells };
 
     fn hand<S: RowSink>(&self, _alloc: Global, name: Table, sink: &mut S) -> Result<(), Fault> {
-        let kind = link_number(self.kind);
+        let kind = self.kind.number();
         hand_row(
             name,
             &[int(kind), int(self.a.get()), int(self.b.get())],
@@ -287,6 +287,22 @@ fn hand_table<S: RowSink>(
     }
 }
 
+/// Lists all tables, in the order in which they are handed out.
+pub fn tables_in_order() -> [Table; 8]
+    ensures { result ≡ table_order }
+{
+    [
+        Table::Meta,
+        Table::Resource,
+        Table::Outside,
+        Table::Label,
+        Table::Link,
+        Table::Hier,
+        Table::Posting,
+        Table::Move,
+    ]
+}
+
 // Hands the rows of some tables to a sink, table after table.
 fn hand_tables<S: RowSink>(
     alloc: Global,
@@ -314,15 +330,5 @@ pub fn hand_all<S: RowSink>(alloc: Global, tables: &MemTables, sink: &mut S) -> 
         result sink.new }
     ensures err { IfErr result (λ fault. fault ≡ Fault.OutOfMemory) }
 {
-    let names = [
-        Table::Meta,
-        Table::Resource,
-        Table::Outside,
-        Table::Label,
-        Table::Link,
-        Table::Hier,
-        Table::Posting,
-        Table::Move,
-    ];
-    hand_tables(alloc, tables, &names, sink)
+    hand_tables(alloc, tables, &tables_in_order(), sink)
 }

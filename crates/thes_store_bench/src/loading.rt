@@ -9,7 +9,7 @@ use thes_core::Core;
 use thes_keeping::keeping::named;
 use thes_loader::Loader;
 use thes_rows::cells::{Cell, CellText};
-use thes_rows::numbers::{label_number, link_number, resource_number};
+use thes_rows::numbers::resource_number;
 use thes_store::sink::RowSink;
 
 /// The number of labels that each resource has.
@@ -79,7 +79,7 @@ fn hand_labels<S: RowSink>(alloc: Global, size: Size, sink: &mut S) -> Result<()
         let label = text(alloc, "Label ", made)?;
         sink.row(
             Table::Label,
-            &[int(owner), int(label_number(kind)), tag, label],
+            &[int(owner), int(kind.number()), tag, label],
         )?;
     }
     Ok(())
@@ -90,7 +90,7 @@ fn hand_links<S: RowSink>(size: Size, sink: &mut S) -> Result<(), Fault> {
     for number in size.resources / 2..size.resources {
         if 20 < number {
             let next = number.saturating_add(1).min(size.resources);
-            let row = [int(link_number(LinkKind::Related)), int(number), int(next)];
+            let row = [int(LinkKind::Related.number()), int(number), int(next)];
             if number != next {
                 sink.row(Table::Link, &row)?;
             }

@@ -24,12 +24,13 @@ use Rattle.thes_base.specs.Machine.{owned}
 use Rattle.thes_base.specs.Rows.{accepted}
 use Rattle.thes_base.specs.Refusals.{unless_scheme, unless_unique, unless_label, unless_dropped, unless_relabelled}
 use Rattle.thes_base.proofs.RowLemmas.{passed_if, passed_unless}
-use Rattle.thes_base.proofs.LabelSets.{inserted_cases, inserted_kept, inserted_new, removed_cases}
+use Rattle.thes_base.proofs.LabelSets.{inserted_cases, inserted_kept, inserted_new, no_label, removed_cases}
 use Rattle.thes_base.proofs.Renamed.{renamed_cases, renamed_fresh, renamed_old}
 use Rattle.thes_base.proofs.LabelsKept.{labels_made, labels_push, labels_added, labels_dropped, labels_renamed, labels_dead, outside_owns_none}
 use Rattle.thes_base.proofs.ResourcesKept.{resources_push, resources_push_outside, resources_dead, outside_fit}
 use Rattle.thes_base.proofs.Uniqueness.{made_unique, taken_breaks, live_before}
-use Rattle.thes_base.proofs.NumberedLemmas.{numbered_bound}
+use Rattle.thes_base.proofs.MachineLemmas.{sound_empty}
+use Rattle.thes_base.proofs.NumberedLemmas.{none_at, numbered_bound}
 use Rattle.thes_base.proofs.ResourceLemmas.{same_or_not, one_resource, concept_of_live, live_of_live}
 use Rattle.thes_base.proofs.MergedLabels.{labels_merged, preferred_before}
 use Rattle.thes_base.specs.Listing.{IsListing}
@@ -436,48 +437,11 @@ free_concept rs labels scheme tag text row s is taken =
 -- Nothing at all.
 pub kept_empty : (base : List ℕ) (names : Names) (concepts : Lists ℕ) → ((s : ℕ) → listed_at concepts s ≡ []) → IsConsistent base [] dict.empty set.empty names concepts
 kept_empty base names concepts bare = record {
-  legal = record {
-    few = omega arith;
-    each = λ n r e. absurd (none n r e);
-    no_return = λ n chain. absurd (no_path n chain.0 n chain.1);
-    outside = record {
-      each = λ n o. absurd (none n o.0 o.1);
-      only = λ n iri e. absurd (no_iri_at n iri e);
-      distinct = λ m n iri e f. absurd (no_iri_at m iri e);
-      foreign = λ n iri e b. no_iri_at n iri e;
-    };
-  };
-  named = record {
-    owners = λ l held. absurd (no_label l held);
-    disjoint = λ owner j k tag text nj nk hj hk. absurd (no_label _ hj);
-    one_preferred = λ owner tag x y hx hy. absurd (no_label _ hx);
-    unique = λ m n scheme tag text lm ln sm sn hm hn. absurd (no_label _ hm);
-    named = λ n o. absurd (no_owner n o);
-  };
+  legal = (sound_empty base).resources;
+  named = (sound_empty base).labels;
   found = λ s n t x h. absurd (no_label _ h.1);
-  listed = λ s. subst (IsListing nat_cmp (IsConceptOf [] s)) (sym (bare s)) (listing_none nat_cmp (IsConceptOf [] s) (λ n c. none n c.0.0 c.0.1));
+  listed = λ s. subst (IsListing nat_cmp (IsConceptOf [] s)) (sym (bare s)) (listing_none nat_cmp (IsConceptOf [] s) (λ n c. none_at n c.0.0 c.0.1));
 }
-  where
-    none : (n : ℕ) (r : Resource) → numbered [] n ≡ Some r → ⊥
-    none n r e = let b = numbered_bound [] n r e in omega (arith, b.0, b.1)
-
-    no_path : (x : ℕ) (between : List ℕ) (y : ℕ) → Path (IsReplacedBy []) x between y → ⊥
-    no_path x [] y one = none x one.0 one.1
-    no_path x (z ∷ zs) y path = none x path.0.0 path.0.1
-
-    no_iri_at : (n : ℕ) (iri : List ℕ) → dict.get (dict.empty {R = nat_cmp}) n ≡ Some iri → ⊥
-    no_iri_at n iri e = never (sym (dict.get-empty {X = List ℕ} nat_cmp n) ∙ e)
-      where
-        never : None ≡ Some iri → ⊥
-        never f = cc
-
-    no_label : (l : Label) → set.contains (set.empty {R = label_cmp}) l ≡ true → ⊥
-    no_label l held = true≢false (sym held ∙ set.contains-empty label_cmp l)
-
-    no_owner : (n : ℕ) → CanOwn [] n → ⊥
-    no_owner n (inl o) = none n o.0 o.1
-    no_owner n (inr (inl o)) = none n o.0 o.1
-    no_owner n (inr (inr o)) = none n o.0 o.1
 
 -- a number that is one is found where it stands
 pub numbered_at : {A : Type 0} (xs : List A) (n : ℕ) (x y : A) → numbered xs n ≡ Some y → x ≡ get_or xs (n - 1) x → numbered xs n ≡ Some x

@@ -15,9 +15,9 @@ use Rattle.thes_base.specs.Resources.{Iris, is_concept_kind, IsOutside, CanOwn, 
 use Rattle.thes_base.specs.Labels.{Label, Labels, label_cmp, EachHasPreferred, is_name}
 use Rattle.thes_base.specs.Changes.{has_name}
 use Rattle.thes_base.specs.Machine.{owned}
-use Rattle.thes_base.proofs.LabelSets.{inserted_cases}
+use Rattle.thes_base.proofs.LabelSets.{inserted_cases, no_label}
 use Rattle.thes_base.proofs.ResourceLemmas.{same_or_not}
-use Rattle.thes_base.proofs.ResourcesKept.{iri_cases}
+use Rattle.thes_base.proofs.ResourcesKept.{iri_cases, no_iri}
 use Rattle.thes_lists.specs.declared.lists.Lists.{Lists}
 use Rattle.thes_vocab.specs.declared.names.Names.{Names}
 use Rattle.thes_lists.specs.Lists.{AreListings}
@@ -173,9 +173,9 @@ pub loading_none : (base : List ℕ) (rs : List Resource) (names : Names) (conce
 loading_none base rs names concepts sound listed = record {
   sound = sound;
   iris_so_far = record {
-    only = λ n iri e. absurd (no_iri_at n iri e);
-    distinct = λ m n iri e f. absurd (no_iri_at m iri e);
-    foreign = λ n iri e begins. no_iri_at n iri e;
+    only = λ n iri e. absurd (no_iri n iri e);
+    distinct = λ m n iri e f. absurd (no_iri m iri e);
+    foreign = λ n iri e begins. no_iri n iri e;
   };
   labels_so_far = record {
     owners = λ l held. absurd (no_label l held);
@@ -186,12 +186,3 @@ loading_none base rs names concepts sound listed = record {
   found = λ s n t x h. absurd (no_label _ h.1);
   listed = listed;
 }
-  where
-    no_iri_at : (n : ℕ) (iri : List ℕ) → dict.get (dict.empty {R = nat_cmp}) n ≡ Some iri → ⊥
-    no_iri_at n iri e = never (sym (dict.get-empty {X = List ℕ} nat_cmp n) ∙ e)
-      where
-        never : None ≡ Some iri → ⊥
-        never f = cc
-
-    no_label : (l : Label) → set.contains (set.empty {R = label_cmp}) l ≡ true → ⊥
-    no_label l held = true≢false (sym held ∙ set.contains-empty label_cmp l)

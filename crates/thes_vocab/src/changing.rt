@@ -1,5 +1,5 @@
 //! Changes of resources and labels. Each allocates before it changes anything, so running out of memory changes nothing.
-ghost use Rattle.std.specs.Prelude.{◌≡◌, ◌≢◌, ◌<◌, ◌+◌, ◌^◌, ℕ, length, true, IfOk, OnOk, OnErr, None, Some};
+ghost use Rattle.std.specs.Prelude.{◌≡◌, ◌≢◌, ◌<◌, ◌+◌, ◌^◌, ℕ, length, IfOk, OnOk, OnErr, None, Some};
 ghost use Rattle.std.specs.FinMap as dict;
 ghost use Rattle.std.specs.FinSet as set;
 ghost use Rattle.thes_base.specs.Rows.{accepted};
@@ -29,16 +29,16 @@ impl Vocab {
     {
         match new {
             NewResource::Scheme(tag, text) => self.add_named(
-                new_resource(ResourceKind::Scheme, None),
+                Resource::new(ResourceKind::Scheme, None),
                 tag,
                 text,
             ),
             NewResource::Concept(scheme, tag, text) => {
-                self.add_named(new_resource(ResourceKind::Concept, Some(scheme)), tag, text)
+                self.add_named(Resource::new(ResourceKind::Concept, Some(scheme)), tag, text)
             }
             NewResource::Collection(scheme, tag, text) => {
                 self.add_named(
-                    new_resource(ResourceKind::Collection, Some(scheme)),
+                    Resource::new(ResourceKind::Collection, Some(scheme)),
                     tag,
                     text,
                 )
@@ -195,20 +195,8 @@ impl Vocab {
         let n = ResNo::new(self.resources.len() as u32 + 1);
         self.resources.try_reserve(1)?;
         self.iris.insert(n, iri)?;
-        let resource = new_resource(ResourceKind::Outside, None);
+        let resource = Resource::new(ResourceKind::Outside, None);
         self.resources.push(resource).unwrap();
         Ok(n)
-    }
-}
-
-// A live resource.
-fn new_resource(kind: ResourceKind, scheme: Option<ResNo>) -> Resource
-    ensures { result ≡ record { kind = kind; scheme = scheme; live = true; replaced = None } }
-{
-    Resource {
-        kind,
-        scheme,
-        live: true,
-        replaced: None,
     }
 }

@@ -3,7 +3,6 @@ ghost use Rattle.std.specs.Prelude.{◌≡◌, ◌↔◌, ◌&&◌, ◌||◌, Is
 ghost use Rattle.std.specs.List.Sorted.{IsStrictlySortedBy};
 ghost use Rattle.std.specs.Ordering.{eq_by_cmp};
 ghost use Rattle.thes_base.specs.Data.{LabelData};
-ghost use Rattle.thes_base.specs.Labels.{label_kind_no};
 ghost use Rattle.thes_vocab.specs.Places.{IsLabelPlace, IsPreferredAt};
 ghost use Rattle.thes_vocab.specs.Taken.{has_own_name, takes_own, taken, gives};
 ghost use Rattle.thes_vocab.specs.LabelData.{data_cmp, language_cmp, own_label, has_own, HasPreferred, HasNoPreferred, HasTwo};
@@ -208,20 +207,8 @@ fn order(label: &Label, kind: LabelKind, tag: &Tag, text: &str) -> Ordering
 fn language_order(label: &Label, kind: LabelKind, tag: &Tag) -> Ordering
     ensures { result ≡ language_cmp label.now (own_label kind tag.now []) }
 {
-    match number(label.kind()).cmp(&number(kind)) {
+    match label.kind().number().cmp(&kind.number()) {
         Ordering::Equal => label.tag.as_str().cmp(tag.as_str()),
         unequal => unequal,
-    }
-}
-
-// The kind's place among the kinds.
-fn number(kind: LabelKind) -> u8
-    ensures { result ≡ label_kind_no kind }
-{
-    match kind {
-        LabelKind::Pref => 1,
-        LabelKind::Alt => 2,
-        LabelKind::Hidden => 3,
-        LabelKind::Scope => 4,
     }
 }

@@ -10,4 +10,4 @@ use Rattle.thes_store.proofs.handing.hand_all.Goals as goal
 
 pub returns-clause-hands : goal.returns-clause-hands
 returns-clause-hands g c =
-    subst (λ (l : List (Table × Option (List Cell))). Hands g.S.RowSink.gives c.args.sink.now l c.hand_tables.result c.hand_tables.new.sink) (all_tables (listed (tables_of c.args.tables.now))) c.hand_tables.ensures.hands
+    subst (λ (l : List (Table × Option (List Cell))). Hands g.S.RowSink.gives c.args.sink.now l c.hand_tables.result c.hand_tables.new.sink) (all_tables (listed (tables_of c.args.tables.now)) _ c.tables_in_order.ensures) c.hand_tables.ensures.hands

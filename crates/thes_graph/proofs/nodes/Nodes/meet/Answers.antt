@@ -1,19 +1,10 @@
-use Rattle.std.proofs.Common.{sym, ◌∙◌}
-use Rattle.std.proofs.lemmas.Bool.{not-true, not-false}
-use Rattle.thes_graph.proofs.MetLemmas.{has_of_test, IsMet-push}
-use Rattle.thes_graph.proofs.StepLemmas.{GrowsBy-push, GrowsBy-there}
+use Rattle.std.proofs.Common.{sym, subst, List, ℕ, Contains}
+use Rattle.thes_graph.proofs.MetLemmas.{no_test_of_none}
+use Rattle.thes_graph.proofs.StepLemmas.{GrowsBy-push}
 use Rattle.thes_graph.proofs.nodes.Nodes.meet.Goals as goal
 
-pub invariant_of-self-in-Continue-branch-3 : goal.invariant_of-self-in-Continue-branch-3
-invariant_of-self-in-Continue-branch-3 c =
-    rw (c.in_ok-push.ensures.items, c.reserve.ensures.items) (IsMet-push c.self.inside.list.items c.self.inside.met c.insert.new.self c.args.n c.self.invariant c.in_ok-insert.ensures.updates.0)
-
-pub returns-in_ok-push-clause-grows : goal.returns-in_ok-push-clause-grows
-returns-in_ok-push-clause-grows c =
+pub returns-clause-grows : goal.returns-clause-grows
+returns-clause-grows c =
+    let IsNew : List ℕ → Type 0 = λ nodes. (Contains nodes c.args.n → ⊥) in
     rw (c.in_ok-push.ensures.items, c.reserve.ensures.items, ← c.self.view_is)
-    (GrowsBy-push c.self.inside.list.items c.args.n (sym (c.self.invariant c.args.n) ∙ not-true _ (sym c.in_ok-insert.ensures.added ∙ c.if-branch.true)))
-
-pub returns-else-branch-clause-grows : goal.returns-else-branch-clause-grows
-returns-else-branch-clause-grows c =
-    rw (c.reserve.ensures.items, ← c.self.view_is)
-    (GrowsBy-there c.self.inside.list.items c.args.n (has_of_test _ _ (sym (c.self.invariant c.args.n) ∙ not-false _ (sym c.in_ok-insert.ensures.added ∙ c.if-branch.false))))
+    (GrowsBy-push c.self.inside.list.items c.args.n (no_test_of_none c.self.inside.list.items c.args.n (subst IsNew (sym c.self.view_is) c.if-has.ensures)))

@@ -10,4 +10,4 @@ use Rattle.thes_sqlite.proofs.keeper.SqlKeeperKeeper.load.Goals as goal
 pub returns-clause-hands : goal.returns-clause-hands
 returns-clause-hands g c = λ up.
     subst (λ (l : List (Table × Option (List Cell))). Hands g.R.RowSink.gives c.args.sink.now l c.hand_tables.result c.hand_tables.new.sink)
-    (all_tables (raw_of_keeper g.S.Store c.args.self.now)) (c.hand_tables.ensures.hands up)
+    (all_tables (raw_of_keeper g.S.Store c.args.self.now) _ c.tables_in_order.ensures) (c.hand_tables.ensures.hands up)

@@ -11,4 +11,4 @@ pub add_named-requires-in-Concept-clause-free : goal.add_named-requires-in-Conce
 add_named-requires-in-Concept-clause-free c =
     let v = c.args.self.now in
     let row = subst (λ (new : NewResource). unless_new v new accepted None) c.in-Concept.is c.requires.allowed in
-    subst (λ (r : Resource). IsFree v.resources v.labels r c.in-Concept.tag c.in-Concept.text) (sym c.new_resource-in-Concept.ensures) (free_concept v.resources v.labels c.in-Concept.scheme c.in-Concept.tag c.in-Concept.text row)
+    subst (λ (r : Resource). IsFree v.resources v.labels r c.in-Concept.tag c.in-Concept.text) (sym c.new-in-Concept.ensures) (free_concept v.resources v.labels c.in-Concept.scheme c.in-Concept.tag c.in-Concept.text row)
