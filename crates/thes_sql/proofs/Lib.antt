@@ -15,3 +15,4 @@ pub mod Reading
 pub mod Leaving
 pub mod Renewing
 pub mod OldRowLemmas
+pub mod Knowing

@@ -1,0 +1,100 @@
+-- What a migration refuses, and the state that it leaves.
+use Rattle.std.proofs.Common.{arith, inl, inr, ◌≡◌, ◌⊎◌, ℕ, List, [], ◌∷◌, map, refl, sym, ap, subst, ◌∙◌}
+use Rattle.std.proofs.Common.{Result, Ok, Err, OnOk, false}
+use Rattle.sqlite.specs.Order.{Row}
+use Rattle.sqlite.specs.Tree.{Trees}
+use Rattle.sqlite.specs.Effect.{Database}
+use Rattle.sqlite.specs.State.{HasCleanDisk}
+use Rattle.sqlite.specs.Held.{Held, state}
+use Rattle.sqlite.specs.declared.types.Value.TheVariants as values
+use Rattle.sqlite_trees.specs.declared.store.Store.{Ghosts}
+use Rattle.thes_base.specs.declared.fault.Fault.{Fault}
+use Rattle.thes_base.specs.declared.fault.Fault.TheVariants as faults
+use Rattle.thes_base.specs.declared.fault.Table.TheVariants as table
+use Rattle.thes_base.specs.Legal.{Legal}
+use Rattle.thes_base.specs.State.{State}
+use Rattle.thes_rows.specs.declared.cells.Cell.{Cell}
+use Rattle.thes_rows.specs.declared.cells.Cell.TheVariants as cells
+use Rattle.thes_rows.specs.Tables.{Tables, IsRowsOf}
+use Rattle.thes_rows.specs.Cells.{listed}
+use Rattle.thes_rows.proofs.Listing.{head_one, tail_one, number_one}
+use Rattle.thes_tables.specs.Rules.{state_of}
+use Rattle.thes_tables.specs.Loads.{Loads}
+use Rattle.thes_tables.proofs.Holding.{held_loads}
+use Rattle.thes_sql.specs.Stored.{Keeps, Hold}
+use Rattle.thes_sql.specs.Older.{KeepsOld, HasKnownSchema, HasVersion, version_row, renewed}
+use Rattle.thes_sql.specs.OldRows.{IsOldRowsOf}
+use Rattle.thes_sql.proofs.OldRowLemmas.{renews}
+use Rattle.thes_sqlite.specs.Faults.{IsKeeperFault}
+use Rattle.thes_sqlite.specs.Kept.{raw_in}
+use Rattle.thes_sqlite.specs.Migrated.{IsMetaFault, IsWhole, Migrates}
+use Rattle.thes_sqlite.specs.MigrationLaws.{HoldsOldState, HoldsState, FindsState, MigratesState, MigratesStates}
+use Rattle.thes_sqlite.specs.ValueCells.{cell_of}
+use Rattle.thes_sqlite.proofs.Keeping.{raw_of}
+
+-- The row of meta of a whole store.
+
+abbrev IsRight : ℕ → Type 0
+IsRight version = (version ≡ 1) ⊎ (version ≡ 2)
+
+module _ (rows : List Row) (version : ℕ) (base : List ℕ) (is : rows ≡ version_row version base ∷ []) (right : IsRight version) where
+  not_newer : IsMetaFault rows faults.NewerStore → ⊥
+  not_newer h =
+      let row : version_row version base ≡ h.0 = head_one (sym is ∙ h.1) in
+      let cells = ap (map cell_of) row ∙ h.4.1 in
+      let same : version ≡ h.2 = number_one (head_one (tail_one cells)) in
+      let above = h.3 in
+      elim right [ inl one ↦ omega (arith, same, above, one) | inr two ↦ omega (arith, same, above, two) ]
+
+  is_known : IsMetaFault rows (faults.BadStore table.Meta) → ⊥
+  is_known h = h (version_row version base, is, version, elim right [ inl one ↦ omega (arith, one) | inr two ↦ omega (arith, two) ],
+      (cell_of (values.Text base), refl))
+
+  pub whole_meta : (fault : Fault) → IsMetaFault rows fault → IsKeeperFault fault
+  whole_meta faults.OutOfMemory h = inl refl
+  whole_meta faults.NewerStore h = absurd (not_newer h)
+  whole_meta (faults.BadStore table.Meta) h = absurd (is_known h)
+  whole_meta other h = absurd h
+
+pub version_of : (db : Database) (t : Tables) → IsWhole db t
+    → (version : ℕ) × HasVersion version t.base db × IsRight version
+version_of db t (inl old) = (1, (inr old.schema, old.hold.meta), inl refl)
+version_of db t (inr now) = (2, (inl now.schema, now.hold.meta), inr refl)
+
+pub known_of : (db : Database) (t : Tables) → IsWhole db t → HasKnownSchema db
+known_of db t (inl old) = inr old.schema
+known_of db t (inr now) = inl now.schema
+
+-- The state that a store holds.
+module _ {S : Type 0} (g : Ghosts S) (base : List ℕ) (s : State) (old new : Held S) (clean : HasCleanDisk (state g new))
+    (was : HoldsOldState base s (state g old).now) where
+  abbrev t : Tables
+  t = renewed was.0
+
+  rows : IsRowsOf base s t
+  rows = (renews base s was.0).0 was.2
+
+  holds : (r : Result ℕ Fault) → OnOk r (HasCleanDisk (state g new) → (t : Tables) → KeepsOld (state g old).now t
+      → Keeps (state g new).committed (renewed t) × Keeps (state g new).now (renewed t))
+      → OnOk r (HoldsState base s (state g new).now × HoldsState base s (state g new).committed)
+  holds (Err e) made = tt
+  holds (Ok v) made = let both = made clean was.0 was.1 in ((t, both.1, rows), (t, both.0, rows))
+
+  loads : (r : Result ℕ Fault) → OnOk r (HasCleanDisk (state g new) → (t : Tables) → KeepsOld (state g old).now t
+      → Keeps (state g new).committed (renewed t) × Keeps (state g new).now (renewed t))
+      → OnOk r (Legal base s → (t : Tables) × Loads (raw_in (state g new).now.trees) (Ok t) × (state_of t ≡ s))
+  loads (Err e) made = tt
+  loads (Ok v) made legal =
+      let both = made clean was.0 was.1 in
+      let told = held_loads base s t legal rows in
+      (t, subst (λ raw. Loads raw (Ok t)) (sym (raw_of (state g new).now.trees t both.1.hold)) told.0, told.1)
+
+  pub of_migration : (r : Result ℕ Fault) → Migrates g old new r → MigratesState g base s old new r
+  of_migration r m = record {
+    holds = holds r m.made;
+    loads = loads r m.made;
+    crash = λ db may. elim (m.crash clean was.0 was.1 db may) [ inl before ↦ inl before | inr made ↦ inr (t, made, rows) ];
+  }
+
+pub migrates_states : {S : Type 0} (g : Ghosts S) → MigratesStates g
+migrates_states g base s old new r m clean was = of_migration g base s old new clean was r m
