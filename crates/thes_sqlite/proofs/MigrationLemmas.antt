@@ -1,5 +1,5 @@
 -- What a migration refuses, and the state that it leaves.
-use Rattle.std.proofs.Common.{arith, inl, inr, ◌≡◌, ◌⊎◌, ℕ, List, [], ◌∷◌, map, refl, sym, ap, subst, ◌∙◌}
+use Rattle.std.proofs.Common.{arith, inl, inr, ◌≡◌, ◌⊎◌, ◌≤◌, ℕ, List, [], ◌∷◌, map, refl, sym, ap, subst, ◌∙◌}
 use Rattle.std.proofs.Common.{Result, Ok, Err, OnOk, false}
 use Rattle.sqlite.specs.Order.{Row}
 use Rattle.sqlite.specs.Tree.{Trees}
@@ -7,6 +7,7 @@ use Rattle.sqlite.specs.Effect.{Database}
 use Rattle.sqlite.specs.State.{HasCleanDisk}
 use Rattle.sqlite.specs.Held.{Held, state}
 use Rattle.sqlite.specs.declared.types.Value.TheVariants as values
+use Rattle.sqlite_trees.specs.View.{doubt}
 use Rattle.sqlite_trees.specs.declared.store.Store.{Ghosts}
 use Rattle.thes_base.specs.declared.fault.Fault.{Fault}
 use Rattle.thes_base.specs.declared.fault.Fault.TheVariants as faults
@@ -22,12 +23,12 @@ use Rattle.thes_tables.specs.Rules.{state_of}
 use Rattle.thes_tables.specs.Loads.{Loads}
 use Rattle.thes_tables.proofs.Holding.{held_loads}
 use Rattle.thes_sql.specs.Stored.{Keeps, Hold}
-use Rattle.thes_sql.specs.Older.{KeepsOld, HasKnownSchema, HasVersion, version_row, renewed}
+use Rattle.thes_sql.specs.Older.{KeepsOld, HasKnownSchema, HasVersion, KeepsKnown, LeavesKnown, version_row, renewed}
 use Rattle.thes_sql.specs.OldRows.{IsOldRowsOf}
 use Rattle.thes_sql.proofs.OldRowLemmas.{renews}
 use Rattle.thes_sqlite.specs.Faults.{IsKeeperFault}
 use Rattle.thes_sqlite.specs.Kept.{raw_in}
-use Rattle.thes_sqlite.specs.Migrated.{IsMetaFault, IsWhole, Migrates}
+use Rattle.thes_sqlite.specs.Migrated.{IsMigrateFault, IsMetaFault, IsTableFault, IsCause, IsWhole, Migrates}
 use Rattle.thes_sqlite.specs.MigrationLaws.{HoldsOldState, HoldsState, FindsState, MigratesState, MigratesStates}
 use Rattle.thes_sqlite.specs.ValueCells.{cell_of}
 use Rattle.thes_sqlite.proofs.Keeping.{raw_of}
@@ -65,6 +66,55 @@ pub known_of : (db : Database) (t : Tables) → IsWhole db t → HasKnownSchema 
 known_of db t (inl old) = inr old.schema
 known_of db t (inr now) = inl now.schema
 
+-- A migration that is refused.
+
+pub table_cause : {S : Type 0} (g : Ghosts S) (old new : Held S) (fault : Fault)
+    → IsTableFault (state g new).now.schema fault → IsCause g old new fault
+table_cause g old new faults.NewerStore h = absurd h
+table_cause g old new (faults.BadStore table.Meta) h = absurd h
+table_cause g old new other h = h
+
+module _ {S : Type 0} (g : Ghosts S) (old mid new : Held S) where
+  clean_before : doubt (state g mid).is_clean ≤ doubt (state g new).is_clean → HasCleanDisk (state g new)
+      → HasCleanDisk (state g mid)
+  clean_before less clean = omega (arith, less, clean)
+
+  pub known_on : KeepsKnown g old mid → HasKnownSchema (state g old).now → HasCleanDisk (state g mid)
+      → HasKnownSchema (state g mid).now
+  known_on keeps known clean = subst HasKnownSchema (sym (keeps known clean).0) known
+
+  -- one more is asked of a database that was left as it was
+  pub leaves_on : KeepsKnown g old mid → LeavesKnown g old mid → LeavesKnown g mid new → LeavesKnown g old new
+  leaves_on keeps first second = record {
+    mode = λ idle. second.mode (first.mode idle);
+    was = λ clean still_open. first.was (clean_before second.clean clean) (second.was clean still_open);
+    clean = (let a = first.clean in let b = second.clean in omega (arith, a, b));
+    same = λ known clean still_open settled.
+        let here = keeps known (clean_before second.clean clean) in
+        let there = second.same (known_on keeps known (clean_before second.clean clean)) clean still_open
+            (here.0 ∙ settled ∙ sym here.1) in
+        (there.0 ∙ here.0, there.1 ∙ here.1);
+    crash = λ known clean db leave. first.crash known (clean_before second.clean clean) db
+        (second.crash (known_on keeps known (clean_before second.clean clean)) clean db leave);
+  }
+
+pub refuses : {S : Type 0} (g : Ghosts S) (old new : Held S) (fault : Fault) → old.in_transaction ≡ false → LeavesKnown g old new
+    → IsMigrateFault fault → (HasCleanDisk (state g new) → IsCause g old new fault)
+    → (HasCleanDisk (state g new) → (t : Tables) → IsWhole (state g old).now t → IsKeeperFault fault)
+    → Migrates g old new (Err fault)
+refuses g old new fault idle leaves named cause whole = record {
+  idle = leaves.mode idle;
+  version = tt;
+  faults = named;
+  causes = cause;
+  whole = whole;
+  was = λ up. leaves.was up.0 up.1;
+  made = tt;
+  current = tt;
+  none = λ up known settled. leaves.same known up.0 up.1 settled;
+  crash = λ clean t kept db leave. inl (leaves.crash (inr kept.schema) clean db leave);
+}
+
 -- The state that a store holds.
 module _ {S : Type 0} (g : Ghosts S) (base : List ℕ) (s : State) (old new : Held S) (clean : HasCleanDisk (state g new))
     (was : HoldsOldState base s (state g old).now) where
@@ -84,7 +134,7 @@ module _ {S : Type 0} (g : Ghosts S) (base : List ℕ) (s : State) (old new : He
       → Keeps (state g new).committed (renewed t) × Keeps (state g new).now (renewed t))
       → OnOk r (Legal base s → (t : Tables) × Loads (raw_in (state g new).now.trees) (Ok t) × (state_of t ≡ s))
   loads (Err e) made = tt
-  loads (Ok v) made legal =
+  loads (Ok v) made = λ legal.
       let both = made clean was.0 was.1 in
       let told = held_loads base s t legal rows in
       (t, subst (λ raw. Loads raw (Ok t)) (sym (raw_of (state g new).now.trees t both.1.hold)) told.0, told.1)

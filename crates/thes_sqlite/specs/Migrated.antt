@@ -1,8 +1,9 @@
 -- What a migration makes of a database.
-use Rattle.std.specs.Prelude.{◌≡◌, ◌⊎◌, ◌≤◌, ◌<◌, ⊤, ℕ, ℤ, pos, List, [], ◌∷◌, map, Option, None, Some, true, false, Result, OnOk, OnErr, IfOk, IfErr, IsTrue}
+use Rattle.std.specs.Prelude.{◌≡◌, ◌⊎◌, ◌≤◌, ◌<◌, ⊤, ℕ, List, [], ◌∷◌, map, true, false, Result, OnOk, OnErr, IfOk, IfErr, IsTrue}
 use Rattle.sqlite.specs.Order.{Row}
 use Rattle.sqlite.specs.Tree.{Trees}
 use Rattle.sqlite.specs.Effect.{Database}
+use Rattle.sqlite.specs.Schema.{Schema}
 use Rattle.sqlite.specs.State.{State, HasCleanDisk, Shown}
 use Rattle.sqlite.specs.Held.{Held, state}
 use Rattle.sqlite_trees.specs.declared.store.Store.{Ghosts}
@@ -29,11 +30,6 @@ IsMigrateFault fault =
 abbrev pub HasVersion : ℕ → List Cell → Type 0
 HasVersion version cells = (base : Cell) × (cells ≡ number_cell 1 ∷ number_cell version ∷ base ∷ [])
 
--- the version that the cells of a row of meta have, from 1 on; or none
-abbrev pub SpellsVersion : List Cell → Option ℤ → Type 0
-SpellsVersion cells (Some v) = (version : ℕ) × (v ≡ pos version) × (1 ≤ version) × HasVersion version cells
-SpellsVersion cells None = (version : ℕ) → 1 ≤ version → HasVersion version cells → ⊥
-
 -- the rows of meta are one, with such a version
 abbrev pub AreOfVersion : (ℕ → Type 0) → List Row → Type 0
 AreOfVersion Is rows = (row : Row) × (rows ≡ row ∷ []) × (version : ℕ) × Is version × HasVersion version (map cell_of row)
@@ -50,18 +46,22 @@ abbrev pub ShowsMeta : {S : Type 0} → Ghosts S → Held S → Held S → List 
 ShowsMeta {S} g old new rows =
     (mid : Held S) × ((state g mid).now ≡ (state g old).now) × Shown (text_of table.Meta) [] (state g mid) (state g new) rows
 
--- What a fault says of the database: its row of meta has a newer version, or meta can't be queried or has no row of a
--- version; links can't be queried; there is a table hier already.
+-- why there is nothing to migrate in this schema: links can't be queried, or there is a table hier already
+abbrev pub IsTableFault : Schema → Fault → Type 0
+IsTableFault schema OutOfMemory = ⊤
+IsTableFault schema Store = ⊤
+IsTableFault schema (BadStore table.Link) = IsUnderstood schema links_text false
+IsTableFault schema (BadStore table.Hier) = IsUnderstood schema hier_text true
+IsTableFault schema _ = ⊥
+
+-- What a fault says of the database. Its row of meta has a newer version; or meta can't be queried, or has no row of a
+-- version; or so it is with the tables of links.
 abbrev pub IsCause : {S : Type 0} → Ghosts S → Held S → Held S → Fault → Type 0
-IsCause g old new OutOfMemory = ⊤
-IsCause g old new Store = ⊤
 IsCause g old new NewerStore = (rows : List Row) × ShowsMeta g old new rows × IsMetaFault rows NewerStore
 IsCause g old new (BadStore table.Meta) =
     IsUnderstood (state g new).now.schema (text_of table.Meta) false
     ⊎ ((rows : List Row) × ShowsMeta g old new rows × IsMetaFault rows (BadStore table.Meta))
-IsCause g old new (BadStore table.Link) = IsUnderstood (state g new).now.schema links_text false
-IsCause g old new (BadStore table.Hier) = IsUnderstood (state g new).now.schema hier_text true
-IsCause g old new _ = ⊥
+IsCause g old new fault = IsTableFault (state g new).now.schema fault
 
 -- a whole store of version 1 or of version 2
 abbrev pub IsWhole : Database → Tables → Type 0

@@ -3,7 +3,8 @@ ghost use Rattle.std.specs.Prelude.{◌≡◌, ◌∷◌, [], ℕ, List, cond, I
 ghost use Rattle.thes_rows.specs.Tables.{Tables};
 ghost use Rattle.thes_sql.specs.Older.{HasVersion, HasKnownSchema, version_row, old_schema, KeepsKnown, LeavesKnown};
 ghost use Rattle.thes_sqlite.specs.Faults.{IsKeeperFault};
-ghost use Rattle.thes_sqlite.specs.Migrated.{IsMigrateFault, IsMetaFault, SpellsVersion, IsCause, IsWhole, Migrates};
+ghost use Rattle.thes_sqlite.specs.Migrated.{IsMigrateFault, IsMetaFault, IsTableFault, IsCause, IsWhole, Migrates};
+ghost use Rattle.thes_sqlite.specs.Versions.{SpellsVersion};
 ghost use Rattle.sqlite.specs.State.{HasCleanDisk};
 ghost use Rattle.sqlite.specs.Held.{state};
 
@@ -16,8 +17,16 @@ use thes_rows::cells::Cell;
 use thes_sql::migrate::migrate_tables;
 use thes_sql::versions::{has_hier, has_links, has_meta, version_rows};
 
+// A version of the tables: that before this one, this one, or a later one.
+#[derive(Clone, Copy)]
+enum Version {
+    Older,
+    Current,
+    Newer,
+}
+
 // The version in a row of meta, whatever its base is.
-fn version_in(cells: &[Cell]) -> Option<i64>
+fn version_in(cells: &[Cell]) -> Option<Version>
     ensures { SpellsVersion cells.now result }
 {
     let [one, version, _] = cells else {
@@ -29,7 +38,13 @@ fn version_in(cells: &[Cell]) -> Option<i64>
     if *one != 1 || *version < 1 {
         return None;
     }
-    Some(*version)
+    if *version == 1 {
+        return Some(Version::Older);
+    }
+    if *version > 2 {
+        return Some(Version::Newer);
+    }
+    Some(Version::Current)
 }
 
 // Tells whether the rows of meta are those of version 1: the answer is false where they are those of this version.
@@ -43,13 +58,12 @@ fn is_version_1(alloc: Global, rows: &[Row]) -> Result<bool, Fault>
         return Err(Fault::BadStore(Table::Meta));
     };
     let cells = cells_found(alloc, row)?;
-    let Some(version) = version_in(cells.as_slice()) else {
-        return Err(Fault::BadStore(Table::Meta));
-    };
-    if version > 2 {
-        return Err(Fault::NewerStore);
+    match version_in(cells.as_slice()) {
+        Some(Version::Older) => Ok(true),
+        Some(Version::Current) => Ok(false),
+        Some(Version::Newer) => Err(Fault::NewerStore),
+        None => Err(Fault::BadStore(Table::Meta)),
     }
-    Ok(version == 1)
 }
 
 // Makes sure that meta can be queried.
@@ -59,7 +73,8 @@ fn find_meta<S: Alter>(conn: &mut Connection<S>) -> Result<(), Fault>
     ensures kept { OnOk result (KeepsKnown S.Store conn.old conn.new) }
     ensures leaves { LeavesKnown S.Store conn.old conn.new }
     ensures faults { IfErr result IsMigrateFault }
-    ensures causes { IfErr result (λ fault. HasCleanDisk (state S.Store conn.new) → IsCause S.Store conn.old conn.new fault) }
+    ensures causes { IfErr result (λ fault. HasCleanDisk (state S.Store conn.new)
+        → IsCause S.Store conn.old conn.new fault) }
     ensures whole { IfErr result (λ fault. HasCleanDisk (state S.Store conn.new)
         → HasKnownSchema (state S.Store conn.old).now → IsKeeperFault fault) }
 {
@@ -77,7 +92,8 @@ fn is_old<S: Alter>(alloc: Global, conn: &mut Connection<S>) -> Result<bool, Fau
     ensures kept { OnOk result (KeepsKnown S.Store conn.old conn.new) }
     ensures leaves { LeavesKnown S.Store conn.old conn.new }
     ensures faults { IfErr result IsMigrateFault }
-    ensures causes { IfErr result (λ fault. HasCleanDisk (state S.Store conn.new) → IsCause S.Store conn.old conn.new fault) }
+    ensures causes { IfErr result (λ fault. HasCleanDisk (state S.Store conn.new)
+        → IsCause S.Store conn.old conn.new fault) }
     ensures whole { IfErr result (λ fault. HasCleanDisk (state S.Store conn.new)
         → (t : Tables) → IsWhole (state S.Store conn.old).now t → IsKeeperFault fault) }
 {
@@ -93,7 +109,8 @@ fn find_links<S: Alter>(conn: &mut Connection<S>) -> Result<(), Fault>
     ensures kept { OnOk result (KeepsKnown S.Store conn.old conn.new) }
     ensures leaves { LeavesKnown S.Store conn.old conn.new }
     ensures faults { IfErr result IsMigrateFault }
-    ensures causes { IfErr result (λ fault. HasCleanDisk (state S.Store conn.new) → IsCause S.Store conn.old conn.new fault) }
+    ensures causes { IfErr result (λ fault. HasCleanDisk (state S.Store conn.new)
+        → IsTableFault (state S.Store conn.new).now.schema fault) }
     ensures whole { IfErr result (λ fault. HasCleanDisk (state S.Store conn.new)
         → HasKnownSchema (state S.Store conn.old).now → IsKeeperFault fault) }
 {
@@ -109,7 +126,8 @@ fn miss_hier<S: Alter>(conn: &mut Connection<S>) -> Result<(), Fault>
     ensures kept { OnOk result (KeepsKnown S.Store conn.old conn.new) }
     ensures leaves { LeavesKnown S.Store conn.old conn.new }
     ensures faults { IfErr result IsMigrateFault }
-    ensures causes { IfErr result (λ fault. HasCleanDisk (state S.Store conn.new) → IsCause S.Store conn.old conn.new fault) }
+    ensures causes { IfErr result (λ fault. HasCleanDisk (state S.Store conn.new)
+        → IsTableFault (state S.Store conn.new).now.schema fault) }
     ensures whole { IfErr result (λ fault. HasCleanDisk (state S.Store conn.new)
         → (state S.Store conn.old).now.schema ≡ old_schema → IsKeeperFault fault) }
 {
