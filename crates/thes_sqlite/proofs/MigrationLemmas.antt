@@ -1,10 +1,10 @@
 -- What a migration refuses, and the state that it leaves.
 use Rattle.std.proofs.Common.{arith, inl, inr, ◌≡◌, ◌⊎◌, ◌≤◌, ℕ, List, [], ◌∷◌, map, refl, sym, ap, subst, ◌∙◌}
-use Rattle.std.proofs.Common.{Result, Ok, Err, OnOk, false}
+use Rattle.std.proofs.Common.{Result, Ok, Err, OnOk, IfErr, Bool, true, false, cond}
 use Rattle.sqlite.specs.Order.{Row}
 use Rattle.sqlite.specs.Tree.{Trees}
 use Rattle.sqlite.specs.Effect.{Database}
-use Rattle.sqlite.specs.State.{HasCleanDisk}
+use Rattle.sqlite.specs.State.{HasCleanDisk, Shown}
 use Rattle.sqlite.specs.Held.{Held, state}
 use Rattle.sqlite.specs.declared.types.Value.TheVariants as values
 use Rattle.sqlite_trees.specs.View.{doubt}
@@ -23,8 +23,9 @@ use Rattle.thes_tables.specs.Rules.{state_of}
 use Rattle.thes_tables.specs.Loads.{Loads}
 use Rattle.thes_tables.proofs.Holding.{held_loads}
 use Rattle.thes_sql.specs.Stored.{Keeps, Hold}
-use Rattle.thes_sql.specs.Older.{KeepsOld, HasKnownSchema, HasVersion, KeepsKnown, LeavesKnown, version_row, renewed}
+use Rattle.thes_sql.specs.Older.{KeepsOld, HasKnownSchema, HasVersion, KeepsKnown, LeavesKnown, version_row, old_schema, renewed}
 use Rattle.thes_sql.specs.OldRows.{IsOldRowsOf}
+use Rattle.thes_sql.specs.Reads.{text_of}
 use Rattle.thes_sql.proofs.OldRowLemmas.{renews}
 use Rattle.thes_sqlite.specs.Faults.{IsKeeperFault}
 use Rattle.thes_sqlite.specs.Kept.{raw_in}
@@ -66,6 +67,30 @@ pub known_of : (db : Database) (t : Tables) → IsWhole db t → HasKnownSchema 
 known_of db t (inl old) = inr old.schema
 known_of db t (inr now) = inl now.schema
 
+-- What was read of meta, after it was asked whether it can be.
+module _ {S : Type 0} (g : Ghosts S) (old mid new : Held S) (rows : List Row)
+    (same : HasCleanDisk (state g new) → (state g mid).now ≡ (state g old).now)
+    (shown : HasCleanDisk (state g new) → Shown (text_of table.Meta) [] (state g mid) (state g new) rows)
+    (shows : HasCleanDisk (state g new) → (version : ℕ) (base : List ℕ) → HasVersion version base (state g mid).now
+    → rows ≡ version_row version base ∷ []) where
+  meta_cause : (fault : Fault) → IsMetaFault rows fault → HasCleanDisk (state g new) → IsCause g old new fault
+  meta_cause faults.OutOfMemory h clean = tt
+  meta_cause faults.NewerStore h clean = (rows, (mid, same clean, shown clean), h)
+  meta_cause (faults.BadStore table.Meta) h clean = inr (rows, (mid, same clean, shown clean), h)
+  meta_cause other h clean = absurd h
+
+  pub meta_causes : {V : Type 0} (r : Result V Fault) → IfErr r (IsMetaFault rows)
+      → IfErr r (λ fault. HasCleanDisk (state g new) → IsCause g old new fault)
+  meta_causes (Ok v) h = tt
+  meta_causes (Err fault) h = meta_cause fault h
+
+  pub meta_whole : {V : Type 0} (r : Result V Fault) → IfErr r (IsMetaFault rows)
+      → IfErr r (λ fault. HasCleanDisk (state g new) → (t : Tables) → IsWhole (state g old).now t → IsKeeperFault fault)
+  meta_whole (Ok v) h = tt
+  meta_whole (Err fault) h = λ clean t whole.
+      let v = version_of (state g old).now t whole in
+      whole_meta rows v.0 t.base (shows clean v.0 t.base (subst (HasVersion v.0 t.base) (sym (same clean)) v.1)) v.2 fault h
+
 -- A migration that is refused.
 
 pub table_cause : {S : Type 0} (g : Ghosts S) (old new : Held S) (fault : Fault)
@@ -83,6 +108,12 @@ module _ {S : Type 0} (g : Ghosts S) (old mid new : Held S) where
       → HasKnownSchema (state g mid).now
   known_on keeps known clean = subst HasKnownSchema (sym (keeps known clean).0) known
 
+  pub keeps_on : KeepsKnown g old mid → LeavesKnown g mid new → KeepsKnown g mid new → KeepsKnown g old new
+  keeps_on keeps second kept known clean =
+      let here = keeps known (clean_before second.clean clean) in
+      let there = kept (known_on keeps known (clean_before second.clean clean)) clean in
+      (there.0 ∙ here.0, there.1 ∙ here.1)
+
   -- one more is asked of a database that was left as it was
   pub leaves_on : KeepsKnown g old mid → LeavesKnown g old mid → LeavesKnown g mid new → LeavesKnown g old new
   leaves_on keeps first second = record {
@@ -97,6 +128,19 @@ module _ {S : Type 0} (g : Ghosts S) (old mid new : Held S) where
     crash = λ known clean db leave. first.crash known (clean_before second.clean clean) db
         (second.crash (known_on keeps known (clean_before second.clean clean)) clean db leave);
   }
+
+-- where it was found to be one of version 1, it isn't one of version 2
+older_only : (older : Bool) → older ≡ true → ◌≡◌ {A = ℕ} 2 (cond older 1 2) → ⊥
+older_only true is e = cc
+older_only false is e = cc
+
+pub old_schema_of : {S : Type 0} (g : Ghosts S) (old mid : Held S) (older : Bool) → KeepsKnown g old mid → older ≡ true
+    → ((version : ℕ) (base : List ℕ) → HasVersion version base (state g old).now → version ≡ cond older 1 2)
+    → HasCleanDisk (state g mid) → (t : Tables) → IsWhole (state g old).now t → (state g mid).now.schema ≡ old_schema
+old_schema_of g old mid older keeps is tells clean t (inl was) =
+    ap (λ (db : Database). db.schema) (keeps (inr was.schema) clean).0 ∙ was.schema
+old_schema_of g old mid older keeps is tells clean t (inr now) =
+    absurd (older_only older is (tells 2 t.base (inl now.schema, now.hold.meta)))
 
 pub refuses : {S : Type 0} (g : Ghosts S) (old new : Held S) (fault : Fault) → old.in_transaction ≡ false → LeavesKnown g old new
     → IsMigrateFault fault → (HasCleanDisk (state g new) → IsCause g old new fault)

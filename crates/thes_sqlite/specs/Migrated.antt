@@ -27,12 +27,12 @@ IsMigrateFault fault =
     ⊎ ((fault ≡ BadStore table.Link) ⊎ (fault ≡ BadStore table.Hier)))))
 
 -- the cells of a row of meta that has this version, and whatever base
-abbrev pub HasVersion : ℕ → List Cell → Type 0
-HasVersion version cells = (base : Cell) × (cells ≡ number_cell 1 ∷ number_cell version ∷ base ∷ [])
+abbrev pub IsVersionRow : ℕ → List Cell → Type 0
+IsVersionRow version cells = (base : Cell) × (cells ≡ number_cell 1 ∷ number_cell version ∷ base ∷ [])
 
 -- the rows of meta are one, with such a version
 abbrev pub AreOfVersion : (ℕ → Type 0) → List Row → Type 0
-AreOfVersion Is rows = (row : Row) × (rows ≡ row ∷ []) × (version : ℕ) × Is version × HasVersion version (map cell_of row)
+AreOfVersion Is rows = (row : Row) × (rows ≡ row ∷ []) × (version : ℕ) × Is version × IsVersionRow version (map cell_of row)
 
 -- why the rows of meta are refused: they are of a newer version, or of none
 abbrev pub IsMetaFault : List Row → Fault → Type 0

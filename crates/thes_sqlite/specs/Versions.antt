@@ -3,11 +3,11 @@ use Rattle.std.specs.Prelude.{◌<◌, ◌≤◌, ℕ, List, Option, None, Some}
 use Rattle.thes_rows.specs.declared.cells.Cell.{Cell}
 use Rattle.thes_sqlite.specs.declared.migrating.Version.{Version}
 use Rattle.thes_sqlite.specs.declared.migrating.Version.TheVariants.{Older, Current, Newer}
-use Rattle.thes_sqlite.specs.Migrated.{HasVersion}
+use Rattle.thes_sqlite.specs.Migrated.{IsVersionRow}
 
 -- the cells are those of version 1, of this version or of a newer one; or of none from 1 on
 abbrev pub SpellsVersion : List Cell → Option Version → Type 0
-SpellsVersion cells (Some Older) = HasVersion 1 cells
-SpellsVersion cells (Some Current) = HasVersion 2 cells
-SpellsVersion cells (Some Newer) = (version : ℕ) × (2 < version) × HasVersion version cells
-SpellsVersion cells None = (version : ℕ) → 1 ≤ version → HasVersion version cells → ⊥
+SpellsVersion cells (Some Older) = IsVersionRow 1 cells
+SpellsVersion cells (Some Current) = IsVersionRow 2 cells
+SpellsVersion cells (Some Newer) = (version : ℕ) × (2 < version) × IsVersionRow version cells
+SpellsVersion cells None = (version : ℕ) → 1 ≤ version → IsVersionRow version cells → ⊥

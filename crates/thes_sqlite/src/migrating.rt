@@ -29,7 +29,7 @@ enum Version {
 fn version_in(cells: &[Cell]) -> Option<Version>
     ensures { SpellsVersion cells.now result }
 {
-    let [one, version, _] = cells else {
+    let [one, version, _base] = cells else {
         return None;
     };
     let (Cell::Int(one), Cell::Int(version)) = (one, version) else {
