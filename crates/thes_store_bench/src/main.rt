@@ -1,6 +1,6 @@
 //! Times a keeper, for `bench/store`: so many postings as its first word says, a commit each; a merge that moves a tenth of
-//! them; so many look-ups by key and by number as its second word says; and a load. With a third word all of that is done in
-//! the new database that it names. It prints what it timed, in microseconds.
+//! them; so many look-ups by key and by number as its second word says; and a load. With a third word the
+//! postings and the merge are also made in the new database that it names. It prints what it timed, in microseconds.
 //!
 //! For `bench/load`: `load`, how many resources, how many postings, and how often: makes the rows of such a store and as many
 //! cores of them, and prints how many; or `rows` and the same, and it makes the rows alone, and prints how many.
@@ -26,7 +26,6 @@ use thes_base::number::ResNo;
 use thes_base::text::Base;
 use thes_keeping::keeping::{CONCEPTS, merge, post_all};
 use thes_sql::create::create_tables;
-use thes_sqlite::keeper::SqlKeeper;
 use thes_store::keeper::Keeper;
 use thes_store::mem::MemKeeper;
 
@@ -138,21 +137,10 @@ fn time_stores<R: Clock + Print + Alloc<A = Global>, S: Alter>(
 }
 
 // Times a new database.
-fn time_database(
-    rt: &HostRuntime,
-    posts: u32,
-    looks: u32,
-    path: &str,
-) -> Result<(), Failure> {
+fn time_database(rt: &HostRuntime, posts: u32, path: &str) -> Result<(), Failure> {
     let mut conn = Connection::open(rt, path)?;
     let timed = time_stores(rt, &mut conn, posts);
-    if timed.is_err() || !conn.is_autocommit() {
-        drop(conn);
-        return timed;
-    }
-    let mut keeper = SqlKeeper::adopt(rt.alloc(), conn);
-    let timed = time_reads(rt, &mut keeper, posts, looks);
-    drop(keeper.into_connection());
+    drop(conn);
     timed
 }
 
@@ -190,13 +178,13 @@ fn obey(rt: &HostRuntime) -> Result<(), Failure> {
         Some(word) if word.as_str() == "rows" => return make_rows(rt, words.as_slice(), Made::Rows),
         _ => {}
     }
-    let (posts, looks) = (number(words.as_slice(), 1), number(words.as_slice(), 2));
+    let posts = number(words.as_slice(), 1);
     if posts == 0 {
         return Ok(());
     }
     match words.get(3) {
-        Some(path) => time_database(rt, posts, looks, path.as_str()),
-        None => time_memory(rt, posts, looks),
+        Some(path) => time_database(rt, posts, path.as_str()),
+        None => time_memory(rt, posts, number(words.as_slice(), 2)),
     }
 }
 
