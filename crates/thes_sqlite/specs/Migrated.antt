@@ -77,7 +77,7 @@ pub record Migrates {S : Type 0} (g : Ghosts S) (old new : Held S) (r : Result �
   pub version : IfOk r (λ version. version ≡ 2)
   pub faults : IfErr r IsMigrateFault
   pub causes : IfErr r (λ fault. HasCleanDisk (state g new) → IsCause g old new fault)
-  -- a whole store is refused for want of memory alone, or by a fault of the store
+  -- a whole store is refused only because memory runs out, or by a fault of the store
   pub whole : IfErr r (λ fault. HasCleanDisk (state g new) → (t : Tables) → IsWhole (state g old).now t
       → IsKeeperFault fault)
   pub was : IsUp (state g new) → IsTrue (state g old).is_open
