@@ -94,7 +94,7 @@ def free_port():
 
 def ask(port, method, path, body=None):
     """One connection: a request, and its whole answer."""
-    client = http.client.HTTPConnection("127.0.0.1", port, timeout=60)
+    client = http.client.HTTPConnection("127.0.0.1", port, timeout=600)
     client.request(method, path, body)
     answer = client.getresponse()
     answer.read()

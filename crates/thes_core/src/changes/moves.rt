@@ -12,7 +12,7 @@ ghost use Rattle.thes_rows.specs.Changes.{changes_of, move_row};
 
 use crate::thesaurus::Thesaurus;
 use std::alloc::AllocError;
-use thes_base::data::ResourceKind;
+use thes_base::data::{Resource, ResourceKind};
 use thes_base::number::{MoveNo, PostNo, ResNo};
 use thes_base::text::{Key, RecordName, Tag, Text};
 use thes_post::rising::sorted;
@@ -144,7 +144,7 @@ impl Thesaurus {
             → AreSums histories self.now.book
             → delta ≡ changes_of (request.Split source tag.now text.now postings.now) (state_of self.now histories)) }
     {
-        let resource = super::live(ResourceKind::Concept, Some(self.scheme(source)));
+        let resource = Resource::new(ResourceKind::Concept, Some(self.scheme(source)));
         let mut delta = self.changes_made(resource, tag, text)?;
         let concept = self.next();
         let moving = sorted(self.alloc, postings)?;
