@@ -19,7 +19,7 @@ use thes_sqlite::keeper::SqlKeeper;
 use thes_store::keeper::Keeper;
 use thes_store::mem::MemKeeper;
 
-/// What became of a store.
+/// The fate of a store.
 #[derive(Clone, Copy, Debug, PartialEq, Eq)]
 pub enum Fate {
     /// No call failed, and all is there.
@@ -127,8 +127,8 @@ fn shown_by(alloc: Global, conn: Store) -> io::Result<String> {
     told
 }
 
-/// What a store shows when it is opened again: after a kill, where what was written stands, and after a power cut, where what was
-/// synced does.
+/// The rows that a store shows when it is opened again: after a kill, where what was written stands, and after a power
+/// cut, where what was synced does.
 #[derive(Drop)]
 pub struct After {
     pub kill: String,
@@ -148,7 +148,7 @@ pub fn shown_after(alloc: Global, files: Disks) -> io::Result<After> {
     }
 }
 
-/// What is wanted of a store: what it tells, and what it shows then.
+/// The outcome that is wanted of a store: what it tells, and what it shows then.
 #[derive(Drop)]
 pub struct Expected {
     pub told: Told,

@@ -7,7 +7,7 @@ use thes_desks::Store;
 use thes_desks::ways::connect_in;
 use thes_http::serve::Served;
 
-/// What stands behind each request.
+/// The line that stands behind each request.
 pub const BEHIND: &str = "%\n";
 
 /// Serves connections in a store. None of them may import, since the rows before a fault would be performed.

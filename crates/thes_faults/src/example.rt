@@ -5,7 +5,7 @@ use crate::{connections, import, script, texts};
 use std::alloc::{AllocError, Global};
 use thes_desks::Store;
 
-/// What is asked of a store.
+/// A way of work: something that is asked of a store.
 #[derive(Clone, Copy, Debug, PartialEq, Eq)]
 pub enum Way {
     Script,
@@ -41,7 +41,7 @@ impl<'a> Example<'a> {
         })
     }
 
-    /// Has a store perform some of the steps.
+    /// Lets a store perform some of the steps.
     pub fn run(&self, alloc: Global, store: &mut Store, steps: &str) -> Run {
         match self.way {
             Way::Script => script::run(alloc, store, steps),
@@ -51,7 +51,7 @@ impl<'a> Example<'a> {
         }
     }
 
-    /// The steps that were performed.
+    /// Lists the steps that were performed.
     pub fn performed(&self, alloc: Global, run: &Run) -> Result<String, AllocError> {
         let end = if self.way == Way::Connections {
             BEHIND

@@ -8,7 +8,7 @@ use thes_desks::{Store, store_after};
 // More requests for memory than any run makes before the one that is refused.
 const MOST: u32 = 10_000;
 
-/// What became of an example.
+/// The outcome of an example.
 #[derive(Drop)]
 pub enum Outcome {
     /// A request for memory was refused before its first step.

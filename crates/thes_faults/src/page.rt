@@ -13,7 +13,7 @@ pub struct Page {
 }
 
 impl Page {
-    /// An empty page.
+    /// Makes an empty page.
     pub fn new() -> Page {
         Page {
             bytes: [0; 4096],
@@ -21,7 +21,7 @@ impl Page {
         }
     }
 
-    /// What is written. Nothing if it is no text.
+    /// Returns what is written. Nothing if it is no text.
     pub fn as_str(&self) -> &str {
         str::from_utf8(&self.bytes[..self.filled]).unwrap_or("")
     }

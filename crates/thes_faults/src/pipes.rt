@@ -9,7 +9,7 @@ use thes_base::fault::PipeFault;
 use thes_desks::failing::Failing;
 use thes_desks::{Store, store_after};
 
-/// What became of a step whose devices fail.
+/// The fate of a step whose devices fail.
 #[derive(Clone, Copy, Debug, PartialEq, Eq)]
 pub enum Fate {
     /// It ended as it should, at each of so many calls.

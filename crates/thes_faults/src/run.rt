@@ -6,7 +6,7 @@ use thes_base::fault::{Fault, PipeFault};
 // The most steps of an example.
 const MOST: usize = 32;
 
-/// How a run, or a step of one, ended.
+/// The end of a run, or of a step of one.
 #[derive(Clone, Copy, Debug, PartialEq, Eq)]
 pub enum End {
     /// All was performed.
@@ -18,7 +18,7 @@ pub enum End {
 }
 
 impl End {
-    /// How what was performed, or stopped by a fault, ended.
+    /// Tells how what was performed, or stopped by a fault, ended.
     pub fn of(ended: Result<(), PipeFault>) -> End {
         match ended {
             Ok(()) => End::Done,
@@ -28,7 +28,7 @@ impl End {
     }
 }
 
-/// What the steps of an example were answered with. All of it is kept in place, since memory may be refused.
+/// The answers to the steps of an example. All of it is kept in place, since memory may be refused.
 #[derive(Drop)]
 pub struct Run {
     /// The answers of the steps that were performed.
@@ -39,7 +39,7 @@ pub struct Run {
 }
 
 impl Run {
-    /// A run of no step.
+    /// Makes a run of no step.
     pub fn new() -> Run {
         Run {
             page: Page::new(),

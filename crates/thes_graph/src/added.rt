@@ -113,7 +113,7 @@ fn breaks_s46<L: Links>(alloc: Global, links: &mut L, new: &Link) -> Result<bool
     Ok(found)
 }
 
-/// The first rule that the links with one more would break.
+/// Finds the first rule that the links with one more would break.
 pub fn judge_one_more<L: Links>(
     alloc: Global,
     links: &mut L,

@@ -155,7 +155,8 @@ fn judge_rest<L: Links>(
     Ok(None)
 }
 
-/// What a link up from the low node to the high one would break, if only one, in the links after the edit.
+/// Judges a link up from the low node to the high one: which of cycle and S27, if either, it would break in the links
+/// after the edit.
 pub fn judge_between<L: Links>(
     alloc: Global,
     links: &mut L,

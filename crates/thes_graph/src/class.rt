@@ -14,7 +14,8 @@ use crate::walk::{gather, some_ties};
 use std::alloc::{AllocError, Global};
 use thes_base::number::ResNo;
 
-/// Whether two of the pivot's class of exact matches are broader or related matches after the edit.
+/// Tells whether two of the pivot's class of exact matches are broader or related matches after the
+/// edit.
 pub fn breaks_class<L: Links>(
     alloc: Global,
     links: &mut L,

@@ -87,7 +87,8 @@ fn go_on<L: Links>(
     Ok(false)
 }
 
-/// Whether a way up from the node comes back to itself. If not, the node is done; no cycle runs through one that is.
+/// Tells whether a way up from the node comes back to itself. If not, the node is done; no cycle runs through one that
+/// is.
 pub fn climb<L: Links>(
     alloc: Global,
     links: &mut L,

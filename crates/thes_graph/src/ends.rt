@@ -28,7 +28,7 @@ fn is_end<L: Links>(links: &L, n: ResNo, relation: Relation) -> bool
     part.to <= part.from
 }
 
-/// Whether no link at the node leads on in the relation after the edit, as far as the parts of rows tell.
+/// Tells whether no link at the node leads on in the relation after the edit, as far as the parts of rows tell.
 pub fn is_end_after<L: Links>(links: &L, sight: &Sight, x: ResNo, relation: Relation) -> bool
     requires { IsWalked relation }
     ensures two_ends { HaveTwoEnds (HeldIn (L.held links.now)) }
@@ -68,7 +68,7 @@ fn is_highest<L: Links>(links: &L, n: ResNo) -> bool
     is_end(links, n, Relation::Broader) && is_end(links, n, Relation::Related)
 }
 
-/// Whether links of this kind lead up, and entail nothing else.
+/// Tells whether links of this kind lead up, and entail nothing else.
 pub fn leads_up(kind: LinkKind) -> bool
     ensures { MatchBool result (LeadsUp kind) (Unit {0}) }
 {
@@ -105,7 +105,7 @@ fn is_outermost<L: Links>(links: &L, new: &Link) -> bool
     is_highest(links, new.b)
 }
 
-/// Whether the link can break no rule: by its kind, or as what it joins is an end of what is held.
+/// Tells whether the link can break no rule: by its kind, or as what it joins is an end of what is held.
 pub fn is_harmless<L: Links>(links: &L, new: &Link) -> bool
     requires ends { new.now.a ≢ new.now.b }
     requires unbroken { BreakNone (HeldIn (L.held links.now)) }

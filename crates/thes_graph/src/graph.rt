@@ -56,7 +56,7 @@ impl Model for Graph {
 }
 
 impl Graph {
-    /// No links, and no outside concepts.
+    /// Makes a graph without links and without outside concepts.
     pub fn new(alloc: Global) -> Graph
         ensures { result ≡ record { links = empty; outside = empty } }
     {
@@ -123,21 +123,21 @@ impl Graph {
         self.held.contains(link)
     }
 
-    /// Whether the resource was marked as an outside concept.
+    /// Tells whether the resource was marked as an outside concept.
     pub fn is_outside(&self, n: ResNo) -> bool
         ensures { result ≡ is_marked self.now n }
     {
         self.marked.contains(&n)
     }
 
-    /// Whether the link is held.
+    /// Tells whether the link is held.
     pub fn has(&self, link: &Link) -> bool
         ensures { result ≡ contains self.now.links (norm (is_marked self.now) link.now) }
     {
         self.holds(&self.normal(link))
     }
 
-    /// How many links are held.
+    /// Counts the links held.
     pub fn size(&self) -> u64
         ensures { result ≡ len self.now.links }
     {
@@ -159,21 +159,23 @@ impl Graph {
         Ok(found)
     }
 
-    /// The concepts that are broader than this one in its own scheme, by a link of whatever type, their numbers rising.
+    /// Lists the concepts that are broader than this one in its own scheme, by a link of whatever type, their numbers
+    /// rising.
     pub fn broader_of(&self, alloc: Global, n: ResNo) -> Result<Vec<ResNo>, AllocError>
         ensures { IfOk result (λ found. IsListing nat_cmp (λ b. HasBroader self.now.links n b) found.items) }
     {
         self.linked(alloc, n, Linked::Broader)
     }
 
-    /// The concepts that are narrower than this one in its own scheme, by a link of whatever type, their numbers rising.
+    /// Lists the concepts that are narrower than this one in its own scheme, by a link of whatever type, their numbers
+    /// rising.
     pub fn narrower_of(&self, alloc: Global, n: ResNo) -> Result<Vec<ResNo>, AllocError>
         ensures { IfOk result (λ found. IsListing nat_cmp (λ a. HasBroader self.now.links a n) found.items) }
     {
         self.linked(alloc, n, Linked::Narrower)
     }
 
-    /// The concepts related to this one in its own scheme, their numbers rising.
+    /// Lists the concepts related to this one in its own scheme, their numbers rising.
     pub fn related_of(&self, alloc: Global, n: ResNo) -> Result<Vec<ResNo>, AllocError>
         ensures { IfOk result (λ found. IsListing nat_cmp
             (λ m. HasLink self.now.links kinds.Related n m ⊎ HasLink self.now.links kinds.Related m n) found.items) }
@@ -181,14 +183,14 @@ impl Graph {
         self.linked(alloc, n, Linked::Related)
     }
 
-    /// The collections that the resource is a member of, their numbers rising.
+    /// Lists the collections that the resource is a member of, their numbers rising.
     pub fn collections_of(&self, alloc: Global, n: ResNo) -> Result<Vec<ResNo>, AllocError>
         ensures { IfOk result (λ found. IsListing nat_cmp (λ c. HasLink self.now.links kinds.Member c n) found.items) }
     {
         self.linked(alloc, n, Linked::Collections)
     }
 
-    /// The mappings of the concept as seen from it, ordered by their words and then by number.
+    /// Lists the mappings of the concept as seen from it, ordered by their words and then by number.
     pub fn mapped(&self, alloc: Global, n: ResNo) -> Result<Vec<(LinkKind, ResNo)>, AllocError>
         ensures { IfOk result (λ found. IsListing mapping_cmp (IsMapping self.now.links n) found.items) }
     {
@@ -201,7 +203,7 @@ impl Graph {
         Ok(found)
     }
 
-    /// The typed hierarchical links of the concept as seen from it, ordered by their words and then by number.
+    /// Lists the typed hierarchical links of the concept as seen from it, ordered by their words and then by number.
     pub fn typed_of(&self, alloc: Global, n: ResNo) -> Result<Vec<(TypedKind, ResNo)>, AllocError>
         ensures { IfOk result (λ found. IsListing typed_cmp (IsTyped self.now.links n) found.items) }
     {
@@ -346,7 +348,7 @@ impl Graph {
         Ok(())
     }
 
-    /// The links, none of them visited yet.
+    /// Begins a walk over the links, none of them visited yet.
     pub fn walk(&self) -> Walk<'_>
         ensures { result ≡ record { net = self.now; visits = 0 } }
     {
@@ -356,7 +358,7 @@ impl Graph {
         }
     }
 
-    /// The first rule that the links held break.
+    /// Finds the first rule that the links held break.
     pub fn check_whole(&self, alloc: Global) -> Result<Option<Refusal>, AllocError>
         ensures { IfOk result (IsFirstBroken (HeldIn self.now.links)) }
     {

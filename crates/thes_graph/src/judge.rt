@@ -21,7 +21,7 @@ use thes_base::data::{Link, LinkKind};
 use thes_base::fault::Refusal;
 use thes_base::number::ResNo;
 
-/// The link as it is kept, where `outside` says whether an end is an outside concept.
+/// Puts the ends of a link in the order in which it is kept, where `outside` says whether an end is an outside concept.
 pub fn in_order(link: &Link, outside: bool) -> Link
     ensures { result ≡ (if is_symmetric outside link.now.kind && nat_lt link.now.b link.now.a then exchanged link.now else link.now) }
 {
@@ -74,10 +74,10 @@ fn probe<L: Links>(
     Ok(None)
 }
 
-/// The first rule that the links held break, where those without an end at the pivot break none.
+/// Finds the first rule that the links held break, where those without an end at the pivot break none.
 ///
-/// The visits are bounded by the links near the pivot: those with an end at it, or at a node above it, below it or in its class of
-/// exact matches.
+/// The visits are bounded by the links near the pivot: those with an end at it, or at a node above it, below it or in
+/// its class of exact matches.
 pub fn check_at<L: Links>(
     alloc: Global,
     links: &mut L,
@@ -94,7 +94,7 @@ pub fn check_at<L: Links>(
     Ok(answer)
 }
 
-/// What speaks against one more link: that it is there, or else the first rule that the links with it would break.
+/// Judges one more link: whether it is there, or else the first rule that the links with it would break.
 ///
 /// The visits are bounded by the links near its first end, of which it is one.
 pub fn judge_add<L: Links>(
@@ -140,7 +140,7 @@ fn judge_normal<L: Links>(
     Ok(answer)
 }
 
-/// What speaks against a merge of the source into the target: the first rule that the links after it would break.
+/// Judges a merge of the source into the target: the first rule that the links after it would break.
 ///
 /// The visits are bounded by the links near the two concepts.
 pub fn judge_contract<L: Links>(

@@ -9,7 +9,7 @@ use crate::relation::{Relation, way};
 use std::alloc::AllocError;
 use thes_base::data::{Direction, LinkForm, LinkKind};
 
-/// What is listed of a concept.
+/// A relation by which the neighbours of a concept are listed.
 #[derive(Clone, Copy)]
 pub enum Linked {
     Broader,
@@ -32,7 +32,7 @@ fn form_of(kind: LinkKind) -> LinkForm
     }
 }
 
-/// Which way a link of this kind leads to what is listed.
+/// Tells which way a link of this kind leads to what is listed.
 pub fn way_to(linked: Linked, kind: LinkKind) -> Direction
     ensures { result ≡ way_listed linked kind }
 {

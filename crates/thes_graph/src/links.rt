@@ -25,7 +25,7 @@ pub trait Links {
     /// The number of visits.
     ghost count: { Self → ℕ };
 
-    /// The i-th link with an end at the node; a visit where there is one.
+    /// Hands out the i-th link with an end at the node; a visit where there is one.
     fn link_at(&mut self, node: ResNo, i: usize) -> Option<Link>
         ensures held { held self.new ≡ held self.old }
         ensures outside { outside self.new ≡ outside self.old }
@@ -35,13 +35,13 @@ pub trait Links {
         ensures link { result ≡ slice_get (links_of self.old node) i }
         ensures count { count self.new ≡ visited_by (count self.old) result };
 
-    /// Between which places at the node the links stand that lead this way. None of them is handed out.
+    /// Finds between which places at the node the links stand that lead this way. None of them is handed out.
     fn part(&self, node: ResNo, side: Side) -> Part
         ensures two_ends { HaveTwoEnds (HeldIn (held self.now)) }
         ensures listed { IsRow (held self.now) node (links_of self.now node) }
         ensures part { IsPart (links_of self.now node) node side result };
 
-    /// Whether the link is held; a visit.
+    /// Tells whether the link is held; a visit.
     fn holds(&mut self, link: &Link) -> bool
         ensures held { held self.new ≡ held self.old }
         ensures outside { outside self.new ≡ outside self.old }
@@ -50,11 +50,11 @@ pub trait Links {
         ensures holds { result ≡ contains (held self.old) link.now }
         ensures count { count self.new ≡ visited (count self.old) };
 
-    /// Whether the resource is an outside concept.
+    /// Tells whether the resource is an outside concept.
     fn is_outside(&self, n: ResNo) -> bool
         ensures { result ≡ outside self.now n };
 
-    /// How many visits there were. A count at its greatest value stays there.
+    /// Counts the visits. A count at its greatest value stays there.
     fn visits(&self) -> u64
         ensures { result ≡ count self.now };
 }

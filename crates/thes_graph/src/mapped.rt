@@ -35,7 +35,7 @@ fn key_of(mapping: &(LinkKind, ResNo)) -> (u8, ResNo)
     (place_of(mapping.0), mapping.1)
 }
 
-/// The mapping that a link at the node is, as seen from there, if it is one.
+/// Shows the mapping that a link at the node is, as seen from there, if it is one.
 pub fn as_seen(link: &Link, n: ResNo) -> Option<(LinkKind, ResNo)>
     ensures { result ≡ as_seen_from n link.now }
 {
@@ -51,7 +51,7 @@ pub fn as_seen(link: &Link, n: ResNo) -> Option<(LinkKind, ResNo)>
     }
 }
 
-/// The typed hierarchical link that a link at the node is, as seen from there, if it is one.
+/// Shows the typed hierarchical link that a link at the node is, as seen from there, if it is one.
 pub fn as_typed(link: &Link, n: ResNo) -> Option<(TypedKind, ResNo)>
     ensures { result ≡ as_typed_from n link.now }
 {

@@ -8,7 +8,7 @@ use thes_base::number::ResNo;
 /// Up to so many nodes a list is looked through, and nothing is marked.
 pub const FEW: usize = 16;
 
-/// Whether the number is marked.
+/// Tells whether the number is marked.
 pub fn has_mark(marks: &[bool], n: ResNo) -> bool
     ensures { result ≡ is_marked marks.now n }
 {

@@ -26,7 +26,7 @@ impl Model for Nodes {
 }
 
 impl Nodes {
-    /// No nodes.
+    /// Begins with no nodes.
     pub fn none(alloc: Global) -> Nodes
         ensures { result ≡ [] }
     {
@@ -36,7 +36,7 @@ impl Nodes {
         }
     }
 
-    /// The start alone.
+    /// Begins with the start alone.
     pub fn only(alloc: Global, start: ResNo) -> Result<Nodes, AllocError>
         ensures { IfOk result (λ nodes. nodes ≡ start ∷ []) }
     {
@@ -45,14 +45,14 @@ impl Nodes {
         Ok(Nodes { list, marks })
     }
 
-    /// The nodes in the order in which they were met.
+    /// Returns the nodes in the order in which they were met.
     pub fn as_slice(&self) -> &[ResNo]
         ensures { result.now ≡ self.now }
     {
         self.list.as_slice()
     }
 
-    /// The i-th node that was met.
+    /// Returns the i-th node that was met.
     pub fn get(&self, i: usize) -> Option<ResNo>
         ensures node { result ≡ slice_get self.now i }
         ensures small { length self.now < 2 ^ 63 }
@@ -60,7 +60,7 @@ impl Nodes {
         self.list.get(i).copied()
     }
 
-    /// Whether the node was met.
+    /// Tells whether the node was met.
     pub fn has(&self, n: ResNo) -> bool
         ensures { MatchBool result (Contains self.now n) (Contains self.now n → ⊥) }
     {

@@ -7,7 +7,8 @@ ghost use Rattle.thes_graph.specs.Towards.{back};
 use thes_base::data::{Direction, Link, LinkKind};
 use thes_base::number::ResNo;
 
-/// What links can say of two nodes. `Apart` are the broader and related matches, which no exact match may be.
+/// A relation of two nodes that links can say. `Apart` are the broader and related matches, which no exact match may
+/// be.
 #[derive(Clone, Copy)]
 pub enum Relation {
     Broader,
@@ -43,7 +44,7 @@ fn turn(way: Direction) -> Direction
     }
 }
 
-/// Which way a link of this kind leads in the relation.
+/// Tells which way a link of this kind leads in the relation.
 pub fn way(relation: Relation, kind: LinkKind) -> Direction
     ensures { result ≡ way_of relation kind }
 {
@@ -59,7 +60,7 @@ pub fn way(relation: Relation, kind: LinkKind) -> Direction
     }
 }
 
-/// The relation that leads back up, or back down.
+/// Returns the relation that leads back up, or back down.
 pub fn turn_back(relation: Relation) -> Relation
     ensures { result ≡ back relation }
 {
@@ -70,7 +71,7 @@ pub fn turn_back(relation: Relation) -> Relation
     }
 }
 
-/// The node that the link, taken this way, leads to from `x`.
+/// Finds the node that the link, taken this way, leads to from `x`.
 pub fn lead(way: Direction, link: &Link, x: ResNo) -> Option<ResNo>
     ensures { result ≡ step_in way link.now.a link.now.b x }
 {
@@ -83,7 +84,7 @@ pub fn lead(way: Direction, link: &Link, x: ResNo) -> Option<ResNo>
     }
 }
 
-/// The node that the link leads to from `x` in the relation.
+/// Finds the node that the link leads to from `x` in the relation.
 pub fn step(relation: Relation, link: &Link, x: ResNo) -> Option<ResNo>
     ensures { result ≡ step_along relation link.now x }
 {

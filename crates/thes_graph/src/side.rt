@@ -19,7 +19,7 @@ pub enum Side {
 }
 
 impl Side {
-    /// The place of the side in the order of a node's links.
+    /// Returns the place of the side in the order of a node's links.
     pub fn number(self) -> u8
         ensures { result ≡ side_no self }
     {
@@ -33,7 +33,7 @@ impl Side {
     }
 }
 
-/// The side on which the links of the relation stand.
+/// Returns the side on which the links of the relation stand.
 pub fn side_for(relation: Relation) -> Side
     ensures { result ≡ side_in relation }
 {
@@ -61,7 +61,7 @@ pub struct Part {
 }
 
 impl Part {
-    /// How many places these are.
+    /// Counts the places.
     pub fn size(self) -> usize
         ensures { result ≡ self.to - self.from }
     {
@@ -69,7 +69,7 @@ impl Part {
     }
 }
 
-/// Where the link leads from the node.
+/// Tells where the link leads from the node.
 pub fn side_of(link: &Link, n: ResNo) -> Side
     ensures { result ≡ side_at n link.now }
 {
@@ -88,21 +88,21 @@ pub fn side_of(link: &Link, n: ResNo) -> Side
     }
 }
 
-/// Whether the link stands on an earlier side than that of this number.
+/// Tells whether the link stands on an earlier side than that of this number.
 pub fn is_before(standing: &Standing, number: u8) -> bool
     ensures { result ≡ ltb (side_no standing.now.side) number }
 {
     standing.side.number() < number
 }
 
-/// Whether the link stands on no later side than that of this number.
+/// Tells whether the link stands on no later side than that of this number.
 pub fn is_until(standing: &Standing, number: u8) -> bool
     ensures { result ≡ leb (side_no standing.now.side) number }
 {
     standing.side.number() <= number
 }
 
-/// The link as it stands at the node.
+/// Makes of the link what stands at the node.
 pub fn standing_of(link: &Link, n: ResNo) -> Standing
     ensures { result ≡ standing_at n link.now }
 {

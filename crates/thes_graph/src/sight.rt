@@ -15,7 +15,7 @@ pub enum Sight {
     Merged(ResNo, ResNo),
 }
 
-/// The link after the merge, or None where its ends are then one node.
+/// Makes the link after the merge, or None where its ends are then one node.
 pub fn merge(link: &Link, source: ResNo, target: ResNo) -> Option<Link>
     ensures { result ≡ becomes source target link.now }
 {
@@ -48,7 +48,7 @@ fn merge_all(
     Ok(merged)
 }
 
-/// What links that were read are to be seen as.
+/// Maps the links read to the links after the edit.
 pub fn show(alloc: Global, sight: &Sight, row: Vec<Link>) -> Result<Vec<Link>, AllocError>
     ensures { IfOk result (λ seen. seen.items ≡ shown sight.now row.items) }
 {

@@ -138,7 +138,7 @@ fn leads_to<L: Links>(
     Ok(found)
 }
 
-/// Whether one end of the link is above the other in the links held.
+/// Tells whether one end of the link is above the other in the links held.
 pub fn has_end_above<L: Links>(
     alloc: Global,
     links: &mut L,

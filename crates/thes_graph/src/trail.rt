@@ -196,7 +196,7 @@ pub fn follow_on<L: Links>(
 }
 
 impl Trail {
-    /// The start alone, unread.
+    /// Begins with the start alone, unread.
     pub fn start(alloc: Global, start: ResNo) -> Result<Trail, AllocError>
         ensures nodes { IfOk result (λ trail. trail.nodes ≡ start ∷ []) }
         ensures unread { IfOk result (λ trail. trail.next ≡ 0) }
@@ -205,7 +205,7 @@ impl Trail {
         Ok(Trail { nodes, next: 0 })
     }
 
-    /// Whether each node that was met is read.
+    /// Tells whether each node that was met is read.
     pub fn is_done(&self) -> bool
         ensures done { MatchBool result (length self.now.nodes ≤ self.now.next) (self.now.next < length self.now.nodes) }
         ensures small { length self.now.nodes < 2 ^ 63 }
@@ -240,7 +240,7 @@ impl Trail {
         Ok(found)
     }
 
-    /// Between which places at the next node the links held stand that lead on from it.
+    /// Finds between which places at the next node the links held stand that lead on from it.
     pub fn next_part<L: Links>(&self, links: &L, relation: Relation) -> Part
         requires more { self.now.next < length self.now.nodes }
         ensures two_ends { HaveTwoEnds (HeldIn (L.held links.now)) }

@@ -34,7 +34,7 @@ fn take_steps(
     Ok(())
 }
 
-/// The links at the node.
+/// Reads the links at the node.
 pub fn fetch<L: Links>(alloc: Global, links: &mut L, node: ResNo) -> Result<Vec<Link>, AllocError>
     ensures held { L.held links.new ≡ L.held links.old }
     ensures outside { L.outside links.new ≡ L.outside links.old }
@@ -121,7 +121,7 @@ pub struct Gathered {
     pub links: Vec<Link>,
 }
 
-/// `start` and all that it leads to in the links that would be, with the links there.
+/// Collects the nodes reachable from `start` after the edit, itself among them, and their links.
 pub fn gather<L: Links>(
     alloc: Global,
     links: &mut L,
@@ -171,7 +171,7 @@ fn ties(relation: Relation, link: &Link, xs: &Nodes, ys: &Nodes) -> bool
     }
 }
 
-/// Whether some link leads from one of `xs` to one of `ys`.
+/// Tells whether some link leads from one of `xs` to one of `ys`.
 pub fn some_ties(relation: Relation, links: &[Link], xs: &Nodes, ys: &Nodes) -> bool
     ensures { MatchBool result ((l : Link) × Contains links.now l × Ties relation l xs.now ys.now)
         ((l : Link) → Contains links.now l → Ties relation l xs.now ys.now → ⊥) }

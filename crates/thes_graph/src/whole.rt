@@ -113,7 +113,7 @@ fn breaks_s46<L: Links>(alloc: Global, links: &mut L, all: &[Link]) -> Result<bo
     Ok(false)
 }
 
-/// The first rule that the links break, of which `all` is the list.
+/// Finds the first rule that the links break, of which `all` is the list.
 pub fn check_all<L: Links>(
     alloc: Global,
     links: &mut L,

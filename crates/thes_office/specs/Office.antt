@@ -49,7 +49,7 @@ pub record IsConsistent {K : Type 0} (rows : K → Raw) (is_up : K → Type 0) (
   pub unspent : stale ≡ false → copy.spent ≡ false
   pub copies : stale ≡ false → is_up keeper → IsCopy (rows keeper) limits copy
 
--- What each call keeps. A fault is want of memory, or of the store: then the count of failures rose, or stood at its
+-- What each call keeps. A fault is OutOfMemory, or Store: then the count of failures rose, or stood at its
 -- greatest value, and the copy is stale.
 pub record Goes {K T : Type 0} (rows : K → Raw) (is_up : K → Type 0) (failed : K → ℕ) (old new : Kept K) (result : Result T Fault) : Type 0 where
   pub limits : new.limits ≡ old.limits

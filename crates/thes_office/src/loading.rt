@@ -11,7 +11,7 @@ use thes_core::Core;
 use thes_loader::Loader;
 use thes_store::keeper::Keeper;
 
-/// Loads the tables of a keeper. Another fault than want of memory or of the store is the verdict on their rows.
+/// Loads the tables of a keeper. Another fault than OutOfMemory and Store is the verdict on their rows.
 pub fn load<K: Keeper>(alloc: Global, keeper: &mut K, limits: Limits) -> Result<Core, Fault>
     ensures unspent { IfOk result (λ core. core.spent ≡ false) }
     ensures copies { IfOk result (λ core. K.is_up keeper.new → IsCopy (K.rows keeper.old) limits core) }

@@ -48,8 +48,8 @@ impl<K: Keeper> Office<K> {
     ghost use Rattle.std.specs.Borrow.{sem};
     ghost use Rattle.thes_office.specs.Office.{Readied};
 
-    /// Opens an office over a keeper of tables that show a state. A fault hands the keeper back; another one than want of
-    /// memory or of the store is the verdict on the rows.
+    /// Opens an office over a keeper of tables that show a state. A fault hands the keeper back; another one than
+    /// OutOfMemory and Store is the verdict on the rows.
     pub fn start(alloc: Global, mut keeper: K, limits: Limits) -> Result<Office<K>, (Fault, K)>
         ensures limits { IfOk result (λ o. o.limits ≡ limits) }
         ensures fresh { IfOk result (λ o. o.stale ≡ false) }

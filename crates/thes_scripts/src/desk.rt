@@ -18,7 +18,7 @@ pub struct Teller {
 }
 
 impl Teller {
-    /// An open desk.
+    /// Opens a desk.
     pub fn new() -> Teller {
         Teller { is_closed: false }
     }

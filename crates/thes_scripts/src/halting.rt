@@ -29,11 +29,11 @@ enum Fate {
     Wrong,
 }
 
-/// The stored answers, if a script is served as it should be over a reader and a writer that fail, whichever call it is at
-/// which they do. Else which device failed after how many calls when it was not.
+/// Returns the stored answers, if a script is served as it should be over a reader and a writer that fail, whichever
+/// call it is at which they do; else which device failed after how many calls when it was not.
 ///
-/// What was written then is a front of the stored answers, and just those requests were performed that were answered, or
-/// whose answer the writer failed to take: the same store answers the requests behind them as stored.
+/// What was written then is a front of the stored answers, and just those requests were performed that were answered,
+/// or whose answer the writer failed to take: the same store answers the requests behind them as stored.
 pub fn halting_answers(alloc: Global, stored: &Stored) -> io::Result<String> {
     for failing in [Reader, Writer, FullWriter] {
         if let Some(calls) = first_wrong(alloc, stored, failing)? {

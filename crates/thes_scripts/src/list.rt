@@ -9,7 +9,7 @@ use thes_desks::Store;
 use thes_exchange::answer::{Reply, reply_line};
 use thes_exchange::request::{Memory, Request, read_request};
 
-/// The answers of a new store that performs the requests of a script in one call. Each must be a command.
+/// Performs the requests of a script over a new store, in one call, and returns the answers. Each must be a command.
 pub fn list_answers(alloc: Global, stored: &Stored) -> io::Result<String> {
     let mut store = Store::new(alloc, stored.limits)?;
     let mut answers: Vec<Answer> = Vec::new(alloc);
@@ -40,7 +40,7 @@ fn push_commands(alloc: Global, requests: &str, commands: &mut Vec<Command>) -> 
     Ok(())
 }
 
-/// The command that a line asks for.
+/// Reads the command that a line asks for.
 pub fn command(alloc: Global, line: &str) -> io::Result<Command> {
     match read_request(&mut Memory::new(alloc), line.as_bytes()) {
         Ok(Request::Do(command)) => Ok(command),

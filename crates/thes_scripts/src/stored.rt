@@ -3,7 +3,7 @@ use std::alloc::{AllocError, Global};
 use thes_base::data::Limits;
 use thes_base::number::ResNo;
 
-/// How a script is run.
+/// A way in which a script is run.
 #[derive(Clone, Copy, Debug, PartialEq, Eq)]
 pub enum Way {
     /// As a script, by a new store.
@@ -23,7 +23,7 @@ pub struct Stored<'a> {
     pub way: Way,
     pub limits: Limits,
     pub requests: String,
-    /// What is looked up behind the requests.
+    /// The look-ups behind the requests.
     pub lookups: String,
     pub answers: String,
 }

@@ -54,8 +54,8 @@ fn desk_answers(alloc: Global, stored: &Stored) -> io::Result<String> {
     ended_text(text_of(written)?, ended)
 }
 
-/// Adds a line to answers that says how the script ended, unless it ended without a fault, and refused just where one of
-/// the answers says so.
+/// Adds a line to answers that says how the script ended, unless it ended without a fault, and refused exactly when one
+/// of the answers says so.
 pub fn ended_text(mut answers: String, ended: Result<Ended, PipeFault>) -> io::Result<String> {
     let refused = answers.as_str().lines().any(is_refusal);
     let usual = Ended {
@@ -72,7 +72,7 @@ fn is_refusal(answer: &str) -> bool {
     answer.starts_with(r#"{"no""#) || answer.starts_with(r#"{"bad""#)
 }
 
-/// The text of bytes.
+/// Makes a text of bytes.
 pub fn text_of(bytes: Vec<u8>) -> io::Result<String> {
     String::from_utf8(bytes).map_err(|_| io::Error::from(io::ErrorKind::InvalidData))
 }

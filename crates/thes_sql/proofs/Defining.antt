@@ -1,5 +1,5 @@
 -- What the texts that make the tables mean.
-use Rattle.std.proofs.Common.{arith, ◌≡◌, ℕ, suc, zero, ◌<◌, List, [], ◌∷◌, codes, length, take, drop, slice_get}
+use Rattle.std.proofs.Common.{arith, ◌≡◌, ◌≢◌, Option, ℕ, suc, zero, ◌<◌, List, [], ◌∷◌, codes, length, take, drop, slice_get}
 use Rattle.std.proofs.Common.{Some, None, Ok, Err, Result, OnOk, inl, inr, refl, sym, ap, subst, subst₂, ◌∙◌}
 use Rattle.std.proofs.Common.{◌||◌, ◌++◌, true, false, lit<, IsTrue}
 use Rattle.std.specs.List.{AllByRecursion}
@@ -17,13 +17,25 @@ use Rattle.sqlite.specs.declared.error.Error.{Error}
 use Rattle.sqlite_tied.specs.Compute.{everything}
 use Rattle.sqlite.specs.Listing.{understood}
 use Rattle.sqlite.specs.Effect.{Database}
-use Rattle.sqlite.specs.State.{State, mode_of, Runs, ExecutesIn, shows_rows}
+use Rattle.sqlite.specs.State.{State, mode_of, Runs, RunsCommand, Executes, ExecutesIn, shows_rows, IsUnchanged, IsNoStatement, ExecutesInside}
+use Rattle.sqlite.specs.State.{IsNotRun, store_error}
+use Rattle.sqlite.specs.Clock.{timed}
+use Rattle.sqlite.specs.declared.run.Mode.{Mode}
+use Rattle.sqlite.specs.declared.error.Error.TheVariants.{SqlInputError}
+use Rattle.sqlite_resolve.specs.declared.error.CompileError.{CompileError}
+use Rattle.sqlite_trees.specs.declared.error.StoreError.{StoreError}
+use Rattle.sqlite_trees.specs.declared.error.StoreError.TheVariants as cause
+use Rattle.sqlite_catalog.specs.declared.error.Refusal.{Refusal}
+use Rattle.sqlite_catalog.specs.declared.error.Refusal.TheVariants as refusal
+use Rattle.sqlite_catalog.specs.Calls.{RefusesIndex}
+use Rattle.sqlite.specs.Effect.{alter_error}
+use Rattle.std.proofs.lemmas.Bool.{cases_Bool}
 use Rattle.sqlite.specs.Effect.{is_query}
 use Rattle.sqlite.specs.Batch.{first_len, RunInTurn, ExecutesAllInside}
 use Rattle.sqlite.specs.Held.{Held, state}
 use Rattle.sqlite.specs.Command.{Command}
 use Rattle.sqlite_trees.specs.declared.store.Store.{Ghosts}
-use Rattle.sqlite.proofs.Callers.{IsPlain, command_of, statement_of}
+use Rattle.sqlite.proofs.Callers.{IsPlain, command_of, statement_of, runs_as}
 use Rattle.sqlite_trees.proofs.ListLemmas.{all-append}
 use Rattle.thes_sql.specs.Schema.{meta, resource, outside, label, link, hier, posting, move, posting_at, move_posting}
 use Rattle.thes_sql.specs.Schema.{schema_0, schema_1, schema_2, schema_3, schema_4, schema_5, schema_6, schema_7}
@@ -32,7 +44,7 @@ use Rattle.thes_rows.specs.Tables.{Tables}
 use Rattle.thes_sql.specs.Stored.{HoldResources, HoldOutside, HoldPostings, HoldMoves, AreHidden, label_values}
 use Rattle.thes_sql.specs.Stored.{link_values}
 use Rattle.thes_sql.specs.Older.{old_schema, KeepsOld, KeepsAs, IsOldStore, IsEnlarged}
-use Rattle.thes_sql.specs.Does.{IsEmpty, Turns, TurnsEach}
+use Rattle.thes_sql.specs.Does.{IsEmpty, Turns, TurnsEach, Extends, Tries}
 use Rattle.thes_sql.proofs.Writing.{went, same_value}
 
 -- in this schema the text makes the table
@@ -112,14 +124,14 @@ unfolding understood everything
 create_move_is = (refl, refl, (refl, refl))
 
 abbrev index_posting_at_text : List ℕ
-index_posting_at_text = codes "CREATE INDEX IF NOT EXISTS posting_at ON posting (at);"
+index_posting_at_text = codes "CREATE INDEX IF NOT EXISTS posting_at ON posting (at)"
 
 index_posting_at_is : AddsIndex schema_8 index_posting_at_text 5 (record posting { tree = 8 }) posting_at
 unfolding understood everything
 index_posting_at_is = (refl, refl, (refl, refl))
 
 abbrev index_move_posting_text : List ℕ
-index_move_posting_text = codes "CREATE INDEX IF NOT EXISTS move_posting ON move (posting);"
+index_move_posting_text = codes "CREATE INDEX IF NOT EXISTS move_posting ON move (posting)"
 
 index_move_posting_is : AddsIndex schema_9 index_move_posting_text 6 (record move { tree = 10 }) move_posting
 unfolding understood everything
@@ -165,10 +177,10 @@ made_table from text table is uncounted old new count has h =
 -- an index is made in a schema: the rows stay
 made_index : (from : Schema) (text : List ℕ) (at : ℕ) (table : Table) (index : Index)
     → AddsIndex from text at table index → slice_get from.tables at ≡ Some table
-    → (old new : State) (count : ℕ) → old.now.schema ≡ from → ExecutesIn true text [] old new (Ok count)
+    → (old new : State) (count : ℕ) → old.now.schema ≡ from → Executes text [] old new (Ok count)
     → (new.now.schema ≡ indexed from table index) × KeepsRows from.tables old.now.trees new.now.trees
 made_index from text at table index is is_at old new count has h =
-    let w = ran_as text old new from has (CreateIndex at) refl is.0 is.2 count h in
+    let w = runs_as text [] old new from has (CreateIndex at) is.0 is.2 count h in
     let d1 = subst (λ s. Does old.step_limit (mode_of old) [] (record old.now { schema = s })
     (statement_of text (understood from text)) None (CreateIndex at) (Ok (w.tally, new.now))) has w.changed in
     let d2 : Defines (mode_of old) (MakesIndex (statement_of text (understood from text))
@@ -201,15 +213,6 @@ defines_table from text table is uncounted old new count empty h =
           (made.2, tt),
     )
 
--- an index changes no row
-defines_index : (from : Schema) (text : List ℕ) (at : ℕ) (table : Table) (index : Index)
-    → AddsIndex from text at table index → slice_get from.tables at ≡ Some table
-    → (old new : State) (count : ℕ) → IsEmpty from old.now → ExecutesIn true text [] old new (Ok count)
-    → IsEmpty (indexed from table index) new.now
-defines_index from text at table index is is_at old new count empty h =
-    let made = made_index from text at table index is is_at old new count empty.0 h in
-    (made.0, still_empty _ _ from.tables made.1 empty.1)
-
 -- Texts in turn.
 
 abbrev texts_6 : List ℕ
@@ -233,15 +236,6 @@ texts_1 = create_resource_text ++ texts_2
 abbrev texts_0 : List ℕ
 texts_0 = create_meta_text ++ texts_1
 
-abbrev newer_2 : List ℕ
-newer_2 = index_move_posting_text
-
-abbrev newer_1 : List ℕ
-newer_1 = index_posting_at_text ++ newer_2
-
-abbrev newer_0 : List ℕ
-newer_0 = create_hier_text ++ newer_1
-
 -- Texts were run in turn, and this came of it.
 module _ {S : Type 0} (g : Ghosts S) (new : Held S) {Goal : Type 0} where
   -- the first of them makes a database of one sort one of another, and the rest is run then
@@ -263,38 +257,155 @@ module _ {S : Type 0} (g : Ghosts S) (new : Held S) {Goal : Type 0} where
       (subst (λ t. ExecutesIn true t [] (state g old) (state g ran.0) (Ok ran.1)) is ran.2.runs))
       (subst (λ t. RunInTurn g (Some 0) most t ran.0 new (Ok tt)) left ran.3)
 
--- A store of version 1 after the seven tables got their company.
+-- What an index is of is there, so its text is understood.
+module _ (text : List ℕ) (old new : State) (fault : CompileError) where
+  no_cause : (cause : StoreError) → SqlInputError fault ≢ store_error cause
+  no_cause cause.OutOfMemory told = cc
+  no_cause cause.Io told = cc
+  no_cause cause.Corrupt told = cc
+  no_cause cause.Full told = cc
+  no_cause cause.Broken told = cc
+  no_cause cause.Unstorable told = cc
 
--- its rows are as they were
-abbrev AreOld : Trees → Database → Type 0
-AreOld start db = KeepsRows schema_7.tables start db.trees
+  -- a text that is not understood changes nothing
+  pub refused_unchanged : Executes text [] old new (Err (SqlInputError fault)) → IsUnchanged old new
+  unfolding ExecutesIn IsNotRun
+  refused_unchanged (inl (inl none)) = none.1
+  refused_unchanged (inl (inr fails)) = absurd (no_cause fails.0 fails.1)
+  refused_unchanged (inr h) = elim (cases_Bool (shows_rows false h.0)) [
+    | inl shows ↦ (rw shows at h.2).1
+    | inr runs ↦ elim (rw runs at h.2) [ inl refused ↦ refused.1 | inr fails ↦ absurd (no_cause fails.0 fails.1) ]
+  ]
 
-abbrev HasHier : Schema → Trees → Database → Type 0
-HasHier schema start db = (db.schema ≡ schema) × AreOld start db × (db.trees 11 ≡ [])
+  module _ (from : Schema) (at : ℕ) (table : Table) (index : Index) (is : AddsIndex from text at table index)
+      (is_at : slice_get from.tables at ≡ Some table) (has : old.now.schema ≡ from) where
+    no_statement : IsNoStatement old text [] (SqlInputError fault) → ⊥
+    no_statement (inl h) = let k = sym (ap command_of h.1) ∙ ap (λ s. command_of (understood s text)) has ∙ is.0 in cc
+    no_statement (inr h) = elim h.2 [
+      | inl a ↦ let k = a.1 in cc
+      | inr more ↦ elim more [ inl b ↦ let k = b.1 in cc | inr c ↦ let k = c.1 in cc ]
+    ]
 
-still_old : (start mid next : Trees) → KeepsRows schema_7.tables start mid → KeepsRows schema_8.tables mid next
-    → KeepsRows schema_7.tables start next × (next 11 ≡ mid 11)
-still_old start mid next a b = (
-  (b.0 ∙ a.0, (b.1.0 ∙ a.1.0, (b.1.1.0 ∙ a.1.1.0, (b.1.1.1.0 ∙ a.1.1.1.0, (b.1.1.1.1.0 ∙ a.1.1.1.1.0,
-      (b.1.1.1.1.1.0 ∙ a.1.1.1.1.1.0, (b.1.1.1.1.1.1.0 ∙ a.1.1.1.1.1.1.0, tt))))))),
-  b.1.1.1.1.1.1.1.0,
-)
+    no_alter : (reason : Refusal) → RefusesIndex from old.now.trees table (statement_of text (understood from text)) reason
+        → SqlInputError fault ≢ alter_error reason
+    no_alter (refusal.Invalid e) h told = let k = sym h ∙ is.1 in cc
+    no_alter refusal.NameTaken h told = cc
+    no_alter refusal.BadName h told = cc
+    no_alter refusal.BadKey h told = cc
+    no_alter refusal.BadText h told = cc
+    no_alter refusal.TooBig h told = cc
+    no_alter (refusal.Violates rule) h told = cc
 
-gets_hier : (start : Trees) (old new : State) (count : ℕ) → (old.now.schema ≡ schema_7) × (old.now.trees ≡ start)
-    → ExecutesIn true create_hier_text [] old new (Ok count) → HasHier schema_8 start new.now
-gets_hier start old new count was h =
-    let made = made_table schema_7 create_hier_text hier create_hier_is refl old new count was.0 h in
-    (made.0, subst (λ (db : Trees). KeepsRows schema_7.tables db new.now.trees) was.1 made.1, made.2)
+    not_made : (mode : Mode) → Does old.step_limit mode [] (record old.now { schema = from })
+        (statement_of text (understood from text)) None (CreateIndex at) (Err (Some (SqlInputError fault))) → ⊥
+    not_made mode d =
+        let it : Defines mode (MakesIndex (statement_of text (understood from text)) (record old.now { schema = from }) table)
+        (Err (Some (SqlInputError fault))) =
+        subst (λ o. AtPlace (λ t. Defines mode (MakesIndex (statement_of text (understood from text))
+        (record old.now { schema = from }) t)) o (Err (Some (SqlInputError fault)))) is_at d in
+        elim it [ inl stopped ↦ stops stopped.0 stopped.1 stopped.2 | inr made ↦ let k = made.2 in absurd (cc) ]
+      where
+        stops : (stop : Option Error) → MakesIndex (statement_of text (understood from text)) (record old.now { schema = from })
+            table (Err stop) → ◌≡◌ {A = Result (Tally × Database) (Option Error)} (Err (Some (SqlInputError fault))) (Err stop) → ⊥
+        stops None h told = cc
+        stops (Some e) (inl bad) told = let k = bad.1 in cc
+        stops (Some e) (inr bad) told =
+            let same : SqlInputError fault ≡ e = cc in
+            no_alter bad.0 bad.1 (same ∙ bad.2)
 
-gets_index : (from : Schema) (text : List ℕ) (at : ℕ) (table : Table) (index : Index)
-    → AddsIndex from text at table index → slice_get from.tables at ≡ Some table → from.tables ≡ schema_8.tables
-    → (start : Trees) (old new : State) (count : ℕ) → HasHier from start old.now
-    → ExecutesIn true text [] old new (Ok count) → HasHier (indexed from table index) start new.now
-gets_index from text at table index is is_at tables start old new count was h =
-    let made = made_index from text at table index is is_at old new count was.0 h in
-    let still = still_old start old.now.trees new.now.trees was.1
-    (subst (λ ts. KeepsRows ts old.now.trees new.now.trees) tables made.1) in
-    (made.0, still.0, still.1 ∙ was.2)
+    pub not_refused : Executes text [] old new (Err (SqlInputError fault)) → ⊥
+    unfolding ExecutesIn IsNotRun
+    not_refused (inl (inl none)) = no_statement none.0
+    not_refused (inl (inr fails)) = no_cause fails.0 fails.1
+    not_refused (inr h) =
+        let known = sym h.1.is ∙ ap (λ s. understood s text) has in
+        let bare = subst IsPlain (sym known) is.2 in
+        let same : h.0.command ≡ CreateIndex at = ap command_of known ∙ is.0 in
+        let ran : RunsCommand old new text h.0 (timed [] h.0.formats h.1.now) (Err (SqlInputError fault)) =
+        elim (cases_Bool (shows_rows false h.0)) [
+          | inl shows ↦ absurd (let e = (rw shows at h.2).0 in cc)
+          | inr runs ↦ rw runs at h.2
+        ] in
+        elim ran [
+          | inl refused ↦ elim refused.0 [
+              | inl misplaced ↦ elim misplaced [ inl a ↦ let k = a.0 in cc | inr b ↦ let k = b.0 in cc ]
+              | inr done ↦ not_made (mode_of old) (subst₂ (λ s t. Does old.step_limit (mode_of old) [] (record old.now { schema = s }) t None (CreateIndex at) (Err (Some (SqlInputError fault)))) has (ap (statement_of text) known)
+                  (rw (bare.0, bare.1, same) at done.1))
+            ]
+          | inr fails ↦ no_cause fails.0 fails.1
+        ]
+
+pub tries_refused : (text : List ℕ) (old new : State) (fault : CompileError)
+    → ExecutesInside 0 text [] old new (Err (SqlInputError fault)) → IsTrue old.in_transaction → Tries text old new
+tries_refused text old new fault (inl h) inside = record {
+  ran = inr (fault, h.0);
+  inside = (refused_unchanged text old new fault h.0).0.mode ∙ inside;
+}
+tries_refused text old new fault (inr h) inside = absurd (let k = h.1 in cc)
+
+-- so it is made, if it is tried
+tried : (from : Schema) (text : List ℕ) (at : ℕ) (table : Table) (index : Index) → AddsIndex from text at table index
+    → slice_get from.tables at ≡ Some table → (old new : State) → Tries text old new → old.now.schema ≡ from
+    → (new.now.schema ≡ indexed from table index) × KeepsRows from.tables old.now.trees new.now.trees
+tried from text at table index is is_at old new t has = elim t.ran [
+  | inl ran ↦ made_index from text at table index is is_at old new ran.0 has ran.1
+  | inr refused ↦ absurd (not_refused text old new refused.0 from at table index is is_at has refused.1)
+]
+
+kept_twice : (tables : List Table) (start mid next : Trees) → KeepsRows tables start mid → KeepsRows tables mid next
+    → KeepsRows tables start next
+kept_twice [] start mid next a b = tt
+kept_twice (t ∷ tables) start mid next a b = (b.0 ∙ a.0, kept_twice tables start mid next a.1 b.1)
+
+pub both_indexes : (old mid new : State) → Tries index_posting_at_text old mid → Tries index_move_posting_text mid new
+    → Extends schema_8 store_schema [] old new
+both_indexes old mid new first second = record {
+  made = λ has.
+      let one = tried schema_8 index_posting_at_text 5 (record posting { tree = 8 }) posting_at index_posting_at_is refl old mid first has in
+      let two = tried schema_9 index_move_posting_text 6 (record move { tree = 10 }) move_posting index_move_posting_is refl mid new second one.0 in
+      (two.0, kept_twice schema_8.tables old.now.trees mid.now.trees new.now.trees one.1 two.1, tt);
+  inside = second.inside;
+}
+
+-- Table hier and the indexes together.
+module _ (old mid new : State) (first : Extends old_schema schema_8 (11 ∷ []) old mid)
+    (second : Extends schema_8 store_schema [] mid new) where
+  pub newer_empty : Turns (IsEmpty old_schema) (IsEmpty store_schema) old new
+  newer_empty = record {
+    made = λ empty.
+        let one = first.made empty.0 in
+        let two = second.made one.0 in
+        let none = still_empty old.now.trees mid.now.trees old_schema.tables one.1 empty.1 in
+        (two.0, still_empty mid.now.trees new.now.trees schema_8.tables two.1
+            (all-append (λ (t : Table). mid.now.trees t.tree ≡ []) old_schema.tables (record hier { tree = 11 } ∷ []) none (one.2.0, tt)));
+    inside = second.inside;
+  }
+
+  enlarged_rows : (t : Tables) → KeepsOld old.now t → KeepsAs 1 new.now (record t { hier = [] })
+  enlarged_rows t was =
+      let one = first.made was.schema in
+      let two = second.made one.0 in
+      let k = kept_twice old_schema.tables old.now.trees mid.now.trees new.now.trees one.1
+      (two.1.0, (two.1.1.0, (two.1.1.1.0, (two.1.1.1.1.0, (two.1.1.1.1.1.0, (two.1.1.1.1.1.1.0, (two.1.1.1.1.1.1.1.0, tt))))))) in
+      let h = was.hold in
+      record {
+        schema = two.0;
+        hold = record {
+          meta = k.0 ∙ h.meta;
+          resource = subst (HoldResources t.resource) (sym k.1.0) h.resource;
+          outside = subst (HoldOutside t.outside) (sym k.1.1.0) h.outside;
+          label = subst (AreHidden label_values t.label) (sym k.1.1.1.0) h.label;
+          link = subst (AreHidden link_values t.link) (sym k.1.1.1.1.0) h.link;
+          posting = subst (HoldPostings t.posting) (sym k.1.1.1.1.1.0) h.posting;
+          numbered = h.numbered;
+          move = subst (HoldMoves t.move) (sym k.1.1.1.1.1.1.0) h.move;
+          spelled = h.spelled;
+        };
+        hier = record { given = []; same = refl; held = record { rises = tt; rows = two.1.1.1.1.1.1.1.1.0 ∙ one.2.0 } };
+      }
+
+  pub newer_enlarged : TurnsEach IsOldStore IsEnlarged old new
+  newer_enlarged = record { made = enlarged_rows; inside = second.inside }
 
 module _ {S : Type 0} (g : Ghosts S) where
   -- the first texts make the seven tables
@@ -318,33 +429,6 @@ module _ {S : Type 0} (g : Ghosts S) where
       (defines_table schema_6 create_move_text move create_move_is refl) empty_6 more_6 (λ at_7 most_7 empty_7 more_7.
       subst (λ h. IsEmpty old_schema (state g h).now) (sym more_7.1) empty_7)))))))
 
-  -- the later texts make what a store has besides
-  all_newer : (old new : Held S) → IsEmpty old_schema (state g old).now
-      → ExecutesAllInside g 0 newer_0 old new (Ok tt) → IsEmpty store_schema (state g new).now
-  unfolding ExecutesAllInside everything
-  all_newer old new empty h =
-      first_made g new newer_0 create_hier_text newer_1 (IsEmpty schema_7) (IsEmpty schema_8) (length newer_0) old refl refl (lit< tt)
-      (defines_table schema_7 create_hier_text hier create_hier_is refl) empty h (λ at_8 most_8 empty_8 more_8.
-      first_made g new newer_1 index_posting_at_text newer_2 (IsEmpty schema_8) (IsEmpty schema_9) most_8 at_8 refl refl (lit< tt)
-      (defines_index schema_8 index_posting_at_text 5 (record posting { tree = 8 }) posting_at index_posting_at_is refl) empty_8 more_8 (λ at_9 most_9 empty_9 more_9.
-      first_made g new newer_2 index_move_posting_text [] (IsEmpty schema_9) (IsEmpty store_schema) most_9 at_9 refl refl (lit< tt)
-      (defines_index schema_9 index_move_posting_text 6 (record move { tree = 10 }) move_posting index_move_posting_is refl) empty_9 more_9 (λ at_10 most_10 empty_10 more_10.
-      subst (λ h. IsEmpty store_schema (state g h).now) (sym more_10.1) empty_10)))
-
-  -- and a store of version 1 keeps its rows then
-  all_renewed : (old new : Held S) → (state g old).now.schema ≡ old_schema
-      → ExecutesAllInside g 0 newer_0 old new (Ok tt) → HasHier store_schema (state g old).now.trees (state g new).now
-  unfolding ExecutesAllInside everything
-  all_renewed old new has h =
-      let start = (state g old).now.trees in
-      first_made g new newer_0 create_hier_text newer_1 (λ db. (db.schema ≡ schema_7) × (db.trees ≡ start)) (HasHier schema_8 start)
-      (length newer_0) old refl refl (lit< tt) (gets_hier start) (has, refl) h (λ at_8 most_8 was_8 more_8.
-      first_made g new newer_1 index_posting_at_text newer_2 (HasHier schema_8 start) (HasHier schema_9 start) most_8 at_8 refl refl (lit< tt)
-      (gets_index schema_8 index_posting_at_text 5 (record posting { tree = 8 }) posting_at index_posting_at_is refl refl start) was_8 more_8 (λ at_9 most_9 was_9 more_9.
-      first_made g new newer_2 index_move_posting_text [] (HasHier schema_9 start) (HasHier store_schema start) most_9 at_9 refl refl (lit< tt)
-      (gets_index schema_9 index_move_posting_text 6 (record move { tree = 10 }) move_posting index_move_posting_is refl refl start) was_9 more_9 (λ at_10 most_10 was_10 more_10.
-      subst (λ h. HasHier store_schema start (state g h).now) (sym more_10.1) was_10)))
-
   pub does_define : (old new : Held S) (r : Result (Unit {0}) Error) → ExecutesAllInside g 0 texts_0 old new r
       → OnOk r ((state g new).in_transaction ≡ (state g old).in_transaction) → IsTrue (state g old).in_transaction
       → OnOk r (Turns (IsEmpty schema_0) (IsEmpty old_schema) (state g old) (state g new))
@@ -354,42 +438,24 @@ module _ {S : Type 0} (g : Ghosts S) where
     inside = same ∙ inside;
   }
 
-  pub does_newer : (old new : Held S) (r : Result (Unit {0}) Error) → ExecutesAllInside g 0 newer_0 old new r
-      → OnOk r ((state g new).in_transaction ≡ (state g old).in_transaction) → IsTrue (state g old).in_transaction
-      → OnOk r (Turns (IsEmpty old_schema) (IsEmpty store_schema) (state g old) (state g new))
-  does_newer old new (Err e) h same inside = tt
-  does_newer old new (Ok done) h same inside = record {
-    made = λ empty. all_newer old new empty h;
-    inside = same ∙ inside;
-  }
+  -- its rows are as they were, and hier is empty
+  abbrev HasHier : Trees → Database → Type 0
+  HasHier start db = (db.schema ≡ schema_8) × KeepsRows schema_7.tables start db.trees × ((db.trees 11 ≡ []) × Unit {0})
 
-  renewed_rows : (t : Tables) (old new : Held S) → KeepsOld (state g old).now t
-      → HasHier store_schema (state g old).now.trees (state g new).now
-      → KeepsAs 1 (state g new).now (record t { hier = [] })
-  renewed_rows t old new was is =
-      let k = is.1 in
-      let h = was.hold in
-      record {
-        schema = is.0;
-        hold = record {
-          meta = k.0 ∙ h.meta;
-          resource = subst (HoldResources t.resource) (sym k.1.0) h.resource;
-          outside = subst (HoldOutside t.outside) (sym k.1.1.0) h.outside;
-          label = subst (AreHidden label_values t.label) (sym k.1.1.1.0) h.label;
-          link = subst (AreHidden link_values t.link) (sym k.1.1.1.1.0) h.link;
-          posting = subst (HoldPostings t.posting) (sym k.1.1.1.1.1.0) h.posting;
-          numbered = h.numbered;
-          move = subst (HoldMoves t.move) (sym k.1.1.1.1.1.1.0) h.move;
-          spelled = h.spelled;
-        };
-        hier = record { given = []; same = refl; held = record { rises = tt; rows = is.2 } };
-      }
+  gets_hier : (old new : Held S) → ExecutesAllInside g 0 create_hier_text old new (Ok tt) → (state g old).now.schema ≡ old_schema
+      → HasHier (state g old).now.trees (state g new).now
+  unfolding ExecutesAllInside everything
+  gets_hier old new h has =
+      let start = (state g old).now.trees in
+      first_made g new create_hier_text create_hier_text [] (λ db. (db.schema ≡ schema_7) × (db.trees ≡ start)) (HasHier start)
+      (length create_hier_text) old refl refl (lit< tt)
+      (λ was is count from ran.
+          let m = made_table schema_7 create_hier_text hier create_hier_is refl was is count from.0 ran in
+          (m.0, subst (λ (db : Trees). KeepsRows schema_7.tables db is.now.trees) from.1 m.1, (m.2, tt)))
+      (has, refl) h (λ mid most was more. subst (λ h. HasHier start (state g h).now) (sym more.1) was)
 
-  pub does_renew : (old new : Held S) (r : Result (Unit {0}) Error) → ExecutesAllInside g 0 newer_0 old new r
+  pub does_hier : (old new : Held S) (r : Result (Unit {0}) Error) → ExecutesAllInside g 0 create_hier_text old new r
       → OnOk r ((state g new).in_transaction ≡ (state g old).in_transaction) → IsTrue (state g old).in_transaction
-      → OnOk r (TurnsEach IsOldStore IsEnlarged (state g old) (state g new))
-  does_renew old new (Err e) h same inside = tt
-  does_renew old new (Ok done) h same inside = record {
-    made = λ t was. renewed_rows t old new was (all_renewed old new was.schema h);
-    inside = same ∙ inside;
-  }
+      → OnOk r (Extends old_schema schema_8 (11 ∷ []) (state g old) (state g new))
+  does_hier old new (Err e) h same inside = tt
+  does_hier old new (Ok done) h same inside = record { made = gets_hier old new h; inside = same ∙ inside }

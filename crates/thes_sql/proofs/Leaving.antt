@@ -1,6 +1,6 @@
 -- A read leaves the tables.
 use Rattle.std.proofs.Common.{◌≡◌, ◌⊎◌, inl, inr, ℕ, List, Ok, Err, Result, IfOk, IfErr, false, IsTrue, sym, ap}
-use Rattle.std.proofs.Common.{◌≢◌, OnOk, [], subst, ◌∙◌, arith, append-nil}
+use Rattle.std.proofs.Common.{◌≢◌, true, refl, OnOk, [], subst, ◌∙◌, arith, append-nil}
 use Rattle.sqlite.specs.Order.{Row}
 use Rattle.sqlite.specs.Effect.{Database, RefusesQuery, RefusesToRead}
 use Rattle.sqlite.specs.Command.TheVariants.{Select}
@@ -10,6 +10,8 @@ use Rattle.sqlite.specs.declared.error.Error.TheVariants.{SqlInputError}
 use Rattle.sqlite_trees.specs.declared.error.StoreError.{StoreError}
 use Rattle.sqlite_trees.specs.declared.error.StoreError.TheVariants as cause
 use Rattle.sqlite.specs.Listing.{understood}
+use Rattle.sqlite.specs.Outline.{Outline}
+use Rattle.sqlite.specs.Steps.{Outlines}
 use Rattle.sqlite.specs.State.{State, HasCleanDisk, Shown, ShowsRows, FailsToQuery, FailsToShow, IsNotRun, IsUnchanged}
 use Rattle.sqlite.specs.State.{IsNoStatement, store_error, IsRolledBack, Survives, CommitsShowing}
 use Rattle.sqlite.specs.Held.{Held, state}
@@ -22,7 +24,7 @@ use Rattle.sqlite.proofs.StateLemmas.{survives_weaker}
 use Rattle.sqlite.proofs.Callers.{IsPlain, command_of, never_commits}
 use Rattle.thes_sql.specs.Schema.{store_schema}
 use Rattle.thes_sql.specs.Reads.{LeavesTables, LeavesAlone}
-use Rattle.thes_sql.specs.Older.{old_schema, HasKnownSchema, KeepsKnown, LeavesKnown}
+use Rattle.thes_sql.specs.Older.{old_schema, HasKnownSchema, IsUnderstood, Asks, KeepsKnown, LeavesKnown}
 
 shows_open : (old new : State) (sql : List ℕ) (c : Compiled) (params : Row) (rows : List Row) (o : Option Returning)
     → ShowsRows old new sql c params rows o → IsTrue old.is_open
@@ -184,6 +186,42 @@ module _ {S : Type 0} (g : Ghosts S) (sql : List ℕ) (old new : Held S) where
       → (params : Row) → IsNotRun (state g old) (state g new) sql params (SqlInputError fault))
       → KeepsKnown g old new
   refused_keeps fault h = prepared_keeps (λ clean. not_understood fault (h clean))
+
+-- Whether a text is understood.
+module _ {S : Type 0} (g : Ghosts S) (sql : List ℕ) (old new : Held S) where
+  understood_so : (r : Result Compiled CompileError) (s : Outline) → understood (state g old).now.schema sql ≡ r → Outlines r s
+      → IsUnderstood (state g old).now.schema sql true
+  understood_so (Ok c) s is h = (c, is)
+  understood_so (Err fault) s is h = absurd h
+
+  pub asked : (s : Outline) → (HasCleanDisk (state g new) → Outlines (understood (state g old).now.schema sql) s)
+      → (HasCleanDisk (state g new) → IsUnchanged (state g old) (state g new)) → Asks {E = Error} g sql old new (Ok true)
+  asked s shape so clean = (understood_so (understood (state g old).now.schema sql) s refl (shape clean), (so clean).0.now_is)
+
+  no_failure : (fault : CompileError) (cause : StoreError) → SqlInputError fault ≢ store_error cause
+  no_failure fault cause.OutOfMemory told = cc
+  no_failure fault cause.Io told = cc
+  no_failure fault cause.Corrupt told = cc
+  no_failure fault cause.Full told = cc
+  no_failure fault cause.Broken told = cc
+  no_failure fault cause.Unstorable told = cc
+
+  not_so : (fault : CompileError) → IsNoStatement (state g old) sql [] (SqlInputError fault)
+      → IsUnderstood (state g old).now.schema sql false
+  not_so fault (inl h) = (h.0, h.1)
+  not_so fault (inr h) = elim h.2 [
+    | inl a ↦ absurd (let k = a.1 in cc)
+    | inr more ↦ elim more [ inl b ↦ absurd (let k = b.1 in cc) | inr c ↦ absurd (let k = c.1 in cc) ]
+  ]
+
+  pub not_asked : (fault : CompileError) → (HasCleanDisk (state g new)
+      → (params : Row) → IsNotRun (state g old) (state g new) sql params (SqlInputError fault))
+      → Asks {E = Error} g sql old new (Ok false)
+  unfolding IsNotRun
+  not_asked fault h clean = elim (h clean []) [
+    | inl none ↦ (not_so fault none.0, none.1.0.now_is)
+    | inr fails ↦ absurd (no_failure fault fails.0 fails.1)
+  ]
 
 -- A query that the schema of a store understands doesn't fail as a text that isn't understood.
 module _ (sql : List ℕ) (params : Row) (old new : State) (q : Program) (names : List (List ℕ))

@@ -14,3 +14,5 @@ pub mod Creating
 pub mod Reading
 pub mod Leaving
 pub mod Renewing
+pub mod OldRowLemmas
+pub mod Knowing

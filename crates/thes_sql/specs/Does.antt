@@ -1,11 +1,14 @@
 -- What calls do inside a transaction, and a transaction as a whole.
-use Rattle.std.specs.Prelude.{◌≡◌, List, [], Bool, true, false, Result, Ok, OnOk, OnErr, IfOk, IsTrue}
+use Rattle.std.specs.Prelude.{◌≡◌, ◌⊎◌, ℕ, List, [], Bool, true, false, Result, Ok, Err, OnOk, OnErr, IfOk, IsTrue}
 use Rattle.std.specs.List.{AllByRecursion}
 use Rattle.std.specs.Borrow.{MutBor}
 use Rattle.sqlite.specs.Effect.{Database}
 use Rattle.sqlite.specs.Schema.{Schema}
 use Rattle.sqlite.specs.Table.{Table}
-use Rattle.sqlite.specs.State.{State, HasCleanDisk, KeepsCommit, Survives}
+use Rattle.sqlite.specs.declared.error.Error.TheVariants.{SqlInputError}
+use Rattle.sqlite.specs.State.{State, HasCleanDisk, KeepsCommit, Survives, Executes}
+use Rattle.sqlite_resolve.specs.declared.error.CompileError.{CompileError}
+use Rattle.sqlite_catalog.specs.Change.{KeepsRows}
 use Rattle.sqlite.specs.Held.{Held, state}
 use Rattle.sqlite_trees.specs.declared.store.Store.{Ghosts}
 use Rattle.thes_rows.specs.declared.change.Change.{Change}
@@ -42,6 +45,18 @@ pub record Turns (From To : Database → Type 0) (old new : State) : Type 0 wher
 -- So it is, whichever tables it holds.
 pub record TurnsEach (From To : Tables → Database → Type 0) (old new : State) : Type 0 where
   pub made : (t : Tables) → From t old.now → To t new.now
+  pub inside : IsTrue new.in_transaction
+
+-- A database of the one schema has the other, with the same rows; and these trees are empty.
+pub record Extends (from to : Schema) (fresh : List ℕ) (old new : State) : Type 0 where
+  pub made : old.now.schema ≡ from → (new.now.schema ≡ to) × KeepsRows from.tables old.now.trees new.now.trees
+      × AllByRecursion (λ tree. new.now.trees tree ≡ []) fresh
+  pub inside : IsTrue new.in_transaction
+
+-- The text was run, or it is not understood.
+pub record Tries (text : List ℕ) (old new : State) : Type 0 where
+  pub ran : ((count : ℕ) × Executes text [] old new (Ok count))
+      ⊎ ((fault : CompileError) × Executes text [] old new (Err (SqlInputError fault)))
   pub inside : IsTrue new.in_transaction
 
 -- Inside a transaction, over a disk that told no lie, a call that is done leads from the old state to the new like this.

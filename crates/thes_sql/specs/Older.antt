@@ -1,5 +1,5 @@
 -- A store of version 1, and what becomes of it in version 2.
-use Rattle.std.specs.Prelude.{◌≡◌, ◌≤◌, ◌⊎◌, ◌==◌, ℕ, List, [], ◌∷◌, map, filter, Bool, not, false, IsTrue}
+use Rattle.std.specs.Prelude.{◌≡◌, ◌≤◌, ◌⊎◌, ◌==◌, ℕ, List, [], ◌∷◌, map, filter, codes, Bool, not, true, false, IsTrue, Result, Ok, Err, IfOk}
 use Rattle.sqlite.specs.State.{HasCleanDisk}
 use Rattle.sqlite.specs.Held.{Held, state}
 use Rattle.sqlite_trees.specs.View.{doubt}
@@ -8,6 +8,9 @@ use Rattle.sqlite.specs.Order.{Row}
 use Rattle.sqlite.specs.Tree.{Trees}
 use Rattle.sqlite.specs.Effect.{Database}
 use Rattle.sqlite.specs.Schema.{Schema}
+use Rattle.sqlite.specs.Listing.{understood}
+use Rattle.sqlite_resolve.specs.declared.compiled.Compiled.{Compiled}
+use Rattle.sqlite_resolve.specs.declared.error.CompileError.{CompileError}
 use Rattle.thes_base.specs.declared.data.Link.{Link}
 use Rattle.thes_base.specs.Links.{link_kind_no}
 use Rattle.thes_rows.specs.declared.rows.HierRow.{HierRow}
@@ -95,6 +98,24 @@ HasVersion version base db = HasKnownSchema db × (db.trees 0 ≡ stored_version
 -- that row as it is read
 abbrev pub version_row : ℕ → List ℕ → Row
 version_row version base = values (number_cell 1 ∷ number_cell version ∷ Text base ∷ [])
+
+-- Whether a query is understood: in a schema that lacks a table or a column that it names it isn't.
+abbrev pub IsUnderstood : Schema → List ℕ → Bool → Type 0
+IsUnderstood schema sql true = (c : Compiled) × (understood schema sql ≡ Ok c)
+IsUnderstood schema sql false = (fault : CompileError) × (understood schema sql ≡ Err fault)
+
+-- The answer is whether a query is understood, and the database is as it was.
+abbrev pub Asks : {S E : Type 0} → Ghosts S → List ℕ → Held S → Held S → Result Bool E → Type 0
+Asks g sql old new r =
+    HasCleanDisk (state g new) → IfOk r (λ there. IsUnderstood (state g old).now.schema sql there
+    × ((state g new).now ≡ (state g old).now))
+
+-- what is asked to learn whether links can be queried, and whether there is a table hier
+abbrev pub links_text : List ℕ
+links_text = codes "SELECT kind, a, b FROM link"
+
+abbrev pub hier_text : List ℕ
+hier_text = codes "SELECT 1 FROM hier"
 
 -- A call that was done left a database of a known schema as it was.
 abbrev pub KeepsKnown : {S : Type 0} → Ghosts S → Held S → Held S → Type 0

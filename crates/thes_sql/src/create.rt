@@ -1,10 +1,10 @@
 //! The making of the tables.
-ghost use Rattle.std.specs.Prelude.{◌≡◌, IfOk, IsTrue};
+ghost use Rattle.std.specs.Prelude.{◌≡◌, ◌∷◌, [], IfOk, IsTrue};
 ghost use Rattle.thes_rows.specs.Tables.{no_rows};
-ghost use Rattle.thes_sql.specs.Schema.{schema_0, store_schema};
+ghost use Rattle.thes_sql.specs.Schema.{schema_0, schema_8, store_schema};
 ghost use Rattle.thes_sql.specs.Stored.{Keeps, Hold};
 ghost use Rattle.thes_sql.specs.Older.{old_schema, IsOldStore, IsEnlarged};
-ghost use Rattle.thes_sql.specs.Does.{IsEmpty, Turns, TurnsEach, DoesInside, StaysInside, IsOwnTransaction};
+ghost use Rattle.thes_sql.specs.Does.{IsEmpty, Turns, TurnsEach, Extends, Tries, DoesInside, StaysInside, IsOwnTransaction};
 ghost use Rattle.sqlite.specs.State.{HasCleanDisk, Survives};
 ghost use Rattle.sqlite.specs.Held.{state};
 
@@ -35,6 +35,44 @@ target INTEGER NOT NULL) STRICT;",
     )
 }
 
+// Makes table hier.
+fn define_hier<S: Alter>(tx: &mut Transaction<'_, S>) -> Result<(), Error>
+    ensures same_reference { tx.new.conn.ghost_name ≡ tx.old.conn.ghost_name }
+    ensures does { DoesInside S.Store (Extends old_schema schema_8 (11 ∷ [])) tx.old.conn tx.new.conn result }
+    ensures stays { StaysInside S.Store tx.old.conn tx.new.conn }
+{
+    tx.execute_batch(
+        "\
+CREATE TABLE hier (a INTEGER NOT NULL, b INTEGER NOT NULL, typ INTEGER NOT NULL, \
+PRIMARY KEY (a, b, typ)) STRICT;",
+    )
+}
+
+// Makes an index, unless the database lacks what it is of.
+fn try_index<S: Alter>(tx: &mut Transaction<'_, S>, sql: &str) -> Result<(), Error>
+    ensures same_reference { tx.new.conn.ghost_name ≡ tx.old.conn.ghost_name }
+    ensures does { DoesInside S.Store (Tries sql.now) tx.old.conn tx.new.conn result }
+    ensures stays { StaysInside S.Store tx.old.conn tx.new.conn }
+{
+    match tx.execute(sql, &[]) {
+        Ok(_) => Ok(()),
+        Err(Error::SqlInputError(_)) => Ok(()),
+        Err(error) => Err(error),
+    }
+}
+
+// Makes the indexes that find the postings at a place and the moves of a posting. Where a store of version 1 lacks posting
+// or move, it goes without.
+fn define_indexes<S: Alter>(tx: &mut Transaction<'_, S>) -> Result<(), Error>
+    ensures same_reference { tx.new.conn.ghost_name ≡ tx.old.conn.ghost_name }
+    ensures does { DoesInside S.Store (Extends schema_8 store_schema []) tx.old.conn tx.new.conn result }
+    ensures stays { StaysInside S.Store tx.old.conn tx.new.conn }
+{
+    try_index(tx, "CREATE INDEX IF NOT EXISTS posting_at ON posting (at)")?;
+    try_index(tx, "CREATE INDEX IF NOT EXISTS move_posting ON move (posting)")?;
+    Ok(())
+}
+
 /// Makes table hier, and the indexes that find the postings at a place and the moves of a posting.
 pub(crate) fn define_newer<S: Alter>(tx: &mut Transaction<'_, S>) -> Result<(), Error>
     ensures same_reference { tx.new.conn.ghost_name ≡ tx.old.conn.ghost_name }
@@ -43,13 +81,9 @@ pub(crate) fn define_newer<S: Alter>(tx: &mut Transaction<'_, S>) -> Result<(), 
     ensures renews { DoesInside S.Store (TurnsEach IsOldStore IsEnlarged) tx.old.conn tx.new.conn result }
     ensures stays { StaysInside S.Store tx.old.conn tx.new.conn }
 {
-    tx.execute_batch(
-        "\
-CREATE TABLE hier (a INTEGER NOT NULL, b INTEGER NOT NULL, typ INTEGER NOT NULL, \
-PRIMARY KEY (a, b, typ)) STRICT;\
-CREATE INDEX IF NOT EXISTS posting_at ON posting (at);\
-CREATE INDEX IF NOT EXISTS move_posting ON move (posting);",
-    )
+    define_hier(tx)?;
+    define_indexes(tx)?;
+    Ok(())
 }
 
 // Adds the row of table meta.

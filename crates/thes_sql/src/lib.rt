@@ -3,6 +3,7 @@
 
 pub mod commit;
 pub mod create;
+pub mod laws;
 pub mod migrate;
 pub mod reads;
 mod values;

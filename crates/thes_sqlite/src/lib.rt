@@ -6,5 +6,6 @@ mod finding;
 mod found;
 mod handing;
 pub mod keeper;
+pub mod laws;
 pub mod migrating;
 mod rows;

@@ -1,35 +1,87 @@
 //! From version 1 of the tables to version 2.
 ghost use Rattle.std.specs.Prelude.{◌≡◌, ◌∷◌, [], ℕ, List, cond, IfOk, IfErr, OnOk, false};
-ghost use Rattle.thes_sql.specs.Older.{HasVersion, version_row, KeepsKnown, LeavesKnown};
-ghost use Rattle.thes_sqlite.specs.Migrated.{IsMigrateFault, Migrates};
+ghost use Rattle.thes_rows.specs.Tables.{Tables};
+ghost use Rattle.thes_sql.specs.Older.{HasVersion, HasKnownSchema, version_row, old_schema, KeepsKnown, LeavesKnown};
+ghost use Rattle.thes_sqlite.specs.Faults.{IsKeeperFault};
+ghost use Rattle.thes_sqlite.specs.Migrated.{IsMigrateFault, IsMetaFault, IsTableFault, IsCause, IsWhole, Migrates};
+ghost use Rattle.thes_sqlite.specs.Versions.{SpellsVersion};
 ghost use Rattle.sqlite.specs.State.{HasCleanDisk};
 ghost use Rattle.sqlite.specs.Held.{state};
 
 use crate::faults::fault_of;
 use crate::found::cells_found;
-use sqlite::{Alter, Connection, Error, Row};
-use sqlite_resolve::CompileError;
+use sqlite::{Alter, Connection, Row};
 use std::alloc::Global;
 use thes_base::fault::{Fault, Table};
-use thes_load::meta::{MetaRow, meta_in};
+use thes_rows::cells::Cell;
 use thes_sql::migrate::migrate_tables;
-use thes_sql::versions::{has_links, version_rows};
+use thes_sql::versions::{has_hier, has_links, has_meta, version_rows};
+
+// A version of the tables: that before this one, this one, or a later one.
+#[derive(Clone, Copy)]
+enum Version {
+    Older,
+    Current,
+    Newer,
+}
+
+// The version in a row of meta, whatever its base is.
+fn version_in(cells: &[Cell]) -> Option<Version>
+    ensures { SpellsVersion cells.now result }
+{
+    let [one, version, _base] = cells else {
+        return None;
+    };
+    let (Cell::Int(one), Cell::Int(version)) = (one, version) else {
+        return None;
+    };
+    if *one != 1 || *version < 1 {
+        return None;
+    }
+    if *version == 1 {
+        return Some(Version::Older);
+    }
+    if *version > 2 {
+        return Some(Version::Newer);
+    }
+    Some(Version::Current)
+}
 
 // Tells whether the rows of meta are those of version 1: the answer is false where they are those of this version.
 fn is_version_1(alloc: Global, rows: &[Row]) -> Result<bool, Fault>
     ensures tells { IfOk result (λ older. (version : ℕ) (base : List ℕ) → rows.now ≡ version_row version base ∷ []
         → version ≡ cond older 1 2) }
     ensures faults { IfErr result IsMigrateFault }
+    ensures causes { IfErr result (IsMetaFault rows.now) }
 {
     let [row] = rows else {
         return Err(Fault::BadStore(Table::Meta));
     };
     let cells = cells_found(alloc, row)?;
-    match meta_in(alloc, cells.as_slice())? {
-        Some(MetaRow::Older) => Ok(true),
-        Some(MetaRow::Base(_)) => Ok(false),
-        Some(MetaRow::Newer) => Err(Fault::NewerStore),
+    match version_in(cells.as_slice()) {
+        Some(Version::Older) => Ok(true),
+        Some(Version::Current) => Ok(false),
+        Some(Version::Newer) => Err(Fault::NewerStore),
         None => Err(Fault::BadStore(Table::Meta)),
+    }
+}
+
+// Makes sure that meta can be queried.
+fn find_meta<S: Alter>(conn: &mut Connection<S>) -> Result<(), Fault>
+    ensures same { OnOk result (HasCleanDisk (state S.Store conn.new)
+        → (state S.Store conn.new).now ≡ (state S.Store conn.old).now) }
+    ensures kept { OnOk result (KeepsKnown S.Store conn.old conn.new) }
+    ensures leaves { LeavesKnown S.Store conn.old conn.new }
+    ensures faults { IfErr result IsMigrateFault }
+    ensures causes { IfErr result (λ fault. HasCleanDisk (state S.Store conn.new)
+        → IsCause S.Store conn.old conn.new fault) }
+    ensures whole { IfErr result (λ fault. HasCleanDisk (state S.Store conn.new)
+        → HasKnownSchema (state S.Store conn.old).now → IsKeeperFault fault) }
+{
+    match has_meta(conn) {
+        Ok(true) => Ok(()),
+        Ok(false) => Err(Fault::BadStore(Table::Meta)),
+        Err(error) => Err(fault_of(error)),
     }
 }
 
@@ -40,10 +92,14 @@ fn is_old<S: Alter>(alloc: Global, conn: &mut Connection<S>) -> Result<bool, Fau
     ensures kept { OnOk result (KeepsKnown S.Store conn.old conn.new) }
     ensures leaves { LeavesKnown S.Store conn.old conn.new }
     ensures faults { IfErr result IsMigrateFault }
+    ensures causes { IfErr result (λ fault. HasCleanDisk (state S.Store conn.new)
+        → IsCause S.Store conn.old conn.new fault) }
+    ensures whole { IfErr result (λ fault. HasCleanDisk (state S.Store conn.new)
+        → (t : Tables) → IsWhole (state S.Store conn.old).now t → IsKeeperFault fault) }
 {
+    find_meta(conn)?;
     match version_rows(conn) {
         Ok(rows) => is_version_1(alloc, rows.as_slice()),
-        Err(Error::SqlInputError(_)) => Err(Fault::BadStore(Table::Meta)),
         Err(error) => Err(fault_of(error)),
     }
 }
@@ -53,6 +109,10 @@ fn find_links<S: Alter>(conn: &mut Connection<S>) -> Result<(), Fault>
     ensures kept { OnOk result (KeepsKnown S.Store conn.old conn.new) }
     ensures leaves { LeavesKnown S.Store conn.old conn.new }
     ensures faults { IfErr result IsMigrateFault }
+    ensures causes { IfErr result (λ fault. HasCleanDisk (state S.Store conn.new)
+        → IsTableFault (state S.Store conn.new).now.schema fault) }
+    ensures whole { IfErr result (λ fault. HasCleanDisk (state S.Store conn.new)
+        → HasKnownSchema (state S.Store conn.old).now → IsKeeperFault fault) }
 {
     match has_links(conn) {
         Ok(true) => Ok(()),
@@ -61,13 +121,20 @@ fn find_links<S: Alter>(conn: &mut Connection<S>) -> Result<(), Fault>
     }
 }
 
-// The fault of an error that ended a migration.
-fn stopped(error: Error) -> Fault
-    ensures { IsMigrateFault result }
+// Makes sure that there is no table hier yet.
+fn miss_hier<S: Alter>(conn: &mut Connection<S>) -> Result<(), Fault>
+    ensures kept { OnOk result (KeepsKnown S.Store conn.old conn.new) }
+    ensures leaves { LeavesKnown S.Store conn.old conn.new }
+    ensures faults { IfErr result IsMigrateFault }
+    ensures causes { IfErr result (λ fault. HasCleanDisk (state S.Store conn.new)
+        → IsTableFault (state S.Store conn.new).now.schema fault) }
+    ensures whole { IfErr result (λ fault. HasCleanDisk (state S.Store conn.new)
+        → (state S.Store conn.old).now.schema ≡ old_schema → IsKeeperFault fault) }
 {
-    match error {
-        Error::SqlInputError(CompileError::Exists) => Fault::BadStore(Table::Hier),
-        error => fault_of(error),
+    match has_hier(conn) {
+        Ok(false) => Ok(()),
+        Ok(true) => Err(Fault::BadStore(Table::Hier)),
+        Err(error) => Err(fault_of(error)),
     }
 }
 
@@ -81,8 +148,9 @@ pub fn migrate<S: Alter>(alloc: Global, conn: &mut Connection<S>) -> Result<u32,
         return Ok(2);
     }
     find_links(conn)?;
+    miss_hier(conn)?;
     match migrate_tables(conn) {
         Ok(_) => Ok(2),
-        Err(error) => Err(stopped(error)),
+        Err(error) => Err(fault_of(error)),
     }
 }

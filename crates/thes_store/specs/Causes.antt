@@ -7,7 +7,7 @@ use Rattle.thes_base.specs.declared.fault.Fault.TheVariants as faults
 abbrev pub most : ℕ
 most = 18446744073709551615
 
--- The count of failures stays, unless the call fails. A fault is want of memory, or of the store: then the count rose, or
+-- The count of failures stays, unless the call fails. A fault is OutOfMemory, or Store: then the count rose, or
 -- stood at its greatest value.
 abbrev pub HasCause : {T : Type 0} → ℕ → ℕ → Result T Fault → Type 0
 HasCause before now (Ok x) = now ≡ before

@@ -21,7 +21,7 @@ use thes_rows::change::Change;
 use thes_rows::delta::Delta;
 use thes_rows::rows::{MoveRow, PostingRow};
 
-/// Keeps its tables in memory. It never fails but for want of memory.
+/// Keeps its tables in memory. It fails only where memory runs out.
 #[derive(Drop)]
 pub struct MemKeeper {
     alloc: Global,

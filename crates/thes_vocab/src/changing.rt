@@ -108,7 +108,7 @@ impl Vocab {
         Ok(())
     }
 
-    /// How many labels the target would take from the source in a merge.
+    /// Counts the labels that the target would take from the source in a merge.
     pub fn taken_count(&self, source: ResNo, target: ResNo) -> u64
         ensures { let taken = taken_labels source target self.now.labels in
             set.len self.now.labels + result ≡ set.len (set.union self.now.labels taken) }

@@ -12,7 +12,7 @@ use thes_base::number::ResNo;
 pub struct Forwarding {
     /// The last of them, or the concept itself where it has none.
     pub place: ResNo,
-    /// How many there are.
+    /// The number of replacements on the way.
     pub steps: u64,
 }
 

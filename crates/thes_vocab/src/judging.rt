@@ -19,7 +19,7 @@ use thes_base::number::ResNo;
 use thes_base::text::{Iri, Tag, Text};
 
 impl Vocab {
-    /// What refuses a new resource, but for limits.
+    /// Judges a new resource, but for limits.
     pub fn judge_new(&self, new: &NewResource) -> Option<Refusal>
         ensures { unless_new self.now new.now accepted result }
     {
@@ -31,7 +31,7 @@ impl Vocab {
         }
     }
 
-    /// What refuses a new concept of the scheme, but for limits.
+    /// Judges a new concept of the scheme, but for limits.
     pub fn judge_concept(&self, scheme: ResNo, tag: &Tag, text: &Text) -> Option<Refusal>
         ensures { unless_new self.now (new_resource.Concept scheme tag.now text.now) accepted result }
     {
@@ -47,7 +47,7 @@ impl Vocab {
         None
     }
 
-    /// What refuses a new collection of the scheme, but for limits.
+    /// Judges a new collection of the scheme, but for limits.
     pub fn judge_collection(&self, scheme: ResNo) -> Option<Refusal>
         ensures { unless_scheme self.now.resources scheme accepted result }
     {
@@ -60,7 +60,7 @@ impl Vocab {
         None
     }
 
-    /// What refuses a new outside concept, but for limits.
+    /// Judges a new outside concept, but for limits.
     pub fn judge_outside(&self, iri: &Iri) -> Option<Refusal>
         ensures { unless_foreign self.now.base self.now.iris iri.now accepted result }
     {
@@ -71,7 +71,7 @@ impl Vocab {
         Some(Refusal::OutsideKnown(known.get()))
     }
 
-    /// What refuses one more label of a live owner, but for limits.
+    /// Judges one more label of a live owner, but for limits.
     pub fn judge_label(&self, owner: ResNo, label: &Label) -> Option<Refusal>
         requires { IsLiveOwner self.now.resources owner }
         ensures { let l = owned owner label.now in
@@ -126,7 +126,7 @@ impl Vocab {
         }
     }
 
-    /// What refuses that a label of a live owner is dropped.
+    /// Judges whether a label of a live owner can be dropped.
     pub fn judge_drop(&self, owner: ResNo, label: &Label) -> Option<Refusal>
         requires { IsLiveOwner self.now.resources owner }
         ensures { unless_dropped self.now.labels (owned owner label.now) accepted result }
@@ -143,7 +143,7 @@ impl Vocab {
         None
     }
 
-    /// What refuses another preferred label of a live owner in the language, but for limits.
+    /// Judges another preferred label of a live owner in the language, but for limits.
     pub fn judge_relabel(&self, owner: ResNo, tag: &Tag, text: &Text, keep: bool) -> Option<Refusal>
         requires { IsLiveOwner self.now.resources owner }
         ensures { let after = labels_relabelled owner tag.now text.now keep self.now.labels in

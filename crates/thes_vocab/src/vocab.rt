@@ -60,7 +60,7 @@ impl Model for Vocab {
 }
 
 impl Vocab {
-    /// A vocabulary without resources.
+    /// Makes a vocabulary without resources.
     pub fn new(alloc: Global, base: Base) -> Vocab
         ensures { result ≡ empty_vocabulary base }
     {
@@ -75,35 +75,35 @@ impl Vocab {
         }
     }
 
-    /// The base, which the IRIs of schemes, concepts and collections begin with.
+    /// Returns the base, which the IRIs of schemes, concepts and collections begin with.
     pub fn base(&self) -> &Base
         ensures { result.now ≡ self.now.base }
     {
         &self.base
     }
 
-    /// The resource with this number.
+    /// Finds the resource with this number.
     pub fn resource(&self, n: ResNo) -> Option<&Resource>
         ensures { option_copied result ≡ numbered self.now.resources n }
     {
         resource_at(self.resources.as_slice(), n)
     }
 
-    /// Whether the number is a live resource's.
+    /// Tells whether the number is a live resource's.
     pub fn is_live(&self, n: ResNo) -> bool
         ensures { IsTrue result ↔ IsLive self.now.resources n }
     {
         self.resource(n).is_some_and(|r| r.live)
     }
 
-    /// The numbers of the scheme's live concepts, rising. Where the number is no scheme's there are none.
+    /// Lists the numbers of the scheme's live concepts, rising. Where the number is no scheme's there are none.
     pub fn live_of(&self, scheme: ResNo) -> &[ResNo]
         ensures { IsListing nat_cmp (IsConceptOf self.now.resources scheme) result.now }
     {
         self.concepts.at(scheme)
     }
 
-    /// How many resources there are.
+    /// Counts the resources.
     pub fn resource_count(&self) -> u64
         ensures count { result ≡ length self.now.resources }
         ensures few { result < 2 ^ 32 }
@@ -111,28 +111,28 @@ impl Vocab {
         self.resources.len() as u64
     }
 
-    /// How many labels there are.
+    /// Counts the labels.
     pub fn label_count(&self) -> u64
         ensures { result ≡ set.len self.now.labels }
     {
         self.labels.len()
     }
 
-    /// The owner's preferred label in the language.
+    /// Finds the owner's preferred label in the language.
     pub fn preferred(&self, owner: ResNo, tag: &Tag) -> Option<&Text>
         ensures { option_copied result ≡ preferred_in self.now.labels owner tag.now }
     {
         self.labels.preferred(owner, tag)
     }
 
-    /// The owner's labels, by kind, language and text.
+    /// Lists the owner's labels, by kind, language and text.
     pub fn labels_of(&self, owner: ResNo) -> &[Label]
         ensures { AreLabelsOf self.now.labels owner result.now }
     {
         self.labels.of_owner(owner)
     }
 
-    /// The live concept of the scheme that has this preferred label.
+    /// Finds the live concept of the scheme that has this preferred label.
     pub fn holder(&self, scheme: ResNo, tag: &Tag, text: &Text) -> Option<ResNo>
         ensures { MatchOption result
             (¬ IsTaken self.now.resources self.now.labels scheme tag.now text.now)
@@ -154,7 +154,7 @@ impl Vocab {
             && self.labels.contains(n, LabelKind::Pref, tag, text.as_str())
     }
 
-    /// The number of the outside concept with this IRI.
+    /// Finds the number of the outside concept with this IRI.
     pub fn outside(&self, iri: &Iri) -> Option<ResNo>
         ensures { MatchOption result
             ((n : ℕ) → ¬ (dict.get self.now.iris n ≡ Some iri.now))
@@ -163,7 +163,7 @@ impl Vocab {
         self.iris.number(iri)
     }
 
-    /// The IRI of an outside concept.
+    /// Finds the IRI of an outside concept.
     pub fn outside_iri(&self, n: ResNo) -> Option<&Iri>
         ensures { option_copied result ≡ dict.get self.now.iris n }
     {

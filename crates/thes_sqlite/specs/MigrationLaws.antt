@@ -1,0 +1,46 @@
+-- The state that a store holds, before a migration and after it.
+use Rattle.std.specs.Prelude.{◌≡◌, ◌⊎◌, ℕ, List, Result, Ok, OnOk}
+use Rattle.sqlite.specs.Tree.{Trees}
+use Rattle.sqlite.specs.Effect.{Database}
+use Rattle.sqlite.specs.State.{HasCleanDisk}
+use Rattle.sqlite.specs.Held.{Held, state}
+use Rattle.sqlite_trees.specs.declared.store.Store.{Ghosts}
+use Rattle.thes_base.specs.declared.fault.Fault.{Fault}
+use Rattle.thes_base.specs.Legal.{Legal}
+use Rattle.thes_base.specs.State.{State}
+use Rattle.thes_rows.specs.Tables.{Tables, IsRowsOf}
+use Rattle.thes_tables.specs.Rules.{state_of}
+use Rattle.thes_tables.specs.Loads.{Loads}
+use Rattle.thes_sql.specs.Stored.{Keeps, Hold}
+use Rattle.thes_sql.specs.Older.{KeepsOld}
+use Rattle.thes_sql.specs.OldRows.{IsOldRowsOf}
+use Rattle.thes_sqlite.specs.Kept.{raw_in}
+use Rattle.thes_sqlite.specs.Migrated.{Migrates}
+
+-- The database is a store of version 1, and its rows are version 1's rows of this state.
+abbrev pub HoldsOldState : List ℕ → State → Database → Type 0
+HoldsOldState base s db = (t : Tables) × KeepsOld db t × IsOldRowsOf base s t
+
+-- The database is a store of version 2, and its rows are version 2's rows of this state.
+abbrev pub HoldsState : List ℕ → State → Database → Type 0
+HoldsState base s db = (t : Tables) × Keeps db t × IsRowsOf base s t
+
+-- So it is with the rows that an open after a crash finds.
+abbrev pub FindsState : List ℕ → State → Trees → Type 0
+FindsState base s db = (t : Tables) × Hold db t × IsRowsOf base s t
+
+-- What a migration makes of a store of version 1 that holds a state.
+pub record MigratesState {S : Type 0} (g : Ghosts S) (base : List ℕ) (s : State) (old new : Held S) (r : Result ℕ Fault)
+    : Type 0 where
+  -- the rows of the same state, committed
+  pub holds : OnOk r (HoldsState base s (state g new).now × HoldsState base s (state g new).committed)
+  -- they load, and it is the state that they tell
+  pub loads : OnOk r (Legal base s → (t : Tables) × Loads (raw_in (state g new).now.trees) (Ok t) × (state_of t ≡ s))
+  -- a crash leaves what it left before, or these rows
+  pub crash : (db : Trees) → (state g new).may_leave db → (state g old).may_leave db ⊎ FindsState base s db
+
+-- Where the rows were version 1's rows of a state, they are after the migration version 2's rows of the same state.
+abbrev pub MigratesStates : {S : Type 0} → Ghosts S → Type 0
+MigratesStates {S} g =
+    (base : List ℕ) (s : State) (old new : Held S) (r : Result ℕ Fault) → Migrates g old new r → HasCleanDisk (state g new)
+    → HoldsOldState base s (state g old).now → MigratesState g base s old new r

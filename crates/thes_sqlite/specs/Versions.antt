@@ -1,0 +1,13 @@
+-- What the cells of a row of meta tell of its version.
+use Rattle.std.specs.Prelude.{◌<◌, ◌≤◌, ℕ, List, Option, None, Some}
+use Rattle.thes_rows.specs.declared.cells.Cell.{Cell}
+use Rattle.thes_sqlite.specs.declared.migrating.Version.{Version}
+use Rattle.thes_sqlite.specs.declared.migrating.Version.TheVariants.{Older, Current, Newer}
+use Rattle.thes_sqlite.specs.Migrated.{IsVersionRow}
+
+-- the cells are those of version 1, of this version or of a newer one; or of none from 1 on
+abbrev pub SpellsVersion : List Cell → Option Version → Type 0
+SpellsVersion cells (Some Older) = IsVersionRow 1 cells
+SpellsVersion cells (Some Current) = IsVersionRow 2 cells
+SpellsVersion cells (Some Newer) = (version : ℕ) × (2 < version) × IsVersionRow version cells
+SpellsVersion cells None = (version : ℕ) → 1 ≤ version → IsVersionRow version cells → ⊥
