@@ -13,8 +13,8 @@ from serving import serving
 MILLION = 1_000_000
 # What a server reads behind an answer ends before this, in bytes and in seconds.
 MOST, SECONDS = 2_000 * MILLION, 20
-# A write waits for 30 seconds at most, and once more where it was taken in part.
-PATIENCE = 90
+# A write waits for 30 seconds at most, and again where it was taken in part, which happens two or three times.
+PATIENCE = 300
 # How much more memory a program may ever have had, in KiB: where no body is to be kept, and where one of 16 MiB is.
 LITTLE, BODY = 2_000, 64_000
 ANNOUNCED = 16_777_216

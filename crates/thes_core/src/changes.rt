@@ -131,10 +131,18 @@ impl Thesaurus {
                 self.changes_made(Resource::new(ResourceKind::Scheme, None), tag, text)
             }
             Command::Concept(scheme, tag, text) => {
-                self.changes_made(Resource::new(ResourceKind::Concept, Some(*scheme)), tag, text)
+                self.changes_made(
+                    Resource::new(ResourceKind::Concept, Some(*scheme)),
+                    tag,
+                    text,
+                )
             }
             Command::Collection(scheme, tag, text) => {
-                self.changes_made(Resource::new(ResourceKind::Collection, Some(*scheme)), tag, text)
+                self.changes_made(
+                    Resource::new(ResourceKind::Collection, Some(*scheme)),
+                    tag,
+                    text,
+                )
             }
             Command::Outside(iri) => self.changes_outside(iri),
             Command::AddLabel(owner, label) => one(

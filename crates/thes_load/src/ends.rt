@@ -54,9 +54,5 @@ pub fn is_fit(resources: &[Resource], link: &Link) -> bool
         return false;
     };
     let form = link.kind.form();
-    form.are_ends(&a, &b)
-        && a.live
-        && b.live
-        && link.a != link.b
-        && form.have_schemes(&a, &b)
+    form.are_ends(&a, &b) && a.live && b.live && link.a != link.b && form.have_schemes(&a, &b)
 }

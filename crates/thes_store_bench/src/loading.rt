@@ -77,10 +77,7 @@ fn hand_labels<S: RowSink>(alloc: Global, size: Size, sink: &mut S) -> Result<()
         let owner = (made / LABELS).saturating_add(1);
         let tag = Cell::Text(CellText::new(alloc, "en")?);
         let label = text(alloc, "Label ", made)?;
-        sink.row(
-            Table::Label,
-            &[int(owner), int(kind.number()), tag, label],
-        )?;
+        sink.row(Table::Label, &[int(owner), int(kind.number()), tag, label])?;
     }
     Ok(())
 }

@@ -34,7 +34,11 @@ impl Vocab {
                 text,
             ),
             NewResource::Concept(scheme, tag, text) => {
-                self.add_named(Resource::new(ResourceKind::Concept, Some(scheme)), tag, text)
+                self.add_named(
+                    Resource::new(ResourceKind::Concept, Some(scheme)),
+                    tag,
+                    text,
+                )
             }
             NewResource::Collection(scheme, tag, text) => {
                 self.add_named(
