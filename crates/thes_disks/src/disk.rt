@@ -52,7 +52,7 @@ fn memory_of(alloc: Global, bytes: &[u8]) -> io::Result<Memory> {
     Ok(memory)
 }
 
-/// The bytes that the two files of a store hold.
+/// What the two files of a store hold.
 #[derive(Drop)]
 pub struct Image {
     log: Vec<u8>,

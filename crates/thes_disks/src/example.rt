@@ -73,7 +73,7 @@ fn lines_answered(answers: &str) -> usize {
     count
 }
 
-/// Lists the requests that were answered otherwise than with a fault, and so many of those behind the last of them.
+/// The requests that were answered otherwise than with a fault, and so many of those behind the last of them.
 pub fn requests_answered(
     alloc: Global,
     requests: &str,
@@ -93,7 +93,7 @@ pub fn requests_answered(
     Ok(kept)
 }
 
-/// Lists the lines that are answers, and no faults.
+/// The lines that are answers, and no faults.
 pub fn answers_in(alloc: Global, answers: &str) -> Result<String, AllocError> {
     let mut kept = String::new(alloc);
     for answer in answers.lines() {
@@ -104,7 +104,7 @@ pub fn answers_in(alloc: Global, answers: &str) -> Result<String, AllocError> {
     Ok(kept)
 }
 
-/// Copies the first so many lines.
+/// The first so many lines.
 pub fn front(alloc: Global, text: &str, lines: usize) -> Result<String, AllocError> {
     let mut kept = String::new(alloc);
     for line in text.split_inclusive('\n').take(lines) {

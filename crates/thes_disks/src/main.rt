@@ -59,9 +59,7 @@ fn run_trial<R: Print>(rt: &R, alloc: Global, name: &str, trial: &Trial) -> io::
         let file = failing.name();
         match last_fate(alloc, trial, failing)? {
             (0..10, Fate::Whole) => println!(rt; "{name}, {file}: too few calls failed")?,
-            (_, Fate::Whole) => println!(rt;
-                "{name}, {file}: each call failed in turn, and nothing answered was lost"
-            )?,
+            (_, Fate::Whole) => println!(rt; "{name}, {file}: nothing answered was lost")?,
             (calls, _) => println!(rt; "{name}, {file}: wrong after {calls} calls")?,
         }
     }
@@ -109,14 +107,12 @@ fn calls_failed(alloc: Global, stored: &Stored, times: u32) -> io::Result<(Strin
 
 // Tries each call of a keeper in memory, failing once and twice.
 fn run_calls<R: Print>(rt: &R, alloc: Global, name: &str, stored: &Stored) -> io::Result<()> {
-    for times in [1, 2] {
+    for (times, often) in [(1, "once"), (2, "twice")] {
         match calls_failed(alloc, stored, times)? {
             (calls, Fate::Whole) => println!(rt;
-                "{name}, each call failed {times} times and answered then:{calls}"
+                "{name}, failed {often}, and then went on:{calls}"
             )?,
-            (calls, _) => println!(rt;
-                "{name}, wrong where a call fails {times} times, behind:{calls}"
-            )?,
+            (calls, _) => println!(rt; "{name}, wrong where a call fails {often}, behind:{calls}")?,
         }
     }
     Ok(())
@@ -126,7 +122,7 @@ fn run_calls<R: Print>(rt: &R, alloc: Global, name: &str, stored: &Stored) -> io
 fn run_migration<R: Print>(rt: &R, alloc: Global, name: &str, example: Example) -> io::Result<()> {
     let migration = Migration::new(alloc, example)?;
     let is_older = migration.is_older(alloc)?;
-    println!(rt; "{name}, a store of version 1: shown as one: {is_older}")?;
+    println!(rt; "{name}, a store of version 1 is shown as one: {is_older}")?;
     run_trial(rt, alloc, name, &Trial::Migration(migration))
 }
 
@@ -137,7 +133,7 @@ fn run_file<R: Print>(rt: &R, alloc: Global, name: &str, text: &str) -> io::Resu
     };
     let stored = Stored::read(alloc, text)?;
     let is_as_stored = is_as_stored(alloc, &stored)?;
-    println!(rt; "{name}, in memory: answered as stored: {is_as_stored}")?;
+    println!(rt; "{name}, in memory, is answered as stored: {is_as_stored}")?;
     run_calls(rt, alloc, name, &stored)?;
     if migrates {
         run_migration(rt, alloc, name, stored.example())

@@ -170,11 +170,11 @@ fn migrate_in(alloc: Global, mut conn: Store) -> (Disks, io::Result<Done>) {
     }
     let answer = migrate(alloc, &mut conn);
     let (files, is_closed) = close(conn);
-    (files, done(answer, is_closed))
+    (files, done_of(answer, is_closed))
 }
 
 // What a migration came to that was answered so, and whose files were closed so.
-fn done(answer: Result<u32, Fault>, is_closed: bool) -> io::Result<Done> {
+fn done_of(answer: Result<u32, Fault>, is_closed: bool) -> io::Result<Done> {
     match answer {
         Ok(2) => Ok(Done {
             is_answered: true,

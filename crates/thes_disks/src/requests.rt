@@ -37,7 +37,7 @@ fn unmade() -> io::Result<Done> {
 }
 
 // What was done in a store that told this, and whose files were closed so.
-fn done(told: io::Result<Told>, is_closed: bool) -> io::Result<Done> {
+fn done_of(told: io::Result<Told>, is_closed: bool) -> io::Result<Done> {
     match told {
         Ok(told) => {
             let is_whole = is_closed && !told.failed;
@@ -62,7 +62,7 @@ fn perform(
     }
     let (conn, told) = perform_in(alloc, conn, example);
     let (files, is_closed) = close(conn);
-    (files, done(told, is_closed))
+    (files, done_of(told, is_closed))
 }
 
 // Makes a store in the files, and performs an example in it. Returns the files as they are then.

@@ -10,8 +10,8 @@ use thes_office::Office;
 use thes_service::FrontDesk;
 use thes_store::keeper::Keeper;
 
-/// The outcome of an example: a line for each request, with its answer or the fault of the store, and the lines that an
-/// import tells: those of a first part, where a fault ends it.
+/// What became of an example: a line for each request, with its answer or the fault of the store, and the lines that an import tells:
+/// those of a first part, where a fault ends it.
 #[derive(Drop)]
 pub struct Told {
     pub answers: String,
@@ -39,7 +39,7 @@ pub fn has_fault(answers: &str) -> bool {
     !answers.lines().all(is_answer)
 }
 
-/// Returns the answers to requests, among which there may be no fault but one of the store.
+/// The answers to requests, among which there may be no fault but one of the store.
 pub fn answers<K: Keeper>(
     alloc: Global,
     desk: &mut FrontDesk<K>,

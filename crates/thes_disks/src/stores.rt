@@ -19,7 +19,7 @@ use thes_sqlite::keeper::SqlKeeper;
 use thes_store::keeper::Keeper;
 use thes_store::mem::MemKeeper;
 
-/// The fate of a store.
+/// What became of a store.
 #[derive(Clone, Copy, Debug, PartialEq, Eq)]
 pub enum Fate {
     /// No call failed, and all is there.
@@ -127,8 +127,8 @@ fn shown_by(alloc: Global, conn: Store) -> io::Result<String> {
     told
 }
 
-/// The rows that a store shows when it is opened again: after a kill, where what was written stands, and after a power
-/// cut, where what was synced does.
+/// What a store shows when it is opened again: after a kill, where what was written stands, and after a power cut, where what was
+/// synced does.
 #[derive(Drop)]
 pub struct After {
     pub kill: String,
@@ -148,14 +148,14 @@ pub fn shown_after(alloc: Global, files: Disks) -> io::Result<After> {
     }
 }
 
-/// The outcome that is wanted of a store: what it tells, and what it shows then.
+/// What is wanted of a store: what it tells, and what it shows then.
 #[derive(Drop)]
 pub struct Expected {
     pub told: Told,
     pub shown: String,
 }
 
-fn expected(told: io::Result<Told>, shown: io::Result<String>) -> io::Result<Expected> {
+fn expected_of(told: io::Result<Told>, shown: io::Result<String>) -> io::Result<Expected> {
     match (told, shown) {
         (Ok(told), Ok(shown)) => Ok(Expected { told, shown }),
         _ => Err(invalid()),
@@ -171,7 +171,7 @@ pub fn wanted(alloc: Global, example: Example) -> io::Result<Expected> {
             let told = run(alloc, &mut desk, example);
             let (keeper, shown) = told_by(alloc, desk.into_office().into_keeper());
             drop(keeper);
-            expected(told, shown)
+            expected_of(told, shown)
         }
         Err((_, keeper)) => {
             drop(keeper);
