@@ -328,10 +328,10 @@ module _ (text : List ℕ) (old new : State) (fault : CompileError) where
         ] in
         elim ran [
           | inl refused ↦ elim refused.0 [
-              | inl misplaced ↦ elim misplaced [ inl a ↦ let k = a.0 in cc | inr b ↦ let k = b.0 in cc ]
-              | inr done ↦ not_made (mode_of old) (subst₂ (λ s t. Does old.step_limit (mode_of old) [] (record old.now { schema = s }) t None (CreateIndex at) (Err (Some (SqlInputError fault)))) has (ap (statement_of text) known)
-                  (rw (bare.0, bare.1, same) at done.1))
-            ]
+            | inl misplaced ↦ elim misplaced [ inl a ↦ let k = a.0 in cc | inr b ↦ let k = b.0 in cc ]
+            | inr done ↦ not_made (mode_of old) (subst₂ (λ s t. Does old.step_limit (mode_of old) [] (record old.now { schema = s }) t None (CreateIndex at) (Err (Some (SqlInputError fault)))) has (ap (statement_of text) known)
+                (rw (bare.0, bare.1, same) at done.1))
+          ]
           | inr fails ↦ no_cause fails.0 fails.1
         ]
 
@@ -375,9 +375,11 @@ module _ (old mid new : State) (first : Extends old_schema schema_8 (11 ∷ []) 
     made = λ empty.
         let one = first.made empty.0 in
         let two = second.made one.0 in
-        let none = still_empty old.now.trees mid.now.trees old_schema.tables one.1 empty.1 in
-        (two.0, still_empty mid.now.trees new.now.trees schema_8.tables two.1
-            (all-append (λ (t : Table). mid.now.trees t.tree ≡ []) old_schema.tables (record hier { tree = 11 } ∷ []) none (one.2.0, tt)));
+        let none = still_empty old.now.trees mid.now.trees old_schema.tables one.1 empty.1 in (
+          two.0,
+          still_empty mid.now.trees new.now.trees schema_8.tables two.1
+              (all-append (λ (t : Table). mid.now.trees t.tree ≡ []) old_schema.tables (record hier { tree = 11 } ∷ []) none (one.2.0, tt)),
+        );
     inside = second.inside;
   }
 
@@ -450,8 +452,8 @@ module _ {S : Type 0} (g : Ghosts S) where
       first_made g new create_hier_text create_hier_text [] (λ db. (db.schema ≡ schema_7) × (db.trees ≡ start)) (HasHier start)
       (length create_hier_text) old refl refl (lit< tt)
       (λ was is count from ran.
-          let m = made_table schema_7 create_hier_text hier create_hier_is refl was is count from.0 ran in
-          (m.0, subst (λ (db : Trees). KeepsRows schema_7.tables db is.now.trees) from.1 m.1, (m.2, tt)))
+      let m = made_table schema_7 create_hier_text hier create_hier_is refl was is count from.0 ran in
+      (m.0, subst (λ (db : Trees). KeepsRows schema_7.tables db is.now.trees) from.1 m.1, (m.2, tt)))
       (has, refl) h (λ mid most was more. subst (λ h. HasHier start (state g h).now) (sym more.1) was)
 
   pub does_hier : (old new : Held S) (r : Result (Unit {0}) Error) → ExecutesAllInside g 0 create_hier_text old new r

@@ -138,7 +138,7 @@ module _ (links : Links) (ls : List Link) where
           (lists_filter {Less = λ l. HeldIn links l × (is_broader l ≡ true)} is_broader ls (λ l h. h) (λ l h e. (h, e)) are).once;
     }
 
--- And back.
+  -- And back.
 
   module _ (link : Lists (IsLinkOf links) plain) (hier : Lists (IsHierOf links) moved) where
     -- a held link stands in table link, and if it is hierarchical, it is of kind broader

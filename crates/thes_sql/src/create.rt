@@ -69,7 +69,10 @@ fn define_indexes<S: Alter>(tx: &mut Transaction<'_, S>) -> Result<(), Error>
     ensures stays { StaysInside S.Store tx.old.conn tx.new.conn }
 {
     try_index(tx, "CREATE INDEX IF NOT EXISTS posting_at ON posting (at)")?;
-    try_index(tx, "CREATE INDEX IF NOT EXISTS move_posting ON move (posting)")?;
+    try_index(
+        tx,
+        "CREATE INDEX IF NOT EXISTS move_posting ON move (posting)",
+    )?;
     Ok(())
 }
 

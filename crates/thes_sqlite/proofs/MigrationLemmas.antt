@@ -49,8 +49,13 @@ module _ (rows : List Row) (version : ℕ) (base : List ℕ) (is : rows ≡ vers
       elim right [ inl one ↦ omega (arith, same, above, one) | inr two ↦ omega (arith, same, above, two) ]
 
   is_known : IsMetaFault rows (faults.BadStore table.Meta) → ⊥
-  is_known h = h (version_row version base, is, version, elim right [ inl one ↦ omega (arith, one) | inr two ↦ omega (arith, two) ],
-      (cell_of (values.Text base), refl))
+  is_known h = h (
+    version_row version base,
+    is,
+    version,
+    elim right [ inl one ↦ omega (arith, one) | inr two ↦ omega (arith, two) ],
+    (cell_of (values.Text base), refl),
+  )
 
   pub whole_meta : (fault : Fault) → IsMetaFault rows fault → IsKeeperFault fault
   whole_meta faults.OutOfMemory h = inl refl
@@ -123,7 +128,7 @@ module _ {S : Type 0} (g : Ghosts S) (old mid new : Held S) where
     same = λ known clean still_open settled.
         let here = keeps known (clean_before second.clean clean) in
         let there = second.same (known_on keeps known (clean_before second.clean clean)) clean still_open
-            (here.0 ∙ settled ∙ sym here.1) in
+        (here.0 ∙ settled ∙ sym here.1) in
         (there.0 ∙ here.0, there.1 ∙ here.1);
     crash = λ known clean db leave. first.crash known (clean_before second.clean clean) db
         (second.crash (known_on keeps known (clean_before second.clean clean)) clean db leave);
