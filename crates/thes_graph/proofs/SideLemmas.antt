@@ -1,5 +1,5 @@
 -- Where links lead from a node, and the parts of its row.
-use Rattle.std.proofs.Common.{◌≡◌, ◌≢◌, ◌⊎◌, inl, inr, ◌==◌, ◌<◌, ◌≤◌, ℕ, List, true, false, length, get_or, Less, Equal, Greater, Option, Some, None, slice_get, if◌then◌else◌, refl, sym, ap, subst, ◌∙◌, arith}
+use Rattle.std.proofs.Common.{◌≡◌, ◌≢◌, ◌⊎◌, inl, inr, ◌==◌, ◌-◌, ◌<◌, ◌≤◌, ℕ, Bool, List, true, false, length, get_or, Less, Equal, Greater, Option, Some, None, slice_get, if◌then◌else◌, refl, sym, ap, subst, ◌∙◌, arith}
 use Rattle.std.specs.Prelude.{option_map}
 use Rattle.std.specs.List.Sorted.{IsNonDecreasingBy, IsPartitionedBy, IsPartitionPoint}
 use Rattle.std.proofs.lemmas.List.Sorted.{IsPartitionedBy-ltb, IsPartitionedBy-leb}
@@ -24,7 +24,7 @@ use Rattle.thes_graph.specs.declared.side.Side.{Side}
 use Rattle.thes_graph.specs.declared.side.Side.TheVariants.{Up, Beside, Alike, Down, Apart}
 use Rattle.thes_graph.specs.declared.side.Standing.{Standing}
 use Rattle.thes_graph.specs.declared.side.Part.{Part}
-use Rattle.thes_graph.specs.Side.{side_no, side_by, side_at, standing_cmp, IsPart, IsWalked, side_in}
+use Rattle.thes_graph.specs.Side.{side_no, side_by, side_at, standing_cmp, IsPart, IsPlaceOf, IsWalked, side_in}
 use Rattle.thes_graph.specs.Reading.{HaveTwoEnds, IsRow}
 use Rattle.thes_graph.specs.Steps.{turned, way_of, Steps}
 use Rattle.thes_graph.specs.Net.{standings_at, links_at}
@@ -56,6 +56,25 @@ sides_rise links n i j d lt within = go (same_or_less i j lt)
     go (inr below) =
         lower_side (number_of (get_or (standings_at links n) i d)) (number_of (get_or (standings_at links n) j d)) _
         (Less-from_sorted standing_cmp (standings_at links n) i j d (standings_sorted links n) below within)
+
+-- where the first link of a parted row fails the test, all do
+pub none_pass : (p : Standing → Bool) (row : List Standing) (first : Standing) → slice_get row 0 ≡ Some first → p first ≡ false → IsPlaceOf p row 0
+none_pass p row first is off parted = (
+  λ k d _ lt. absurd (omega arith),
+  λ k d _ lt. false_from_ne_true (p (get_or row k d)) (λ on. both (ap p (get_or_from_slice_get row 0 first d is) ∙ off) (parted 0 k d (omega arith) lt on)),
+)
+  where
+    both : {b : Bool} → b ≡ false → b ≡ true → ⊥
+    both off on = cc
+
+-- where the last one passes it, all do
+pub all_pass : (p : Standing → Bool) (row : List Standing) (last : Standing) → slice_get row (length row - 1) ≡ Some last → p last ≡ true
+    → IsPlaceOf p row (length row)
+all_pass p row last is on parted =
+    let within : length row - 1 < length row = slice_get_within row (length row - 1) last is in (
+      λ k d _ lt. parted k (length row - 1) d (omega arith) within (ap p (get_or_from_slice_get row (length row - 1) last d is) ∙ on),
+      λ k d le lt. absurd (omega arith),
+    )
 
 same_side : (j k : Side) → side_no j ≡ side_no k → j ≡ k
 same_side Up Up e = refl

@@ -159,17 +159,18 @@ module _ (held : Links) (relation : Relation) where
       Steps-merged_held x y (m, (l, has, is), leads) =
           let back = lead_back (way_of relation l.kind) l.a l.b x y (led_same x y l m is leads) in (back.0, back.1, back.2, (l, has, back.3))
 
-      -- where no end leads on, nor the source's, none does after the merge
-      pub Steps-merged_none : (x : ℕ) → ((z : ℕ) → Steps relation (HeldIn held) x z → ⊥) → ((z : ℕ) → Steps relation (HeldIn held) source z → ⊥)
+      -- where no link leads on, nor one at the source if this is the target, none does after the merge
+      pub Steps-merged_none : (x : ℕ) → ((z : ℕ) → Steps relation (HeldIn held) x z → ⊥)
+          → (x ≡ target → (z : ℕ) → Steps relation (HeldIn held) source z → ⊥)
           → (y : ℕ) → Steps relation (WouldBe (Merged source target) held) x y → ⊥
       Steps-merged_none x none also y steps =
           let back = Steps-merged_held x y steps in
           elim (at_cases back.0) [
-            | inl at ↦ also back.1 (subst (λ (w : ℕ). Steps relation (HeldIn held) w back.1) at back.3)
+            | inl (at, sent) ↦ also (sym back.2 ∙ sent) back.1 (subst (λ (w : ℕ). Steps relation (HeldIn held) w back.1) at back.3)
             | inr at ↦ none back.1 (subst (λ (w : ℕ). Steps relation (HeldIn held) w back.1) (sym at ∙ back.2) back.3)
           ]
         where
-          at_cases : (n : ℕ) → (n ≡ source) ⊎ (node_after (Merged source target) n ≡ n)
+          at_cases : (n : ℕ) → ((n ≡ source) × (node_after (Merged source target) n ≡ target)) ⊎ (node_after (Merged source target) n ≡ n)
           at_cases n = grind arith
 
       pub Steps-merged : (x y : ℕ) → Steps relation (WouldBe (Merged source target) held) x y

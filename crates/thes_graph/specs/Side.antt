@@ -1,8 +1,9 @@
 -- Where a link leads from one of its ends, and the order of a node's links by it.
-use Rattle.std.specs.Prelude.{◌==◌, ℕ, Bool, List, Some, slice_get, if◌then◌else◌}
+use Rattle.std.specs.Prelude.{◌==◌, ℕ, Bool, true, false, List, Some, slice_get, if◌then◌else◌}
 use Rattle.std.specs.Prelude.{◌≡◌, ◌<◌, ◌≤◌, length}
 use Rattle.std.specs.declared.cmp.Ordering.{Ordering}
 use Rattle.std.specs.Ordering.{nat_cmp, ordering_then}
+use Rattle.std.specs.List.Sorted.{IsPartitionedBy, IsPartitionPoint}
 use Rattle.thes_base.specs.declared.data.Link.{Link}
 use Rattle.thes_base.specs.declared.data.Direction.{Direction}
 use Rattle.thes_base.specs.declared.data.Direction.TheVariants.{Forward, Backward, Either}
@@ -60,3 +61,7 @@ side_in relation.Narrower = Down
 side_in relation.Related = Beside
 side_in relation.Exact = Alike
 side_in relation.Apart = Apart
+
+-- where the links of a row are parted by the test, so many of them pass it: those at the front
+abbrev pub IsPlaceOf : (Standing → Bool) → List Standing → ℕ → Type 0
+IsPlaceOf p row n = IsPartitionedBy p row → IsPartitionPoint (λ s. p s ≡ true) (λ s. p s ≡ false) row n

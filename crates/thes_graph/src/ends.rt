@@ -43,8 +43,8 @@ pub fn is_end_after<L: Links>(links: &L, sight: &Sight, x: ResNo, relation: Rela
                 None => end,
             }
         }
-        Sight::Merged(source, _) => {
-            if !is_end(links, *source, relation) {
+        Sight::Merged(source, target) => {
+            if x == *target && !is_end(links, *source, relation) {
                 return false;
             }
             is_end(links, x, relation)

@@ -18,7 +18,7 @@ use crate::linked::{Linked, list_in, way_to};
 use crate::links::Links;
 use crate::mapped::{as_seen, as_typed, list_mapping};
 use crate::relation::lead;
-use crate::side::{Part, Side, Standing, is_before, is_until, standing_of};
+use crate::side::{Part, Side, Standing, count_before, count_until, standing_of};
 use crate::sight::merge;
 use crate::whole::check_all;
 use std::alloc::{AllocError, Global};
@@ -110,8 +110,8 @@ impl Graph {
     {
         let number = side.number();
         let row = self.at(n);
-        let from = row.partition_point(|standing| is_before(standing, number));
-        let to = row.partition_point(|standing| is_until(standing, number));
+        let from = count_before(row, number);
+        let to = count_until(row, number);
         Part { from, to }
     }
 

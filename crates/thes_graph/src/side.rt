@@ -1,7 +1,7 @@
 //! Where a link leads from one of its ends, by which the links of a node are kept apart.
-ghost use Rattle.std.specs.Prelude.{◌≡◌, ◌-◌};
+ghost use Rattle.std.specs.Prelude.{◌≡◌, ◌-◌, ◌≤◌, length};
 ghost use Rattle.std.proofs.Math.Dec.{ltb, leb};
-ghost use Rattle.thes_graph.specs.Side.{side_no, side_in, side_at, standing_at};
+ghost use Rattle.thes_graph.specs.Side.{side_no, side_in, side_at, standing_at, IsPlaceOf};
 
 use crate::relation::{Relation, way};
 use thes_base::data::{Direction, Link, LinkKind};
@@ -88,18 +88,44 @@ pub fn side_of(link: &Link, n: ResNo) -> Side
     }
 }
 
-/// Tells whether the link stands on an earlier side than that of this number.
-pub fn is_before(standing: &Standing, number: u8) -> bool
+// Whether the link stands on an earlier side than that of this number.
+fn is_before(standing: &Standing, number: u8) -> bool
     ensures { result ≡ ltb (side_no standing.now.side) number }
 {
     standing.side.number() < number
 }
 
-/// Tells whether the link stands on no later side than that of this number.
-pub fn is_until(standing: &Standing, number: u8) -> bool
+// Whether the link stands on no later side than that of this number.
+fn is_until(standing: &Standing, number: u8) -> bool
     ensures { result ≡ leb (side_no standing.now.side) number }
 {
     standing.side.number() <= number
+}
+
+/// Counts the links of a node that stand on an earlier side than that of this number.
+pub fn count_before(row: &[Standing], number: u8) -> usize
+    ensures bound { result ≤ length row.now }
+    ensures place { IsPlaceOf (λ s. ltb (side_no s.side) number) row.now result }
+{
+    match row.first() {
+        Some(first) if is_before(first, number) => {
+            row.partition_point(|standing| is_before(standing, number))
+        }
+        _ => 0,
+    }
+}
+
+/// Counts those that stand on no later side than that.
+pub fn count_until(row: &[Standing], number: u8) -> usize
+    ensures bound { result ≤ length row.now }
+    ensures place { IsPlaceOf (λ s. leb (side_no s.side) number) row.now result }
+{
+    match row.last() {
+        Some(last) if !is_until(last, number) => {
+            row.partition_point(|standing| is_until(standing, number))
+        }
+        _ => row.len(),
+    }
 }
 
 /// Makes of the link what stands at the node.
