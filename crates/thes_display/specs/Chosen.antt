@@ -20,8 +20,8 @@ IsLabelTerm labels n kind tag t = (t.concept ≡ n) × HasLabel labels n kind ta
 
 -- m is on this side of n
 abbrev pub IsBeside : Links → Side → ℕ → ℕ → Type 0
-IsBeside links Broader n m = HasBroader links n m
-IsBeside links Narrower n m = HasBroader links m n
+IsBeside links Broader n = HasBroader links n
+IsBeside links Narrower n = λ m. HasBroader links m n
 
 -- m is on this side of n by a link of this kind
 abbrev pub IsLinked : Links → Side → LinkKind → ℕ → ℕ → Type 0

@@ -17,6 +17,7 @@ use Rattle.thes_base.specs.Resources.{IsScheme, IsConcept, IsCollection, IsLiveC
 use Rattle.thes_base.specs.Triples.{Triple, Node, Class, Literal, True, triple, iri_of}
 use Rattle.thes_base.specs.Views.{HasLink, HasBroader}
 use Rattle.thes_core.specs.Kept.{Kept}
+use Rattle.thes_export.specs.declared.about.About.{About}
 use Rattle.thes_export.specs.declared.topic.Topic.{Topic}
 use Rattle.thes_export.specs.declared.topic.Topic.TheVariants.{Kind, Belonging, Top, Death, Replacement, Labels, Broader, Narrower, Related, Mappings, Memberships}
 use Rattle.thes_export.specs.Spelling.{line_of}
@@ -131,3 +132,7 @@ class_in kinds.Outside = None
 -- the triples of the numbers up to this one
 abbrev pub IsUpTo : Kept → ℕ → Triple → Type 0
 IsUpTo core most t = (n : ℕ) × (1 ≤ n) × (n ≤ most) × IsAbout core n t
+
+-- the new list has the lines of the old one, and those of a topic of this resource
+abbrev pub AddsAbout : About → Topic → List (List ℕ) → List (List ℕ) → Type 0
+AddsAbout about topic old new = Adds (IsLineOf (IsOf about.core.now topic about.n)) old new

@@ -7,6 +7,7 @@ ghost use Rattle.thes_core.specs.Kept.{Holds};
 ghost use Rattle.thes_export.specs.Export.{IsExport, bytes_cmp};
 ghost use Rattle.thes_export.specs.Topics.{Adds, IsAbout, IsLineOf, IsUpTo};
 
+use crate::about::About;
 use crate::line::Line;
 use crate::topic::push_about;
 use std::alloc::{AllocError, Global};
@@ -22,7 +23,13 @@ fn push_at(alloc: Global, core: &Core, lines: &mut Vec<Line>, i: usize) -> Resul
 {
     let resources = core.resources();
     let n = ResNo::new(i as u32 + 1);
-    push_about(alloc, core, lines, n, &resources[i])?;
+    let about = About {
+        alloc,
+        core,
+        n,
+        resource: &resources[i],
+    };
+    push_about(&about, lines)?;
     Ok(())
 }
 

@@ -1,6 +1,7 @@
 //! The triples of a thesaurus as a text of N-Triples.
 #![tactic(auto)]
 
+pub mod about;
 pub mod gather;
 pub mod laws;
 pub mod line;

@@ -1,16 +1,16 @@
 //! Lines of what a resource is, and of its labels.
-ghost use Rattle.std.specs.Prelude.{◌≡◌, ◌&&◌, false, not, IfOk, OnOk, Some};
-ghost use Rattle.thes_base.specs.Resources.{is_concept_kind, numbered};
-ghost use Rattle.thes_export.specs.Topics.{Adds, IsLineOf, IsOf, IsTopScheme, class_in};
+ghost use Rattle.std.specs.Prelude.{◌≡◌, ◌&&◌, not, IfOk, OnOk};
+ghost use Rattle.thes_base.specs.Resources.{is_concept_kind};
+ghost use Rattle.thes_export.specs.Topics.{AddsAbout, IsTopScheme, class_in};
 
+use crate::about::About;
 use crate::line::Line;
 use crate::pushed::{push_line, push_node};
 use crate::topic::Topic;
-use std::alloc::{AllocError, Global};
+use std::alloc::AllocError;
 use thes_base::data::{Resource, ResourceKind};
 use thes_base::number::ResNo;
 use thes_base::triple::{Class, Property};
-use thes_core::Core;
 
 // The class of a resource. An outside concept is not ours to describe.
 fn class_of(resource: &Resource) -> Option<Class>
@@ -62,145 +62,86 @@ fn is_dead_concept(resource: &Resource) -> bool
     is_concept(resource) && !resource.live
 }
 
-pub(crate) fn push_kind(
-    alloc: Global,
-    core: &Core,
-    lines: &mut Vec<Line>,
-    n: ResNo,
-    resource: &Resource,
-) -> Result<(), AllocError>
-    requires unspent { core.now.spent ≡ false }
-    requires found { numbered core.now.resources n ≡ Some resource.now }
-    ensures { let is_of = IsOf core.now Topic.Kind n in
-        OnOk result (Adds (IsLineOf is_of) lines.old.items lines.new.items) }
+pub(crate) fn push_kind(about: &About, lines: &mut Vec<Line>) -> Result<(), AllocError>
+    ensures { OnOk result (AddsAbout about.now Topic.Kind lines.old.items lines.new.items) }
 {
-    match class_of(resource) {
+    match class_of(about.resource) {
         None => Ok(()),
         Some(class) => {
-            let line = Line::of_class(alloc, core, n, class)?;
+            let line = Line::of_class(about.alloc, about.core, about.n, class)?;
             push_line(lines, line)?;
             Ok(())
         }
     }
 }
 
-pub(crate) fn push_belonging(
-    alloc: Global,
-    core: &Core,
-    lines: &mut Vec<Line>,
-    n: ResNo,
-    resource: &Resource,
-) -> Result<(), AllocError>
-    requires unspent { core.now.spent ≡ false }
-    requires found { numbered core.now.resources n ≡ Some resource.now }
-    ensures { let is_of = IsOf core.now Topic.Belonging n in
-        OnOk result (Adds (IsLineOf is_of) lines.old.items lines.new.items) }
+pub(crate) fn push_belonging(about: &About, lines: &mut Vec<Line>) -> Result<(), AllocError>
+    ensures { OnOk result (AddsAbout about.now Topic.Belonging lines.old.items lines.new.items) }
 {
-    match scheme_in(resource) {
+    match scheme_in(about.resource) {
         None => Ok(()),
         Some(scheme) => {
-            push_node(alloc, core, lines, n, Property::InScheme, scheme)?;
+            push_node(about, lines, about.n, Property::InScheme, scheme)?;
             Ok(())
         }
     }
 }
 
 // The scheme of which it is a top concept.
-fn top_of(
-    alloc: Global,
-    core: &Core,
-    n: ResNo,
-    resource: &Resource,
-) -> Result<Option<ResNo>, AllocError>
-    requires unspent { core.now.spent ≡ false }
-    requires found { numbered core.now.resources n ≡ Some resource.now }
-    ensures { IfOk result (IsTopScheme core.now n) }
+fn top_of(about: &About) -> Result<Option<ResNo>, AllocError>
+    ensures { IfOk result (IsTopScheme about.now.core.now about.now.n) }
 {
-    if !is_live_concept(resource) {
+    if !is_live_concept(about.resource) {
         return Ok(None);
     }
-    let broader = core.broader_of(alloc, n)?;
+    let broader = about.core.broader_of(about.alloc, about.n)?;
     if !broader.as_slice().is_empty() {
         return Ok(None);
     }
-    Ok(scheme_in(resource))
+    Ok(scheme_in(about.resource))
 }
 
-pub(crate) fn push_top(
-    alloc: Global,
-    core: &Core,
-    lines: &mut Vec<Line>,
-    n: ResNo,
-    resource: &Resource,
-) -> Result<(), AllocError>
-    requires unspent { core.now.spent ≡ false }
-    requires found { numbered core.now.resources n ≡ Some resource.now }
-    ensures { let is_of = IsOf core.now Topic.Top n in
-        OnOk result (Adds (IsLineOf is_of) lines.old.items lines.new.items) }
+pub(crate) fn push_top(about: &About, lines: &mut Vec<Line>) -> Result<(), AllocError>
+    ensures { OnOk result (AddsAbout about.now Topic.Top lines.old.items lines.new.items) }
 {
-    match top_of(alloc, core, n, resource)? {
+    match top_of(about)? {
         None => Ok(()),
         Some(scheme) => {
-            push_node(alloc, core, lines, n, Property::TopConceptOf, scheme)?;
-            push_node(alloc, core, lines, scheme, Property::HasTopConcept, n)?;
+            push_node(about, lines, about.n, Property::TopConceptOf, scheme)?;
+            push_node(about, lines, scheme, Property::HasTopConcept, about.n)?;
             Ok(())
         }
     }
 }
 
-pub(crate) fn push_death(
-    alloc: Global,
-    core: &Core,
-    lines: &mut Vec<Line>,
-    n: ResNo,
-    resource: &Resource,
-) -> Result<(), AllocError>
-    requires unspent { core.now.spent ≡ false }
-    requires found { numbered core.now.resources n ≡ Some resource.now }
-    ensures { let is_of = IsOf core.now Topic.Death n in
-        OnOk result (Adds (IsLineOf is_of) lines.old.items lines.new.items) }
+pub(crate) fn push_death(about: &About, lines: &mut Vec<Line>) -> Result<(), AllocError>
+    ensures { OnOk result (AddsAbout about.now Topic.Death lines.old.items lines.new.items) }
 {
-    if !is_dead_concept(resource) {
+    if !is_dead_concept(about.resource) {
         return Ok(());
     }
-    let line = Line::of_dead(alloc, core, n)?;
+    let line = Line::of_dead(about.alloc, about.core, about.n)?;
     push_line(lines, line)?;
     Ok(())
 }
 
-pub(crate) fn push_replacement(
-    alloc: Global,
-    core: &Core,
-    lines: &mut Vec<Line>,
-    n: ResNo,
-    resource: &Resource,
-) -> Result<(), AllocError>
-    requires unspent { core.now.spent ≡ false }
-    requires found { numbered core.now.resources n ≡ Some resource.now }
-    ensures { let is_of = IsOf core.now Topic.Replacement n in
-        OnOk result (Adds (IsLineOf is_of) lines.old.items lines.new.items) }
+pub(crate) fn push_replacement(about: &About, lines: &mut Vec<Line>) -> Result<(), AllocError>
+    ensures { OnOk result (AddsAbout about.now Topic.Replacement lines.old.items lines.new.items) }
 {
-    match replacement_in(resource) {
+    match replacement_in(about.resource) {
         None => Ok(()),
         Some(other) => {
-            push_node(alloc, core, lines, n, Property::IsReplacedBy, other)?;
+            push_node(about, lines, about.n, Property::IsReplacedBy, other)?;
             Ok(())
         }
     }
 }
 
-pub(crate) fn push_labels(
-    alloc: Global,
-    core: &Core,
-    lines: &mut Vec<Line>,
-    n: ResNo,
-) -> Result<(), AllocError>
-    requires { core.now.spent ≡ false }
-    ensures { let is_of = IsOf core.now Topic.Labels n in
-        OnOk result (Adds (IsLineOf is_of) lines.old.items lines.new.items) }
+pub(crate) fn push_labels(about: &About, lines: &mut Vec<Line>) -> Result<(), AllocError>
+    ensures { OnOk result (AddsAbout about.now Topic.Labels lines.old.items lines.new.items) }
 {
-    for label in core.labels_of(n) {
-        let line = Line::of_label(alloc, core, n, label)?;
+    for label in about.core.labels_of(about.n) {
+        let line = Line::of_label(about.alloc, about.core, about.n, label)?;
         push_line(lines, line)?;
     }
     Ok(())

@@ -1,15 +1,12 @@
 //! What lines are written of each resource, topic by topic.
-ghost use Rattle.std.specs.Prelude.{◌≡◌, false, OnOk, Some};
-ghost use Rattle.thes_base.specs.Resources.{numbered};
-ghost use Rattle.thes_export.specs.Topics.{Adds, IsAbout, IsLineOf, IsOf, topics};
+ghost use Rattle.std.specs.Prelude.{◌≡◌, OnOk};
+ghost use Rattle.thes_export.specs.Topics.{Adds, AddsAbout, IsAbout, IsLineOf, topics};
 
+use crate::about::About;
 use crate::line::Line;
 use crate::linked::{push_broader, push_mappings, push_memberships, push_narrower, push_related};
 use crate::said::{push_belonging, push_death, push_kind, push_labels, push_replacement, push_top};
-use std::alloc::{AllocError, Global};
-use thes_base::data::Resource;
-use thes_base::number::ResNo;
-use thes_core::Core;
+use std::alloc::AllocError;
 
 /// A topic: something that may be said of a resource.
 #[derive(Clone, Copy, Debug, PartialEq, Eq)]
@@ -60,50 +57,32 @@ impl Topic {
 }
 
 // Adds the lines of a topic.
-fn push_topic(
-    alloc: Global,
-    core: &Core,
-    lines: &mut Vec<Line>,
-    n: ResNo,
-    resource: &Resource,
-    topic: Topic,
-) -> Result<(), AllocError>
-    requires unspent { core.now.spent ≡ false }
-    requires found { numbered core.now.resources n ≡ Some resource.now }
-    ensures { let is_of = IsOf core.now topic n in
-        OnOk result (Adds (IsLineOf is_of) lines.old.items lines.new.items) }
+fn push_topic(about: &About, lines: &mut Vec<Line>, topic: Topic) -> Result<(), AllocError>
+    ensures { OnOk result (AddsAbout about.now topic lines.old.items lines.new.items) }
 {
     match topic {
-        Topic::Kind => push_kind(alloc, core, lines, n, resource),
-        Topic::Belonging => push_belonging(alloc, core, lines, n, resource),
-        Topic::Top => push_top(alloc, core, lines, n, resource),
-        Topic::Death => push_death(alloc, core, lines, n, resource),
-        Topic::Replacement => push_replacement(alloc, core, lines, n, resource),
-        Topic::Labels => push_labels(alloc, core, lines, n),
-        Topic::Broader => push_broader(alloc, core, lines, n),
-        Topic::Narrower => push_narrower(alloc, core, lines, n),
-        Topic::Related => push_related(alloc, core, lines, n),
-        Topic::Mappings => push_mappings(alloc, core, lines, n, resource),
-        Topic::Memberships => push_memberships(alloc, core, lines, n),
+        Topic::Kind => push_kind(about, lines),
+        Topic::Belonging => push_belonging(about, lines),
+        Topic::Top => push_top(about, lines),
+        Topic::Death => push_death(about, lines),
+        Topic::Replacement => push_replacement(about, lines),
+        Topic::Labels => push_labels(about, lines),
+        Topic::Broader => push_broader(about, lines),
+        Topic::Narrower => push_narrower(about, lines),
+        Topic::Related => push_related(about, lines),
+        Topic::Mappings => push_mappings(about, lines),
+        Topic::Memberships => push_memberships(about, lines),
     }
 }
 
 /// Adds all lines of a resource.
-pub fn push_about(
-    alloc: Global,
-    core: &Core,
-    lines: &mut Vec<Line>,
-    n: ResNo,
-    resource: &Resource,
-) -> Result<(), AllocError>
-    requires unspent { core.now.spent ≡ false }
-    requires found { numbered core.now.resources n ≡ Some resource.now }
-    ensures { let is_about = IsAbout core.now n in
+pub fn push_about(about: &About, lines: &mut Vec<Line>) -> Result<(), AllocError>
+    ensures { let is_about = IsAbout about.now.core.now about.now.n in
         OnOk result (Adds (IsLineOf is_about) lines.old.items lines.new.items) }
 {
     let topics = Topic::all();
     for topic in &topics {
-        push_topic(alloc, core, lines, n, resource, *topic)?;
+        push_topic(about, lines, *topic)?;
     }
     Ok(())
 }

@@ -4,4 +4,4 @@ use Rattle.thes_export.proofs.AddedLemmas.{OfSome}
 use Rattle.thes_export.proofs.linked.push_mappings.Given as goal
 
 abbrev pub invariant-loop-kind : goal.invariant-loop-kind
-invariant-loop-kind l = Adds (IsLineOf (OfSome (MapsOne l.core l.n) (take l.kind-index l.kind-items))) l.fn.lines.items l.lines.items
+invariant-loop-kind l = Adds (IsLineOf (OfSome (MapsOne l.about.core.now l.about.n) (take l.kind-index l.kind-items))) l.fn.lines.items l.lines.items

@@ -5,4 +5,4 @@ use Rattle.thes_export.proofs.AddedLemmas.{OfSome}
 use Rattle.thes_export.proofs.linked.push_memberships.Given as goal
 
 abbrev pub invariant-loop-collection : goal.invariant-loop-collection
-invariant-loop-collection l = Adds (IsLineOf (OfSome (λ (k : ℕ). IsNode l.core k property.Member l.n) (take l.collection-index l.collection-items))) l.fn.lines.items l.lines.items
+invariant-loop-collection l = Adds (IsLineOf (OfSome (λ (k : ℕ). IsNode l.about.core.now k property.Member l.about.n) (take l.collection-index l.collection-items))) l.fn.lines.items l.lines.items

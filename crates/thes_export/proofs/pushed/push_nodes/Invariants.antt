@@ -4,4 +4,4 @@ use Rattle.thes_export.proofs.AddedLemmas.{OfSome}
 use Rattle.thes_export.proofs.pushed.push_nodes.Given as goal
 
 abbrev pub invariant-loop-object : goal.invariant-loop-object
-invariant-loop-object l = Adds (IsLineOf (OfSome (λ (m : ℕ). IsNode l.core l.n l.property m) (take l.object-index l.objects))) l.fn.lines.items l.lines.items
+invariant-loop-object l = Adds (IsLineOf (OfSome (λ (m : ℕ). IsNode l.about.core.now l.about.n l.property m) (take l.object-index l.objects))) l.fn.lines.items l.lines.items

@@ -6,4 +6,4 @@ use Rattle.thes_export.proofs.AddedLemmas.{OfSome}
 use Rattle.thes_export.proofs.said.push_labels.Given as goal
 
 abbrev pub invariant-loop-label : goal.invariant-loop-label
-invariant-loop-label l = Adds (IsLineOf (OfSome (λ (d : LabelData) (t : Triple). t ≡ label_triple l.core l.n d) (take l.label-index l.label-items))) l.fn.lines.items l.lines.items
+invariant-loop-label l = Adds (IsLineOf (OfSome (λ (d : LabelData) (t : Triple). t ≡ label_triple l.about.core.now l.about.n d) (take l.label-index l.label-items))) l.fn.lines.items l.lines.items
