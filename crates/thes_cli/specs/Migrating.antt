@@ -10,7 +10,9 @@ use Rattle.thes_rows.specs.Tables.{no_rows}
 use Rattle.thes_sql.specs.Does.{IsEmpty}
 use Rattle.thes_sql.specs.Schema.{schema_0}
 use Rattle.thes_sql.specs.Stored.{Keeps}
-use Rattle.thes_sqlite.specs.Migrated.{Migrates}
+use Rattle.thes_sqlite.specs.Faults.{IsKeeperFault}
+use Rattle.thes_sqlite.specs.Kept.{IsUp}
+use Rattle.thes_sqlite.specs.Migrated.{IsLeft, Migrates}
 use Rattle.thes_cli.specs.Ending.{TellsOf}
 use Rattle.thes_cli.specs.Parting.{PrintsText}
 
@@ -44,7 +46,13 @@ module _ {W E : Type 0} (out : W → Option (List ℕ)) (err : E → Option (Lis
           → Keeps (state store back).committed (no_rows base) × Keeps (state store back).now (no_rows base)
       pub told : PrintsText out err output output' errors errors' version_line status
 
-    -- Or it is told that they could not be made.
+    -- They could not be made, which is told; the database is as it was.
+    pub record TellsUnmade (file : List ℕ) (conn : Held S) (status : ℕ) (back : Held S) : Type 0 where
+      pub fault : Fault
+      pub kind : IsKeeperFault fault
+      pub left : IsUp (state store back) → IsLeft (state store conn) (state store back)
+      pub told : TellsUnmigrated file fault status
+
     abbrev pub MakesDatabase : List ℕ → List ℕ → Held S → ℕ → Held S → Type 0
     MakesDatabase file base conn status back =
-        MakesVersion base conn status back ⊎ ((fault : Fault) × TellsUnmigrated file fault status)
+        MakesVersion base conn status back ⊎ TellsUnmade file conn status back

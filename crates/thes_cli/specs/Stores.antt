@@ -9,7 +9,9 @@ use Rattle.thes_rows.specs.Tables.{no_rows}
 use Rattle.thes_sql.specs.Does.{IsEmpty}
 use Rattle.thes_sql.specs.Schema.{schema_0}
 use Rattle.thes_sql.specs.Stored.{Keeps}
-use Rattle.thes_sqlite.specs.Kept.{Kept, raw_of_keeper, IsServing}
+use Rattle.thes_sqlite.specs.Faults.{IsKeeperFault}
+use Rattle.thes_sqlite.specs.Kept.{Kept, raw_of_keeper, IsServing, IsUp}
+use Rattle.thes_sqlite.specs.Migrated.{IsLeft}
 use Rattle.thes_cli.specs.Ending.{TellsOf}
 use Rattle.thes_cli.specs.Streams.{Streams}
 use Rattle.thes_cli.specs.Work.{Works}
@@ -34,9 +36,11 @@ module _ {S F R W E : Type 0} (store : Ghosts S) (given : F → Option (List ℕ
         → Keeps (state store made).committed (no_rows base) × Keeps (state store made).now (no_rows base)
     pub works : WorksInDatabase task file made old status back new
 
-  -- They could not be made, which is told.
-  pub record TellsUnmade (file : List ℕ) (old : Streams R W E) (status : ℕ) (new : Streams R W E) : Type 0 where
+  -- They could not be made, which is told; the database is as it was.
+  pub record TellsUnmade (file : List ℕ) (conn : Held S) (old : Streams R W E) (status : ℕ) (back : Held S) (new : Streams R W E) : Type 0 where
     pub fault : Fault
+    pub kind : IsKeeperFault fault
+    pub left : IsUp (state store back) → IsLeft (state store conn) (state store back)
     pub input : new.input ≡ old.input
     pub output : new.output ≡ old.output
     pub tells : TellsOf err old.errors new.errors file (pipe.Fault fault)
@@ -44,4 +48,4 @@ module _ {S F R W E : Type 0} (store : Ghosts S) (given : F → Option (List ℕ
 
   abbrev pub WorksInNewDatabase : {L : Type 0} → Work F L → List ℕ → List ℕ → Held S → Streams R W E → ℕ → Held S → Streams R W E → Type 0
   WorksInNewDatabase task file base conn old status back new =
-      MakesStore task file base conn old status back new ⊎ TellsUnmade file old status new
+      MakesStore task file base conn old status back new ⊎ TellsUnmade file conn old status back new

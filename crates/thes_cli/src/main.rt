@@ -31,10 +31,11 @@ use std::io::{ErrorKind, IsTerminal, Read, Write};
 use std::net::{Ipv4Addr, TcpListener};
 use std::process::ExitCode;
 use std::rt::Env;
-use stores::{fault_of, work_in_database, work_in_new_database};
+use stores::{work_in_database, work_in_new_database};
 use thes_base::fault::{Fault, PipeFault};
 use thes_base::pipe::Pipe;
 use thes_base::text::Base;
+use thes_sqlite::faults::fault_of;
 use words::{Job, Parting, Serving, Task, plan_args};
 use work::{Work, work_in_memory};
 

@@ -5,13 +5,13 @@ ghost use Rattle.thes_cli.specs.Migrating.{MakesDatabase, MigratesDatabase, vers
 ghost use Rattle.thes_cli.specs.Parting.{PrintsText};
 
 use crate::ending::{print_out, tell_of};
-use crate::stores::fault_of;
 use sqlite::{Alter, Connection};
 use std::alloc::Global;
 use std::io::Write;
 use thes_base::pipe::Pipe;
 use thes_base::text::Base;
 use thes_sql::create::create_tables;
+use thes_sqlite::faults::fault_of;
 use thes_sqlite::migrating::migrate;
 
 /// Tells the version that a store then has, and returns the exit status.

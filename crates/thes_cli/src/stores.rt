@@ -6,25 +6,17 @@ ghost use Rattle.thes_cli.specs.Streams.{streams};
 
 use crate::ending::tell_of;
 use crate::work::{Work, work_over};
-use sqlite::{Alter, Connection, Error, ErrorCode};
+use sqlite::{Alter, Connection};
 use std::alloc::Global;
 use std::io::{Read, Write};
 use std::net::Net;
-use thes_base::fault::Fault;
 use thes_base::pipe::Pipe;
 use thes_base::text::Base;
 use thes_sql::create::create_tables;
+use thes_sqlite::faults::fault_of;
 use thes_sqlite::keeper::SqlKeeper;
 use thes_watch::progress::Progress;
 use thes_watch::watched::Watched;
-
-/// Tells which fault an error of the database is: running out of memory, or one of the store.
-pub fn fault_of(error: Error) -> Fault {
-    match error {
-        Error::SqliteFailure(ErrorCode::OutOfMemory) => Fault::OutOfMemory,
-        _ => Fault::Store,
-    }
-}
 
 /// Works over the store in a database, tells how far it has come, and returns the exit status with the connection. The file is
 /// named where the store can't be opened.

@@ -1,13 +1,15 @@
 //! The faults of a keeper.
-ghost use Rattle.std.specs.Prelude.{◌≡◌};
+ghost use Rattle.std.specs.Prelude.{◌≡◌, ◌≢◌, ◌≤◌, ◌+◌};
 ghost use Rattle.thes_sqlite.specs.Faults.{IsKeeperFault, IsCounted};
 
 use sqlite::{Error, ErrorCode};
 use thes_base::fault::Fault;
 
 /// Tells which fault an error is: want of memory, or one of the store.
-pub(crate) fn fault_of(error: Error) -> Fault
-    ensures { IsKeeperFault result }
+pub fn fault_of(error: Error) -> Fault
+    ensures memory { error ≡ Error.SqliteFailure ErrorCode.OutOfMemory → result ≡ Fault.OutOfMemory }
+    ensures store { error ≢ Error.SqliteFailure ErrorCode.OutOfMemory → result ≡ Fault.Store }
+    ensures kind { IsKeeperFault result }
 {
     match error {
         Error::SqliteFailure(ErrorCode::OutOfMemory) => Fault::OutOfMemory,
@@ -20,6 +22,8 @@ pub(crate) fn count_fault(failures: &mut u64, fault: Fault) -> Fault
     requires { IsKeeperFault fault }
     ensures same { result ≡ fault }
     ensures counted { IsCounted failures.old failures.new result }
+    ensures once { failures.new ≤ failures.old + 1 }
+    ensures memory { fault ≡ Fault.OutOfMemory → failures.new ≡ failures.old }
 {
     if fault == Fault::Store {
         *failures = failures.saturating_add(1);

@@ -1,7 +1,7 @@
 //! A keeper of the tables in a database.
 #![tactic(auto)]
 
-mod faults;
+pub mod faults;
 mod finding;
 mod found;
 mod handing;

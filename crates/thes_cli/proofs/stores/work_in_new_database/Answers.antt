@@ -11,6 +11,8 @@ returns-in-Ok g c = inl record {
 pub returns-in-Err : goal.returns-in-Err
 returns-in-Err g c = inr record {
   fault = c.fault_of.result;
+  kind = c.fault_of.ensures.kind;
+  left = λ up. c.in-Err.ensures.own.none up.0 up.1;
   input = refl;
   output = refl;
   tells = c.tell_of.ensures.told;
