@@ -1,6 +1,9 @@
 -- A read leaves the tables.
 use Rattle.std.proofs.Common.{◌≡◌, ◌⊎◌, inl, inr, ℕ, List, Ok, Err, Result, IfOk, IfErr, false, IsTrue, sym, ap}
-use Rattle.std.proofs.Common.{◌≢◌, OnOk, [], subst, ◌∙◌, arith, append-nil}
+use Rattle.std.proofs.Common.{◌≢◌, OnOk, [], subst, ◌∙◌, arith, append-nil, true, refl}
+use Rattle.std.specs.Result.{is_ok}
+use Rattle.sqlite.specs.Outline.{Outline}
+use Rattle.sqlite.specs.Steps.{Outlines}
 use Rattle.sqlite.specs.Order.{Row}
 use Rattle.sqlite.specs.Effect.{Database, RefusesQuery, RefusesToRead}
 use Rattle.sqlite.specs.Command.TheVariants.{Select}
@@ -132,6 +135,15 @@ module _ {S : Type 0} (g : Ghosts S) (sql : List ℕ) (params : Row) (old new : 
   pub keeps_known : OnOk r (KeepsKnown g old new)
   keeps_known = kept r ok
 
+-- no failure of the disk is told as a text that isn't understood
+no_input_of : (fault : CompileError) (cause : StoreError) → SqlInputError fault ≢ store_error cause
+no_input_of fault cause.OutOfMemory told = cc
+no_input_of fault cause.Io told = cc
+no_input_of fault cause.Corrupt told = cc
+no_input_of fault cause.Full told = cc
+no_input_of fault cause.Broken told = cc
+no_input_of fault cause.Unstorable told = cc
+
 -- What is only prepared leaves the database.
 module _ {S : Type 0} (g : Ghosts S) (sql : List ℕ) (old new : Held S) where
   -- so it is, where the text was not understood, or where nothing is known of the failure
@@ -144,15 +156,7 @@ module _ {S : Type 0} (g : Ghosts S) (sql : List ℕ) (old new : Held S) where
       → IsNotRun (state g old) (state g new) sql params (SqlInputError fault))
       → IsUnchanged (state g old) (state g new)
   unfolding IsNotRun
-  not_understood fault h = elim (h []) [ inl refused ↦ refused.1 | inr fails ↦ absurd (no_input fails.0 fails.1) ]
-    where
-      no_input : (cause : StoreError) → SqlInputError fault ≢ store_error cause
-      no_input cause.OutOfMemory told = cc
-      no_input cause.Io told = cc
-      no_input cause.Corrupt told = cc
-      no_input cause.Full told = cc
-      no_input cause.Broken told = cc
-      no_input cause.Unstorable told = cc
+  not_understood fault h = elim (h []) [ inl refused ↦ refused.1 | inr fails ↦ absurd (no_input_of fault fails.0 fails.1) ]
 
   open_before : IsUnchanged (state g old) (state g new) ⊎ IsRolledBack (state g old) (state g new)
       → IsTrue (state g new).is_open → IsTrue (state g old).is_open
@@ -184,6 +188,25 @@ module _ {S : Type 0} (g : Ghosts S) (sql : List ℕ) (old new : Held S) where
       → (params : Row) → IsNotRun (state g old) (state g new) sql params (SqlInputError fault))
       → KeepsKnown g old new
   refused_keeps fault h = prepared_keeps (λ clean. not_understood fault (h clean))
+
+-- A text that could be prepared is understood, and one that is refused as a text is not.
+pub outlined : (r : Result Compiled CompileError) (s : Outline) → Outlines r s → is_ok r ≡ true
+outlined (Ok c) s h = refl
+outlined (Err e) s h = absurd h
+
+pub no_text : (old new : State) (sql : List ℕ) (fault : CompileError)
+    → ((params : Row) → IsNotRun old new sql params (SqlInputError fault)) → is_ok (understood old.now.schema sql) ≡ false
+unfolding IsNotRun
+no_text old new sql fault h = elim (h []) [
+  | inl refused ↦ elim refused.0 [
+    | inl told ↦ ap is_ok told.1
+    | inr other ↦ elim other.2 [
+      | inl a ↦ let k = a.1 in cc
+      | inr more ↦ elim more [ inl b ↦ let k = b.1 in cc | inr clock ↦ let k = clock.1 in cc ]
+    ]
+  ]
+  | inr fails ↦ absurd (no_input_of fault fails.0 fails.1)
+]
 
 -- A query that the schema of a store understands doesn't fail as a text that isn't understood.
 module _ (sql : List ℕ) (params : Row) (old new : State) (q : Program) (names : List (List ℕ))

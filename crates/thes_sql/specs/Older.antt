@@ -1,5 +1,7 @@
 -- A store of version 1, and what becomes of it in version 2.
-use Rattle.std.specs.Prelude.{◌≡◌, ◌≤◌, ◌⊎◌, ◌==◌, ℕ, List, [], ◌∷◌, map, filter, Bool, not, false, IsTrue}
+use Rattle.std.specs.Prelude.{◌≡◌, ◌≤◌, ◌⊎◌, ◌==◌, ℕ, List, [], ◌∷◌, map, filter, codes, Bool, not, false, IsTrue}
+use Rattle.std.specs.Result.{is_ok}
+use Rattle.sqlite.specs.Listing.{understood}
 use Rattle.sqlite.specs.State.{HasCleanDisk}
 use Rattle.sqlite.specs.Held.{Held, state}
 use Rattle.sqlite_trees.specs.View.{doubt}
@@ -95,6 +97,13 @@ HasVersion version base db = HasKnownSchema db × (db.trees 0 ≡ stored_version
 -- that row as it is read
 abbrev pub version_row : ℕ → List ℕ → Row
 version_row version base = values (number_cell 1 ∷ number_cell version ∷ Text base ∷ [])
+
+-- the text that reads the links of version 1; whether they can be queried is whether the schema understands it
+abbrev pub links_text : List ℕ
+links_text = codes "SELECT kind, a, b FROM link"
+
+abbrev pub has_links : Database → Bool
+has_links db = is_ok (understood db.schema links_text)
 
 -- A call that was done left a database of a known schema as it was.
 abbrev pub KeepsKnown : {S : Type 0} → Ghosts S → Held S → Held S → Type 0

@@ -1,6 +1,6 @@
 //! What is asked of a database that may be a store of version 1.
 ghost use Rattle.std.specs.Prelude.{◌≡◌, ◌∷◌, [], ℕ, List, IfOk, OnOk};
-ghost use Rattle.thes_sql.specs.Older.{HasVersion, version_row, KeepsKnown, LeavesKnown};
+ghost use Rattle.thes_sql.specs.Older.{HasVersion, version_row, has_links, KeepsKnown, LeavesKnown};
 ghost use Rattle.sqlite.specs.State.{HasCleanDisk};
 ghost use Rattle.sqlite.specs.Held.{state};
 
@@ -19,6 +19,8 @@ pub fn version_rows<S: Alter>(conn: &mut Connection<S>) -> Result<Vec<Row>, Erro
 
 /// Tells whether the links can be queried.
 pub fn has_links<S: Alter>(conn: &mut Connection<S>) -> Result<bool, Error>
+    ensures tells { HasCleanDisk (state S.Store conn.new) → IfOk result (λ there.
+        there ≡ has_links (state S.Store conn.old).now) }
     ensures kept { OnOk result (KeepsKnown S.Store conn.old conn.new) }
     ensures leaves { LeavesKnown S.Store conn.old conn.new }
 {

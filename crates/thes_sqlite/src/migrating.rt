@@ -1,6 +1,6 @@
 //! From version 1 of the tables to version 2.
-ghost use Rattle.std.specs.Prelude.{◌≡◌, ◌∷◌, [], ℕ, List, cond, IfOk, IfErr, OnOk, false};
-ghost use Rattle.thes_sql.specs.Older.{HasVersion, version_row, KeepsKnown, LeavesKnown};
+ghost use Rattle.std.specs.Prelude.{◌≡◌, ◌∷◌, [], ℕ, List, cond, IfOk, IfErr, OnOk, true, false};
+ghost use Rattle.thes_sql.specs.Older.{HasVersion, version_row, has_links, KeepsKnown, LeavesKnown};
 ghost use Rattle.thes_sqlite.specs.Migrated.{IsMigrateFault, Migrates};
 ghost use Rattle.sqlite.specs.State.{HasCleanDisk};
 ghost use Rattle.sqlite.specs.Held.{state};
@@ -50,6 +50,9 @@ fn is_old<S: Alter>(alloc: Global, conn: &mut Connection<S>) -> Result<bool, Fau
 
 // Makes sure that the links can be queried.
 fn find_links<S: Alter>(conn: &mut Connection<S>) -> Result<(), Fault>
+    ensures there { HasCleanDisk (state S.Store conn.new) → OnOk result (has_links (state S.Store conn.old).now ≡ true) }
+    ensures missing { HasCleanDisk (state S.Store conn.new) → IfErr result (λ fault.
+        fault ≡ Fault.BadStore Table.Link → has_links (state S.Store conn.old).now ≡ false) }
     ensures kept { OnOk result (KeepsKnown S.Store conn.old conn.new) }
     ensures leaves { LeavesKnown S.Store conn.old conn.new }
     ensures faults { IfErr result IsMigrateFault }
