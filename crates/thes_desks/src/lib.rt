@@ -1,6 +1,7 @@
 //! Offices for the programs that try the rest: a store in memory, as the program opens one where no file is named, and a script over
 //! any office. What a script promises of an office is long, and a proof that meets it takes long: so each call stands here in a
-//! function of its own, which promises nothing of that.
+//! function of its own, which promises nothing of that, and borrows the office. A function in which a store ends is proved once for
+//! each way out of it: so a store is made in a function that lends it to another one, drops it, and returns what that one gave.
 #![tactic(auto)]
 
 ghost use Rattle.thes_base.specs.Pipe.{IsFresh};
@@ -25,14 +26,14 @@ const BASE: &str = "https://thesaurus.example/id/";
 /// A store in memory.
 #[derive(Drop)]
 pub struct Store {
-    pub office: Office<MemKeeper>,
+    pub desk: FrontDesk<MemKeeper>,
 }
 
-fn serve_desk<K: Keeper, R: Read, W: Write>(
+fn serve_pipes<K: Keeper, R: Read, W: Write>(
     alloc: Global,
+    desk: &mut FrontDesk<K>,
     reader: &mut Pipe<R>,
     writer: &mut Pipe<W>,
-    desk: &mut FrontDesk<K>,
 ) -> Result<Ended, PipeFault>
     requires reader { IsFresh reader.old }
     requires writer { IsFresh writer.old }
@@ -40,24 +41,25 @@ fn serve_desk<K: Keeper, R: Read, W: Write>(
     office_script(alloc, reader, writer, desk)
 }
 
-/// Serves a script over these devices in an office. Returns the office, the writer, and how the script ended.
+/// Serves a script over these devices in an office. Returns the writer, and how the script ended.
 pub fn serve_in<K: Keeper, R: Read + Drop, W: Write>(
     alloc: Global,
-    office: Office<K>,
+    desk: &mut FrontDesk<K>,
     input: R,
     output: W,
-) -> (Office<K>, W, Result<Ended, PipeFault>) {
+) -> (W, Result<Ended, PipeFault>) {
     let mut reader = Pipe::new(input);
     let mut writer = Pipe::new(output);
-    let mut desk = FrontDesk::new(office);
-    let ended = serve_desk(alloc, &mut reader, &mut writer, &mut desk);
-    (desk.into_office(), writer.into_device(), ended)
+    let ended = serve_pipes(alloc, desk, &mut reader, &mut writer);
+    (writer.into_device(), ended)
 }
 
 // Opens an office over the tables of a keeper.
 fn open(alloc: Global, keeper: MemKeeper, limits: Limits) -> io::Result<Store> {
     match Office::start(alloc, keeper, limits) {
-        Ok(office) => Ok(Store { office }),
+        Ok(office) => Ok(Store {
+            desk: FrontDesk::new(office),
+        }),
         Err(_) => Err(invalid()),
     }
 }
@@ -71,19 +73,24 @@ impl Store {
 
     /// Closes the store, and opens its tables again.
     pub fn reopened(self, alloc: Global, limits: Limits) -> io::Result<Store> {
-        let Store { office } = self;
-        open(alloc, office.into_keeper(), limits)
+        let Store { desk } = self;
+        open(alloc, desk.into_office().into_keeper(), limits)
     }
 
-    /// Serves a script over these devices. Returns the store, the writer, and how the script ended.
+    /// Lends the store's office.
+    pub fn office(&mut self) -> &mut Office<MemKeeper> {
+        let desk = &mut self.desk;
+        &mut desk.office
+    }
+
+    /// Serves a script over these devices. Returns the writer, and how the script ended.
     pub fn serve<R: Read + Drop, W: Write>(
-        self,
+        &mut self,
         alloc: Global,
         input: R,
         output: W,
-    ) -> (Store, W, Result<Ended, PipeFault>) {
-        let (office, output, ended) = serve_in(alloc, self.office, input, output);
-        (Store { office }, output, ended)
+    ) -> (W, Result<Ended, PipeFault>) {
+        serve_in(alloc, &mut self.desk, input, output)
     }
 
     /// Performs the requests of a list, and adds their answers.
@@ -92,7 +99,7 @@ impl Store {
         commands: &[Command],
         answers: &mut Vec<Answer>,
     ) -> Result<(), Fault> {
-        self.office.run(commands, answers)
+        self.office().run(commands, answers)
     }
 }
 
@@ -104,15 +111,26 @@ fn is_performed(ended: &Result<Ended, PipeFault>) -> bool {
     }
 }
 
+// Serves requests, of which none may be refused.
+fn serve_all(alloc: Global, store: &mut Store, requests: &str) -> io::Result<()> {
+    let (_, ended) = store.serve(alloc, requests.as_bytes(), Vec::new(alloc));
+    if is_performed(&ended) {
+        Ok(())
+    } else {
+        Err(invalid())
+    }
+}
+
 /// Makes a store by requests, of which none may be refused.
 pub fn store_after(alloc: Global, requests: &str) -> io::Result<Store> {
-    let store = Store::new(alloc, Limits::default())?;
-    let (store, _, ended) = store.serve(alloc, requests.as_bytes(), Vec::new(alloc));
-    if !is_performed(&ended) {
-        drop(store);
-        return Err(invalid());
+    let mut store = Store::new(alloc, Limits::default())?;
+    match serve_all(alloc, &mut store, requests) {
+        Ok(()) => Ok(store),
+        Err(error) => {
+            drop(store);
+            Err(error)
+        }
     }
-    Ok(store)
 }
 
 /// Makes the error as which a request that is refused, and any fault, is told.

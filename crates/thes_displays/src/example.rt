@@ -103,7 +103,7 @@ fn text_of(
     scheme: ResNo,
     tag: &Tag,
 ) -> io::Result<String> {
-    match store.office.ready() {
+    match store.office().ready() {
         Ok(core) => text_in(alloc, kind, core, scheme, tag),
         Err(_) => Err(invalid()),
     }

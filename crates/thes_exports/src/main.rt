@@ -27,7 +27,7 @@ fn write_export<W: io::Write + Drop>(alloc: Global, core: &Core, device: W) -> i
 // Writes the export of a store so many times.
 fn write_exports(rt: &HostRuntime, alloc: Global, store: &mut Store, count: u32) -> io::Result<()> {
     for _ in 0..count {
-        match store.office.ready() {
+        match store.office().ready() {
             Ok(core) => write_export(alloc, core, rt.stdout())?,
             Err(_) => return Err(invalid()),
         }

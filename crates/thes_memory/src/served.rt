@@ -96,17 +96,17 @@ fn answer<W: Write>(
     requests: &str,
     answers: W,
 ) -> (Option<Store>, W, Result<Ended, PipeFault>) {
-    let Ok(store) = Store::new(alloc, Limits::default()) else {
+    let Ok(mut store) = Store::new(alloc, Limits::default()) else {
         return (None, answers, Err(PipeFault::Fault(Fault::OutOfMemory)));
     };
-    let (store, written, ended) = store.serve(alloc, requests.as_bytes(), answers);
+    let (written, ended) = store.serve(alloc, requests.as_bytes(), answers);
     (Some(store), written, ended)
 }
 
 // What a store shows that is closed, and opened again.
 fn views(alloc: Global, store: Option<Store>) -> Option<Vec<u8>> {
-    let store = store?.reopened(alloc, Limits::default()).ok()?;
-    let (_store, written, _) = store.serve(alloc, VIEWS.as_bytes(), Vec::new(alloc));
+    let mut store = store?.reopened(alloc, Limits::default()).ok()?;
+    let (written, _) = store.serve(alloc, VIEWS.as_bytes(), Vec::new(alloc));
     Some(written)
 }
 

@@ -90,21 +90,21 @@ fn first_wrong(alloc: Global, stored: &Stored, failing: Failing) -> io::Result<O
 }
 
 fn fate_after(alloc: Global, stored: &Stored, failing: Failing, calls: u32) -> io::Result<Fate> {
-    let store = Store::new(alloc, stored.limits)?;
-    let reader = failing.reader(stored.requests.as_str(), calls);
-    let (store, writer, ended) = store.serve(alloc, reader, failing.writer(alloc, calls));
-    fate_of(alloc, store, stored, failing, writer, ended)
+    let mut store = Store::new(alloc, stored.limits)?;
+    let fate = fate_in(alloc, &mut store, stored, failing, calls);
+    drop(store);
+    fate
 }
 
-// What became of a script for which this was written, and which ended so.
-fn fate_of(
+fn fate_in(
     alloc: Global,
-    store: Store,
+    store: &mut Store,
     stored: &Stored,
     failing: Failing,
-    writer: Filling,
-    ended: Result<Ended, PipeFault>,
+    calls: u32,
 ) -> io::Result<Fate> {
+    let reader = failing.reader(stored.requests.as_str(), calls);
+    let (writer, ended) = store.serve(alloc, reader, failing.writer(alloc, calls));
     let written = text_of(writer.bytes)?;
     if ended.is_ok() {
         return whole(written, ended, stored.answers.as_str());
@@ -124,14 +124,15 @@ fn whole(written: String, ended: Result<Ended, PipeFault>, wanted: &str) -> io::
 }
 
 // Has the store answer the requests behind those that were performed.
-fn resumed(alloc: Global, store: Store, stored: &Stored, performed: usize) -> io::Result<Fate> {
+fn resumed(
+    alloc: Global,
+    store: &mut Store,
+    stored: &Stored,
+    performed: usize,
+) -> io::Result<Fate> {
     let requests = behind(alloc, stored.requests.as_str(), performed)?;
     let wanted = behind(alloc, stored.answers.as_str(), performed)?;
-    let (_store, written, ended) = store.serve(
-        alloc,
-        requests.as_str().as_bytes(),
-        Vec::new(alloc),
-    );
+    let (written, ended) = store.serve(alloc, requests.as_str().as_bytes(), Vec::new(alloc));
     if ended_text(text_of(written)?, ended)? == wanted {
         return Ok(Fate::Resumed);
     }

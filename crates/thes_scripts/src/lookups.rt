@@ -21,7 +21,7 @@ pub fn look_up(alloc: Global, store: &mut Store, words: &str) -> Option<String> 
         "place" => place(alloc, store, words),
         "standing" => standing(alloc, store, words),
         "read" => fault(alloc, words),
-        _ => look_up_in(alloc, store.office.ready().ok()?, name, words),
+        _ => look_up_in(alloc, store.office().ready().ok()?, name, words),
     }
 }
 
@@ -63,7 +63,7 @@ fn sizes_told(alloc: Global, sizes: &Sizes) -> Result<String, AllocError> {
 
 // Where a posting stands, or stood when it was withdrawn.
 fn place(alloc: Global, store: &mut Store, words: &str) -> Option<String> {
-    let history = store.office.posting(PostNo::read(words).ok()?).ok()??;
+    let history = store.office().posting(PostNo::read(words).ok()?).ok()??;
     number_told(alloc, place_of(&history).get())
 }
 
@@ -78,7 +78,7 @@ fn place_of(history: &History) -> ResNo {
 fn standing(alloc: Global, store: &mut Store, words: &str) -> Option<String> {
     let mut numbers = Numbers::new(alloc);
     let concept = ResNo::read(words).ok()?;
-    match store.office.postings(concept, &mut numbers) {
+    match store.office().postings(concept, &mut numbers) {
         Ok(None) => numbers_told(alloc, numbers.into_list().as_slice()).ok(),
         _ => None,
     }

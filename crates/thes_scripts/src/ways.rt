@@ -21,25 +21,17 @@ pub fn run(alloc: Global, stored: &Stored) -> io::Result<String> {
     }
 }
 
-// The answers of a new store, and what is looked up in it then. The store ends here, by one call, since a function in which it
-// ended at each `?` would take a minute to prove.
+// The answers of a new store, and what is looked up in it then.
 fn script_answers(alloc: Global, stored: &Stored) -> io::Result<String> {
-    let store = Store::new(alloc, stored.limits)?;
-    let requests = stored.requests.as_str().as_bytes();
-    let (mut store, written, ended) = store.serve(alloc, requests, Vec::new(alloc));
-    let answers = told_behind(alloc, &mut store, stored, written, ended);
+    let mut store = Store::new(alloc, stored.limits)?;
+    let answers = answers_of(alloc, &mut store, stored);
     drop(store);
     answers
 }
 
-// The answers that were written, and behind them what is looked up.
-fn told_behind(
-    alloc: Global,
-    store: &mut Store,
-    stored: &Stored,
-    written: Vec<u8>,
-    ended: Result<Ended, PipeFault>,
-) -> io::Result<String> {
+fn answers_of(alloc: Global, store: &mut Store, stored: &Stored) -> io::Result<String> {
+    let requests = stored.requests.as_str().as_bytes();
+    let (written, ended) = store.serve(alloc, requests, Vec::new(alloc));
     let mut answers = ended_text(text_of(written)?, ended)?;
     for words in stored.lookups.as_str().lines() {
         let told = look_up(alloc, store, words);

@@ -14,7 +14,7 @@ use thes_store::keeper::Keeper;
 /// An office that performs requests and shows views. A contract sees it as the office.
 #[derive(Drop)]
 pub struct FrontDesk<K: Keeper> {
-    pub(crate) office: Office<K>,
+    pub office: Office<K>,
 }
 
 impl<K: Keeper> Model for FrontDesk<K> {
