@@ -2,35 +2,18 @@
 //! requests, one on a line. A request that is refused, and any other fault, ends the program.
 #![tactic(auto)]
 
-ghost use Rattle.std.specs.Prelude.{◌≡◌, false};
-
 use std::alloc::Global;
 use std::rt::HostRuntime;
 use std::{env, fs, io};
 use thes_base::number::ResNo;
-use thes_base::pipe::Pipe;
-use thes_core::Core;
+use thes_desks::ways::export_in;
 use thes_desks::{Store, invalid, store_after};
-use thes_export::written::export;
-
-// Writes the export of what a core holds.
-fn write_export<W: io::Write + Drop>(alloc: Global, core: &Core, device: W) -> io::Result<()>
-    requires { core.now.spent ≡ false }
-{
-    let mut writer = Pipe::new(device);
-    match export(alloc, core, &mut writer) {
-        Ok(()) => Ok(()),
-        Err(_) => Err(invalid()),
-    }
-}
 
 // Writes the export of a store so many times.
 fn write_exports(rt: &HostRuntime, alloc: Global, store: &mut Store, count: u32) -> io::Result<()> {
     for _ in 0..count {
-        match store.office().ready() {
-            Ok(core) => write_export(alloc, core, rt.stdout())?,
-            Err(_) => return Err(invalid()),
-        }
+        let (_, written) = export_in(alloc, &mut store.desk, rt.stdout());
+        written.map_err(|_| invalid())?;
     }
     Ok(())
 }

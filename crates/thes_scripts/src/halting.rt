@@ -6,49 +6,15 @@ use std::alloc::{AllocError, Global};
 use std::io;
 use thes_base::fault::PipeFault;
 use thes_desks::Store;
-use thes_devices::{Filling, Halting};
+use thes_desks::failing::Failing;
 use thes_exchange::script::Ended;
 
-// The device that fails: a reader that breaks, a writer that breaks, or one that is full.
-#[derive(Clone, Copy, Debug, PartialEq, Eq)]
-enum Failing {
-    Reader,
-    Writer,
-    FullWriter,
-}
-
-impl Failing {
-    // A reader that gives the requests, for so many calls if it is the device that fails.
-    fn reader<'a>(self, requests: &'a str, calls: u32) -> Halting<'a> {
-        Halting {
-            bytes: requests.as_bytes(),
-            calls: if self == Reader { calls } else { u32::MAX },
-        }
-    }
-
-    // A writer that takes bytes, for so many calls if it is the device that fails.
-    fn writer(self, alloc: Global, calls: u32) -> Filling {
-        Filling {
-            bytes: Vec::new(alloc),
-            calls: if self == Reader { u32::MAX } else { calls },
-            is_full: self == FullWriter,
-        }
-    }
-
-    fn fault(self) -> PipeFault {
-        match self {
-            Reader => PipeFault::Read,
-            Writer | FullWriter => PipeFault::Write,
-        }
-    }
-
-    // How many requests were performed: those that are answered, and the one whose answer a writer failed to take.
-    fn performed(self, written: &str) -> usize {
-        let answered = written.bytes().filter(|byte| *byte == b'\n').count();
-        match self {
-            Reader => answered,
-            Writer | FullWriter => answered.saturating_add(1),
-        }
+// How many requests were performed: those that are answered, and the one whose answer a writer failed to take.
+fn performed(failing: Failing, written: &str) -> usize {
+    let answered = written.bytes().filter(|byte| *byte == b'\n').count();
+    match failing {
+        Reader => answered,
+        Writer | FullWriter => answered.saturating_add(1),
     }
 }
 
@@ -112,7 +78,7 @@ fn fate_in(
     if ended != Err(failing.fault()) || !stored.answers.as_str().starts_with(written.as_str()) {
         return Ok(Fate::Wrong);
     }
-    let performed = failing.performed(written.as_str());
+    let performed = performed(failing, written.as_str());
     resumed(alloc, store, stored, performed)
 }
 

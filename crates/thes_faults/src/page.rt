@@ -1,8 +1,8 @@
 //! A page to write to, which takes no memory of its own.
 ghost use Rattle.std.specs.Prelude.{◌≤◌};
 
-use std::io;
 use std::io::Write;
+use std::{io, str};
 
 /// So many bytes, and how many of them are written.
 #[derive(Drop)]
@@ -21,9 +21,9 @@ impl Page {
         }
     }
 
-    /// What is written.
-    pub fn as_bytes(&self) -> &[u8] {
-        &self.bytes[..self.filled]
+    /// What is written. Nothing if it is no text.
+    pub fn as_str(&self) -> &str {
+        str::from_utf8(&self.bytes[..self.filled]).unwrap_or("")
     }
 }
 
