@@ -41,8 +41,18 @@ def merge(base, source, target, postings, moves):
     base.execute("COMMIT")
 
 
+def fill(base, posts, concepts):
+    """Adds the postings to the concepts in turn, each moved once, in one transaction."""
+    at = [2 + number % concepts for number in range(posts + 1)]
+    numbers = range(1, posts + 1)
+    base.execute("BEGIN")
+    base.executemany(INSERT, ((it, f"k{it}", f"r{it}", at[it - 1], at[it], 0) for it in numbers))
+    base.executemany(INSERT_MOVE, ((it, it, at[it - 1], at[it]) for it in numbers))
+    base.execute("COMMIT")
+
+
 def load_all(base):
-    """Reads all rows."""
-    for statement in (ROW + " ORDER BY num", MOVE + " ORDER BY num"):
-        for _ in base.execute(statement):
+    """Reads all rows of all tables."""
+    for (table,) in base.execute("SELECT name FROM sqlite_schema WHERE type = 'table'").fetchall():
+        for _ in base.execute(f"SELECT * FROM {table} ORDER BY 1"):
             pass

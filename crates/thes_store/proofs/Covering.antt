@@ -1,15 +1,9 @@
 -- Rows are found after a change, too.
-use Rattle.std.proofs.Common.{◌≡◌, ◌⊎◌, ◌+◌, ◌-◌, ◌<◌, ◌≤◌, ◌∙◌, inl, inr, ℕ, zero, suc, List, [], ◌∷◌, length, map, Bool, true, false, cond, take, get_or, refl, sym, ap, subst, arith, ⊎_elim, length-append}
+use Rattle.std.proofs.Common.{◌≡◌, ◌⊎◌, ◌+◌, ◌-◌, ◌<◌, ◌≤◌, ◌∙◌, inl, inr, ℕ, zero, suc, List, [], ◌∷◌, length, map, Bool, true, false, cond, take, get_or, refl, sym, ap, subst, arith, length-append}
 use Rattle.std.specs.Prelude.{Option, None, Some, Result, slice_get, slice_set, not, ◌&&◌, ◌==◌}
-use Rattle.std.specs.Ordering.{nat_cmp}
 use Rattle.std.specs.declared.alloc.AllocError.{AllocError}
-use Rattle.std.specs.Cmp.Lexicographic.{slice_cmp}
-use Rattle.std.specs.BTreeMap.{BTreeMap, UpdatesBy, get}
-use Rattle.std.specs.Str.{bytes_eq}
-use Rattle.std.proofs.lemmas.Bool.{cases_Bool, cases_eq, cases_lt}
-use Rattle.std.proofs.lemmas.Map.Text.{is_eq-slice_cmp}
+use Rattle.std.proofs.lemmas.Bool.{cases_eq, cases_lt}
 use Rattle.std.proofs.lemmas.Option.{same_Some}
-use Rattle.std.proofs.lemmas.Slice.Eq.{bytes_eq-Decides}
 use Rattle.thes_base.specs.Resources.{numbered, set_numbered}
 use Rattle.thes_base.proofs.NumberedLemmas.{push_cases, set_cases, numbered_bound}
 use Rattle.thes_rows.specs.declared.change.Change.{Change}
@@ -23,6 +17,7 @@ use Rattle.thes_rows.proofs.Steps.{all_append}
 use Rattle.thes_store.proofs.Places.{take_one, take_whole}
 use Rattle.thes_store.specs.declared.indexes.Indexes.{Indexes}
 use Rattle.thes_store.specs.Index.{IsAt}
+use Rattle.thes_store.specs.Keys.{LeadsTo}
 use Rattle.thes_store.specs.Covers.{Covers, CoversAll, CoversBoth, AreStanding, Grows, IsOtherKey, Reaches, moves_more}
 
 -- Rows of a list that is changed.
@@ -67,7 +62,7 @@ moved_key source target row = go (not row.withdrawn && row.place == source)
 -- The rows of posting, if those of move stay.
 
 abbrev KeyIs : Indexes → List ℕ → ℕ → Type 0
-KeyIs x key i = get (slice_cmp nat_cmp) x.keys key ≡ Some i
+KeyIs x key i = LeadsTo x.keys key i
 
 with_covered : (x : Indexes) (t : Tables) (f : PostingRow → PostingRow) (n : ℕ) → ((row : PostingRow) → (f row).key ≡ row.key) → ((i : ℕ) (row : PostingRow) → suc i ≡ n → IsAt x.standing row.place i → IsAt x.standing (f row).place i)
     → Covers x t → Covers x (record t { posting = with_posting f n t.posting })
@@ -132,11 +127,6 @@ covered x (change.AddMove row) t step len reached covers = record {
 }
 
 -- Keys of postings.
-
-pub get_others : (old new : BTreeMap (List ℕ) ℕ) (key : List ℕ) (n : ℕ) → UpdatesBy (slice_cmp nat_cmp) (slice_cmp nat_cmp key) old new (Some n) → (q : List ℕ) → (key ≡ q → ⊥) → get (slice_cmp nat_cmp) new q ≡ get (slice_cmp nat_cmp) old q
-get_others old new key n updates q apart = updates.2 q (is_eq-slice_cmp key q ∙ ⊎_elim
-    (λ (hit : bytes_eq key q ≡ true). absurd (apart ((bytes_eq-Decides key q).0 hit)))
-    (λ (miss : bytes_eq key q ≡ false). miss) (cases_Bool (bytes_eq key q)))
 
 set_in : (xs : List PostingRow) (k : ℕ) (row r y : PostingRow) → slice_get xs k ≡ Some r → y.key ≡ r.key → IsIn row xs → (z : PostingRow) × IsIn z (slice_set xs k y) × (z.key ≡ row.key)
 set_in [] k row r y at key h = absurd h
@@ -203,7 +193,7 @@ get_in (x ∷ xs) (suc i) row e = inr (get_in xs i row e)
 
 grown : (c : Change) (old new : Indexes) (t : Tables) → Grows c old new → ((row : PostingRow) → IsIn row t.posting → IsOtherKey c row.key) → Covers old t → Covers new t
 grown c old new t grows apart covers = record {
-  keys = λ i row e. grows.keys row.key (apart row (get_in t.posting i row e)) ∙ covers.keys i row e;
+  keys = λ i row e. grows.keys row.key i (apart row (get_in t.posting i row e)) (covers.keys i row e);
   standing = λ i row e. grows.standing row.place i (covers.standing i row e);
   moves = λ i row e. grows.moves row.posting i (covers.moves i row e);
 }

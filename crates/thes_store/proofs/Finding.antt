@@ -1,16 +1,20 @@
 -- What is found by the indexes.
-use Rattle.std.proofs.Common.{◌≡◌, inl, inr, ℕ, suc, List, [], ◌∷◌, Bool, true, false, sym, ap, subst, arith}
-use Rattle.std.specs.Prelude.{Some, slice_get, filter, not, ◌&&◌, ◌==◌}
+use Rattle.std.proofs.Common.{◌≡◌, inl, inr, ◌∙◌, ℕ, suc, List, [], ◌∷◌, Bool, true, false, sym, ap, subst, arith}
+use Rattle.std.specs.Borrow.{Bor}
+use Rattle.std.specs.Option.{option_copied}
+use Rattle.std.specs.Prelude.{Option, None, Some, IfSome, IfNone, slice_get, filter, not, ◌&&◌, ◌==◌}
 use Rattle.std.specs.BTreeMap.{get}
 use Rattle.std.specs.Cmp.Lexicographic.{slice_cmp}
 use Rattle.std.specs.Ordering.{nat_cmp}
 use Rattle.thes_rows.specs.declared.rows.PostingRow.{PostingRow}
 use Rattle.thes_rows.specs.Tables.{Tables, IsIn}
 use Rattle.thes_store.specs.declared.indexes.Indexes.{Indexes}
+use Rattle.thes_store.specs.declared.keys.Keys.{Keys}
 use Rattle.thes_store.specs.Index.{IsAt, ArePlaces}
 use Rattle.thes_store.specs.Covers.{Covers}
+use Rattle.thes_store.specs.Keys.{LeadsTo, digest_of}
 use Rattle.thes_store.specs.Picked.{is_move_of, picked}
-use Rattle.thes_store.specs.Reading.{is_standing, standing_rows}
+use Rattle.thes_store.specs.Reading.{IsFound, is_standing, standing_rows}
 use Rattle.thes_store.proofs.Places.{picked_all}
 
 in_get : (xs : List PostingRow) (row : PostingRow) → IsIn row xs → (i : ℕ) × (slice_get xs i ≡ Some row)
@@ -18,11 +22,25 @@ in_get [] row h = absurd h
 in_get (x ∷ xs) row (inl same) = (0, ap (λ y. Some y) (sym same))
 in_get (x ∷ xs) row (inr later) = let g = in_get xs row later in (suc g.0, g.1)
 
--- a key that doesn't lead to a posting that has it is no posting's
-pub not_found : (x : Indexes) (t : Tables) (key : List ℕ) → Covers x t → ((i : ℕ) (row : PostingRow) → get (slice_cmp nat_cmp) x.keys key ≡ Some i → slice_get t.posting i ≡ Some row → row.key ≡ key → ⊥) → (row : PostingRow) → IsIn row t.posting → row.key ≡ key → ⊥
-not_found x t key covers never row h same =
-    let p = in_get t.posting row h in
-    never p.0 row (subst (λ k. get (slice_cmp nat_cmp) x.keys k ≡ Some p.0) same (covers.keys p.0 row p.1)) p.1 same
+-- no row has the key that is neither where the number of the key leads nor where its text does
+none_found : (x : Keys) (rows : List PostingRow) (key : List ℕ) → ((i : ℕ) (row : PostingRow) → slice_get rows i ≡ Some row → LeadsTo x row.key i)
+    → ((i : ℕ) (row : PostingRow) → get nat_cmp x.numbers (digest_of key) ≡ Some i → slice_get rows i ≡ Some row → row.key ≡ key → ⊥)
+    → ((i : ℕ) (row : PostingRow) → get (slice_cmp nat_cmp) x.rest key ≡ Some i → slice_get rows i ≡ Some row → row.key ≡ key → ⊥)
+    → (row : PostingRow) → IsIn row rows → row.key ≡ key → ⊥
+none_found x rows key leads by_number by_text row h same =
+    let p = in_get rows row h in
+    elim (subst (λ k. LeadsTo x k p.0) same (leads p.0 row p.1)) [
+      | inl number ↦ by_number p.0 row number p.1 same
+      | inr text ↦ by_text p.0 row text p.1 same
+    ]
+
+pub found_by_text : (x : Keys) (rows : List PostingRow) (key : List ℕ) (place : Option ℕ) (found : Option (Bor PostingRow)) → place ≡ get (slice_cmp nat_cmp) x.rest key → ((i : ℕ) (row : PostingRow) → slice_get rows i ≡ Some row → LeadsTo x row.key i)
+    → ((i : ℕ) (row : PostingRow) → get nat_cmp x.numbers (digest_of key) ≡ Some i → slice_get rows i ≡ Some row → row.key ≡ key → ⊥)
+    → IfSome found (λ row. IsIn row.now rows × (row.now.key ≡ key))
+    → IfNone found ((i : ℕ) (row : PostingRow) → place ≡ Some i → slice_get rows i ≡ Some row → row.key ≡ key → ⊥)
+    → IsFound key rows (option_copied found)
+found_by_text x rows key place None is leads by_number some none = none_found x rows key leads by_number (λ i row at. none i row (is ∙ at))
+found_by_text x rows key place (Some row) is leads by_number some none = some
 
 equal : (a b : ℕ) → (a == b) ≡ true → a ≡ b
 equal a b e = grind (arith)

@@ -7,3 +7,4 @@ pub mod Moving
 pub mod Slotted
 pub mod Adding
 pub mod Rooms
+pub mod Leading

@@ -1,8 +1,5 @@
 -- By what the rows of postings and of moves are found.
 use Rattle.std.specs.Prelude.{◌≡◌, ◌≢◌, ◌-◌, ℕ, List, length, Some, slice_get, take, Result, OnOk}
-use Rattle.std.specs.BTreeMap.{get}
-use Rattle.std.specs.Cmp.Lexicographic.{slice_cmp}
-use Rattle.std.specs.Ordering.{nat_cmp}
 use Rattle.thes_rows.specs.declared.change.Change.{Change}
 use Rattle.thes_rows.specs.declared.change.Change.TheVariants as change
 use Rattle.thes_rows.specs.declared.rows.PostingRow.{PostingRow}
@@ -12,6 +9,7 @@ use Rattle.thes_rows.specs.Rows.{all_changed}
 use Rattle.thes_store.specs.declared.indexes.Indexes.{Indexes}
 use Rattle.thes_store.specs.declared.index.Index.{Index}
 use Rattle.thes_store.specs.Index.{IsAt, KeepsPlaces}
+use Rattle.thes_store.specs.Keys.{LeadsTo}
 
 -- each posting is found by the concept where it stands
 abbrev pub AreStanding : Index → List PostingRow → Type 0
@@ -24,7 +22,7 @@ StandThroughout index changes t = (k : ℕ) → AreStanding index (all_changed (
 -- Each row is found: a posting by its key and by the concept where it stands, a move by its posting. There may be more places
 -- in the indexes than rows that stand there.
 pub record Covers (x : Indexes) (t : Tables) : Type 0 where
-  pub keys : (i : ℕ) (row : PostingRow) → slice_get t.posting i ≡ Some row → get (slice_cmp nat_cmp) x.keys row.key ≡ Some i
+  pub keys : (i : ℕ) (row : PostingRow) → slice_get t.posting i ≡ Some row → LeadsTo x.keys row.key i
   pub standing : AreStanding x.standing t.posting
   pub moves : (i : ℕ) (row : MoveRow) → slice_get t.move i ≡ Some row → IsAt x.moves row.posting i
 
@@ -35,7 +33,7 @@ IsOtherKey _ key = Unit {0}
 
 -- no place is lost, and these keys lead where they led
 pub record GrowsBy (IsKept : List ℕ → Type 0) (old new : Indexes) : Type 0 where
-  pub keys : (key : List ℕ) → IsKept key → get (slice_cmp nat_cmp) new.keys key ≡ get (slice_cmp nat_cmp) old.keys key
+  pub keys : (key : List ℕ) (i : ℕ) → IsKept key → LeadsTo old.keys key i → LeadsTo new.keys key i
   pub standing : KeepsPlaces old.standing new.standing
   pub moves : KeepsPlaces old.moves new.moves
 
@@ -45,7 +43,7 @@ Grows c old new = GrowsBy (IsOtherKey c) old new
 
 -- the posting is found at this place
 abbrev pub IsReached : Indexes → PostingRow → ℕ → Type 0
-IsReached x row i = (get (slice_cmp nat_cmp) x.keys row.key ≡ Some i) × IsAt x.standing row.place i
+IsReached x row i = LeadsTo x.keys row.key i × IsAt x.standing row.place i
 
 -- what the change makes of a row is found, where a move comes to this place
 abbrev pub Reaches : Indexes → Change → Tables → ℕ → Type 0

@@ -3,6 +3,7 @@ pub mod Causes
 pub mod Covers
 pub mod Handing
 pub mod Index
+pub mod Keys
 pub mod Loading
 pub mod Numbers
 pub mod Picked

@@ -5,9 +5,8 @@ ghost use Rattle.thes_rows.specs.Rows.{Fits, FitAll};
 ghost use Rattle.thes_store.specs.Covers.{Covers, CoversBoth, Reaches, IsReached, Grows, GrowsBy, moves_more};
 
 use crate::index::Index;
+use crate::keys::Keys;
 use std::alloc::{AllocError, Global};
-use std::collections::BTreeMap;
-use thes_base::text::Key;
 use thes_rows::change::Change;
 use thes_rows::rows::PostingRow;
 
@@ -15,7 +14,7 @@ use thes_rows::rows::PostingRow;
 /// told by its place in its table.
 #[derive(Drop)]
 pub struct Indexes {
-    pub keys: BTreeMap<Key, usize>,
+    pub keys: Keys,
     pub standing: Index,
     pub moves: Index,
 }
@@ -24,7 +23,7 @@ impl Indexes {
     /// Makes the indexes of tables without rows.
     pub fn new(alloc: Global) -> Indexes {
         Indexes {
-            keys: BTreeMap::new(alloc),
+            keys: Keys::new(alloc),
             standing: Index::new(alloc),
             moves: Index::new(alloc),
         }
@@ -70,8 +69,7 @@ impl Indexes {
     {
         let place = row.number.get() as usize - 1;
         self.standing.insert(row.place.get(), place)?;
-        self.keys.insert(row.key.try_clone(alloc)?, place)?;
-        Ok(())
+        self.keys.insert(alloc, &row.key, place)
     }
 }
 

@@ -8,6 +8,7 @@ pub mod handing;
 pub mod index;
 pub mod indexes;
 pub mod keeper;
+pub mod keys;
 pub mod mem;
 pub mod sink;
 pub mod slots;

@@ -1,14 +1,17 @@
 //! A keeper in memory.
-ghost use Rattle.std.specs.Prelude.{◌≡◌, ◌++◌, map, slice_get, option_copied, IfOk, IfErr, OnOk};
+ghost use Rattle.std.specs.Prelude.{◌≡◌, ◌≢◌, ◌++◌, ℕ, map, slice_get, option_copied, Some, IfSome, IfNone, IfOk, IfErr, OnOk};
 ghost use Rattle.thes_base.specs.declared.fault.Fault.{Fault};
-ghost use Rattle.thes_rows.specs.Tables.{no_rows, step_of};
+ghost use Rattle.thes_rows.specs.declared.rows.PostingRow.{PostingRow};
+ghost use Rattle.thes_rows.specs.Tables.{IsIn, no_rows, step_of};
+ghost use Rattle.thes_store.specs.Keys.{LeadsTo};
 ghost use Rattle.thes_store.specs.Picked.{is_move_of, passing, picked};
-ghost use Rattle.thes_store.specs.Reading.{is_standing};
+ghost use Rattle.thes_store.specs.Reading.{IsFound, is_standing};
 ghost use Rattle.thes_store.specs.Handing.{Hands};
 
 use crate::handing::hand_all;
 use crate::indexes::{Indexes, cover_all};
 use crate::keeper::{Keeper, Posting};
+use crate::keys::Keys;
 use crate::sink::{PostingSink, RowSink};
 use crate::tables::MemTables;
 use std::alloc::{AllocError, Global};
@@ -73,6 +76,37 @@ fn posting_at(rows: &[PostingRow], place: usize) -> Option<&PostingRow>
     ensures { option_copied result ≡ slice_get rows.now place }
 {
     rows.get(place)
+}
+
+// The row at a place, if there is one and it has the key.
+fn row_with<'a>(rows: &'a [PostingRow], place: Option<usize>, key: &Key) -> Option<&'a PostingRow>
+    ensures some { IfSome result (λ row. IsIn row.now rows.now × (row.now.key ≡ key.now)) }
+    ensures none { IfNone result ((i : ℕ) (row : PostingRow) → place ≡ Some i
+        → slice_get rows.now i ≡ Some row → row.key ≢ key.now) }
+{
+    let row = posting_at(rows, place?)?;
+    if row.key == *key { Some(row) } else { None }
+}
+
+// The row of a key, if there is one, among rows to which their keys lead.
+fn row_found<'a>(rows: &'a [PostingRow], keys: &Keys, key: &Key) -> Option<&'a PostingRow>
+    ensures { ((i : ℕ) (row : PostingRow) → slice_get rows.now i ≡ Some row
+        → LeadsTo keys.now row.key i) → IsFound key.now rows.now (option_copied result) }
+{
+    match row_with(rows, keys.by_number(key), key) {
+        Some(row) => Some(row),
+        None => row_with(rows, keys.by_text(key), key),
+    }
+}
+
+// Copies a row, if there is one.
+fn copied(alloc: Global, row: Option<&PostingRow>) -> Result<Option<PostingRow>, AllocError>
+    ensures { IfOk result (λ copy. copy ≡ option_copied row.entry) }
+{
+    match row {
+        Some(row) => Ok(Some(row.try_clone(alloc)?)),
+        None => Ok(None),
+    }
 }
 
 // The move at a place.
@@ -179,16 +213,8 @@ impl Keeper for MemKeeper {
     }
 
     fn find(&mut self, key: &Key) -> Result<Option<PostingRow>, Fault> {
-        let Some(place) = self.indexes.keys.get(key) else {
-            return Ok(None);
-        };
-        let Some(row) = posting_at(self.tables.posting.as_slice(), *place) else {
-            return Ok(None);
-        };
-        if row.key != *key {
-            return Ok(None);
-        }
-        Ok(Some(row.try_clone(self.alloc)?))
+        let rows = self.tables.posting.as_slice();
+        Ok(copied(self.alloc, row_found(rows, &self.indexes.keys, key))?)
     }
 
     fn posting(&mut self, number: PostNo) -> Result<Option<Posting>, Fault> {

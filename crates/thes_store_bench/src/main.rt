@@ -1,6 +1,7 @@
 //! Times a keeper, for `bench/store`: so many postings as its first word says, a commit each; a merge that moves a tenth of
-//! them; so many look-ups by key and by number as its second word says; and a load. With a third word the
-//! postings and the merge are also made in the new database that it names. It prints what it timed, in microseconds.
+//! them; so many look-ups by key and by number as its second word says; and a load. With a third word the postings and the
+//! merge are made in the new database that it names, where no look-ups are asked for; or the look-ups and the load are made
+//! in the store of so many postings that it names. It prints what it timed, in microseconds.
 //!
 //! For `bench/load`: `load`, how many resources, how many postings, and how often: makes the rows of such a store and as many
 //! cores of them, and prints how many; or `rows` and the same, and it makes the rows alone, and prints how many.
@@ -26,6 +27,7 @@ use thes_base::number::ResNo;
 use thes_base::text::Base;
 use thes_keeping::keeping::{CONCEPTS, merge, post_all};
 use thes_sql::create::create_tables;
+use thes_sqlite::keeper::SqlKeeper;
 use thes_store::keeper::Keeper;
 use thes_store::mem::MemKeeper;
 
@@ -144,6 +146,19 @@ fn time_database(rt: &HostRuntime, posts: u32, path: &str) -> Result<(), Failure
     timed
 }
 
+// Times the look-ups and a load of a store in a file.
+fn time_file(rt: &HostRuntime, posts: u32, looks: u32, path: &str) -> Result<(), Failure> {
+    let conn = Connection::open(rt, path)?;
+    if !conn.is_autocommit() {
+        drop(conn);
+        return Err(Failure::Busy);
+    }
+    let mut keeper = SqlKeeper::adopt(rt.alloc(), conn);
+    let timed = time_reads(rt, &mut keeper, posts, looks);
+    drop(keeper.into_connection());
+    timed
+}
+
 // Makes the rows of a store, and cores of them if they are to be loaded.
 fn make_rows<R: Print + Alloc<A = Global>>(
     rt: &R,
@@ -178,13 +193,17 @@ fn obey(rt: &HostRuntime) -> Result<(), Failure> {
         Some(word) if word.as_str() == "rows" => return make_rows(rt, words.as_slice(), Made::Rows),
         _ => {}
     }
-    let posts = number(words.as_slice(), 1);
-    if posts == 0 {
-        return Ok(());
-    }
+    time_keepers(rt, words.as_slice())
+}
+
+// Times the keeper that the words ask for.
+fn time_keepers(rt: &HostRuntime, words: &[String]) -> Result<(), Failure> {
+    let (posts, looks) = (number(words, 1), number(words, 2));
     match words.get(3) {
-        Some(path) => time_database(rt, posts, path.as_str()),
-        None => time_memory(rt, posts, number(words.as_slice(), 2)),
+        _ if posts == 0 => Ok(()),
+        Some(path) if looks == 0 => time_database(rt, posts, path.as_str()),
+        Some(path) => time_file(rt, posts, looks, path.as_str()),
+        None => time_memory(rt, posts, looks),
     }
 }
 

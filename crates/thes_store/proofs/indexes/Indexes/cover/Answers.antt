@@ -4,7 +4,7 @@ use Rattle.thes_rows.specs.Tables.{Tables, IsIn}
 use Rattle.thes_rows.specs.Rows.{Fits}
 use Rattle.thes_store.specs.declared.indexes.Indexes.{Indexes}
 use Rattle.thes_store.specs.Index.{IsAt}
-use Rattle.thes_store.specs.Covers.{Covers, Reaches}
+use Rattle.thes_store.specs.Covers.{Covers, GrowsBy, IsOtherKey, Reaches}
 use Rattle.thes_store.proofs.indexes.Indexes.cover.Goals as goal
 
 pub returns-in_ok-insert_all-in-MoveAll-clause-reaches : goal.returns-in_ok-insert_all-in-MoveAll-clause-reaches
@@ -15,3 +15,11 @@ returns-in_ok-insert_all-in-MoveAll-clause-reaches c =
     let from = subst (λ n. IsAt c.args.self.now.standing n i) (stands ∙ sym c.get-in-MoveAll.ensures.value) (covers.standing i row at) in
     let listed = subst (IsIn i) (sym c.as_slice.ensures.value) (c.in_ok-places-in-MoveAll.ensures.complete i from) in
     subst (λ n. IsAt c.insert_all.new.self n i) c.get-in-MoveAll-2.ensures.value (c.in_ok-insert_all-in-MoveAll.ensures.ok i listed))
+
+pub returns-in_err-cover_posting-in-AddPosting-clause-grows : goal.returns-in_err-cover_posting-in-AddPosting-clause-grows
+returns-in_err-cover_posting-in-AddPosting-clause-grows c =
+    subst (λ (change : Change). GrowsBy (IsOtherKey change) c.args.self.now c.cover_posting.new.self) (sym c.in-AddPosting.is) c.cover_posting.ensures.grows
+
+pub returns-in_ok-cover_posting-in-AddPosting-clause-grows : goal.returns-in_ok-cover_posting-in-AddPosting-clause-grows
+returns-in_ok-cover_posting-in-AddPosting-clause-grows c =
+    subst (λ (change : Change). GrowsBy (IsOtherKey change) c.args.self.now c.cover_posting.new.self) (sym c.in-AddPosting.is) c.cover_posting.ensures.grows
