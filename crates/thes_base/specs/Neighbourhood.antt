@@ -17,7 +17,7 @@ IsEdited (Add new) n = n ≡ new.a
 IsEdited (Merge source target) n = (n ≡ source) ⊎ (n ≡ target)
 IsEdited (Check pivot) n = n ≡ pivot
 
--- the links that would be
+-- the links after the edit
 abbrev pub links_after : (ℕ → Bool) → Edit → Links → Links
 links_after is_outside (Add new) links = insert links new
 links_after is_outside (Merge source target) links = contracted is_outside source target links
@@ -33,7 +33,7 @@ module _ (is_outside : ℕ → Bool) (edit : Edit) (links : Links) where
   abbrev Would : Link → Type 0
   Would = HeldIn (links_after is_outside edit links)
 
-  -- m is n, above it, below it, or in its class of exact matches, in the links that would be
+  -- m is n, above it, below it, or in its class of exact matches, in the links after the edit
   abbrev pub IsNear : (n m : ℕ) → Type 0
   IsNear n m = (m ≡ n) ⊎ IsAbove Would n m ⊎ IsAbove Would m n ⊎ IsExact Would n m
 

@@ -37,7 +37,7 @@ EndsShown err old new (Err fault) status = Prints err old new (fault_line fault)
 
 module _ {K W : Type 0} (rows : K → Raw) (is_up : K → Type 0) (failed : K → ℕ) (out : W → Option (List ℕ))
     (display : Display) (scheme : ℕ) (tag : List ℕ) where
-  -- The display of the state that the tables show was written, or a front of it. Where the tables can't be had, nothing was.
+  -- The display of the state that the tables show was written, or a front of it. If they can't be read, nothing was.
   abbrev pub ShowsState : Kept K → Pipe W → Pipe W → Result (Unit {0}) Fault → Result Shown PipeFault → Type 0
   ShowsState after output output' (Ok ready) (Ok shown) =
       (is_up after.keeper → InStore (rows after.keeper)

@@ -17,7 +17,7 @@ EndsWritten err old new (Ok done) status = (new ≡ old) × (status ≡ 0)
 EndsWritten err old new (Err fault) status = Prints err old new (fault_line fault) × (status ≡ 3)
 
 module _ {K W : Type 0} (rows : K → Raw) (is_up : K → Type 0) (failed : K → ℕ) (out : W → Option (List ℕ)) where
-  -- The export of the state that the tables show was written, or a front of it. Where the tables can't be had, nothing was.
+  -- The export of the state that the tables show was written, or a front of it. If they can't be read, nothing was.
   abbrev pub WritesState : Kept K → Pipe W → Pipe W → Result (Unit {0}) Fault → Result (Unit {0}) PipeFault → Type 0
   WritesState after output output' (Ok ready) (Ok done) =
       (is_up after.keeper → InStore (rows after.keeper) (λ base s. IsExported out base s output output'))

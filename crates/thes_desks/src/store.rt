@@ -162,7 +162,7 @@ pub fn store_after(alloc: Global, requests: &str) -> io::Result<Store> {
     }
 }
 
-/// Makes the error as which a request that is refused, and any fault, is told.
+/// Makes the error that stands for a refused request, and for any fault.
 pub fn invalid() -> io::Error {
     io::Error::from(io::ErrorKind::InvalidData)
 }

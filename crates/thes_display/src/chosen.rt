@@ -72,7 +72,7 @@ pub(crate) fn labels_in(
     Ok(terms)
 }
 
-/// Where the concepts stand to which links lead.
+/// The side of a concept on which the concepts at the other ends of its links are.
 #[derive(Clone, Copy)]
 pub(crate) enum Side {
     Broader,

@@ -43,7 +43,7 @@ pub fn judge_scheme(core: &Core, scheme: ResNo) -> Option<Refusal>
     }
 }
 
-/// Writes the hierarchical display of a scheme in a language, of the state that the core holds. All memory is had before the
+/// Writes the hierarchical display of a scheme in a language, of the state that the core holds. All memory is allocated before the
 /// first byte is written.
 pub fn hierarchical<W: Write>(
     alloc: Global,
@@ -70,7 +70,7 @@ pub fn hierarchical<W: Write>(
     Ok(Shown::Written)
 }
 
-/// Writes the alphabetical display of a scheme in a language, of the state that the core holds. All memory is had before the
+/// Writes the alphabetical display of a scheme in a language, of the state that the core holds. All memory is allocated before the
 /// first byte is written.
 pub fn alphabetical<W: Write>(
     alloc: Global,

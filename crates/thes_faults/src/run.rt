@@ -13,12 +13,12 @@ pub enum End {
     Done,
     /// Some was answered by the fault, once.
     OutOfMemory,
-    /// Otherwise than may be.
+    /// It ended in a way that is not allowed.
     Wrong,
 }
 
 impl End {
-    /// Tells how what was performed, or stopped by a fault, ended.
+    /// Maps what was performed, or stopped by a fault, to its end.
     pub fn of(ended: Result<(), PipeFault>) -> End {
         match ended {
             Ok(()) => End::Done,

@@ -23,7 +23,7 @@ IsEdited AsHeld p n = p ≡ n
 IsEdited (With new) p n = p ≡ n
 IsEdited (Merged source target) p n = (source ≡ n) ⊎ (p ≡ n)
 
--- These have each held link that has an end at an edited node, or at one above, below or alike it in the links that would be.
+-- These have each held link that has an end at an edited node, or at one above, below or alike it after the edit.
 -- The neighbourhood of the edit has them.
 abbrev pub HasNeighbourhood : Sight → Links → (p : ℕ) → List Link → Type 0
 HasNeighbourhood sight held p ns =

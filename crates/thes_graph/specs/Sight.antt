@@ -1,4 +1,4 @@
--- The links that would be.
+-- The links after an edit.
 use Rattle.std.specs.Prelude.{◌≡◌, ◌≢◌, ◌==◌, ◌+◌, ◌⊎◌, ℕ, List, Contains, if◌then◌else◌, Option, None, Some, [], ◌∷◌, ◌++◌}
 use Rattle.std.specs.List.{filter_map}
 use Rattle.thes_base.specs.declared.data.Link.{Link}
@@ -16,7 +16,7 @@ node_after (Merged source target) n = sent source target n
 abbrev pub becomes : (source target : ℕ) → Link → Option Link
 becomes source target l = if sent source target l.a == sent source target l.b then None else Some (sent_link source target l)
 
--- the links that would be
+-- the links after the edit
 abbrev pub WouldBe : Sight → Links → Link → Type 0
 WouldBe AsHeld held m = HeldIn held m
 WouldBe (With new) held m = HeldIn held m ⊎ (new ≡ m)

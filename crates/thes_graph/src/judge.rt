@@ -1,4 +1,4 @@
-//! Whether the links, or those that would be, keep the rules. Only links near the edit are read: two walks in turn, up and down, and one
+//! Whether the links, or those after an edit, keep the rules. Only links near the edit are read: two walks in turn, up and down, and one
 //! along exact matches find all that the edit can break.
 ghost use Rattle.std.specs.Prelude.{◌≡◌, ◌≢◌, ◌+◌, ◌*◌, ◌≤◌, List, Contains, OnOk, IfOk, length, nat_lt, if◌then◌else◌, ◌&&◌};
 ghost use Rattle.thes_base.specs.declared.data.Link.{Link};
@@ -48,7 +48,7 @@ fn normal<L: Links>(links: &L, link: &Link) -> Link
     in_order(link, links.is_outside(link.a) || links.is_outside(link.b))
 }
 
-// The first rule that the links that would be break by a chain or pair through the pivot.
+// The first rule that the links after the edit break by a chain or pair through the pivot.
 fn probe<L: Links>(
     alloc: Global,
     links: &mut L,

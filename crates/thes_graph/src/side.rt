@@ -53,7 +53,7 @@ pub struct Standing {
     pub link: Link,
 }
 
-/// Between which places the links of a node stand that lead one way from there.
+/// The places of those links of a node that lead one way from there.
 #[derive(Clone, Copy)]
 pub struct Part {
     pub from: usize,

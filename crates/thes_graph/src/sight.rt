@@ -1,4 +1,4 @@
-//! Which links are looked at: those held, or those that would be.
+//! Which links are looked at: those held, or those after an edit.
 ghost use Rattle.std.specs.Prelude.{◌≡◌, IfOk};
 ghost use Rattle.std.specs.List.{filter_map};
 ghost use Rattle.thes_graph.specs.Sight.{becomes, shown};

@@ -28,7 +28,7 @@ fn perform_row<K: Keeper>(office: &mut Office<K>, row: Row) -> Result<Outcome, F
     }
 }
 
-/// Performs a row, and tells it. Memory for its line is had before it is performed.
+/// Performs a row, and reports it. The memory for its line is allocated before.
 pub(crate) fn answer_row<K: Keeper>(
     office: &mut Office<K>,
     row: Row,

@@ -15,7 +15,7 @@ use thes_rows::delta::Delta;
 use thes_rows::rows::{MoveRow, PostingRow};
 use thes_store::keeper::Keeper;
 
-/// At how many concepts the postings stand in turn.
+/// The number of concepts at which the postings stand in turn.
 pub const CONCEPTS: u32 = 10;
 
 /// Makes one change.

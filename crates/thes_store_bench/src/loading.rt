@@ -15,8 +15,8 @@ use thes_store::sink::RowSink;
 /// The number of labels that each resource has.
 const LABELS: u32 = 10;
 
-/// Of how many resources and postings a store is. Each posting has a move; there are as many links as resources, half of
-/// them in a tree.
+/// The numbers of resources and postings of a store. Each posting has a move; there are as many links as resources, half
+/// of them in a tree.
 #[derive(Clone, Copy)]
 pub struct Size {
     pub resources: u32,
