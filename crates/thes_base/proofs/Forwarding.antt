@@ -60,15 +60,15 @@ count_posted key rec concept way hs =
 
 -- Lists of which each number has a property.
 
-each_of : (P Q : ℕ → Type 0) → ((y : ℕ) → P y → Q y) → (xs : List ℕ) → AllByRecursion P xs → AllByRecursion Q xs
+pub each_of : (P Q : ℕ → Type 0) → ((y : ℕ) → P y → Q y) → (xs : List ℕ) → AllByRecursion P xs → AllByRecursion Q xs
 each_of P Q gives [] all = tt
 each_of P Q gives (x ∷ xs) all = (gives x all.0, each_of P Q gives xs all.1)
 
-any_of : (P : ℕ → Type 0) (q : ℕ) (xs : List ℕ) → AllByRecursion P xs → list_any (eqb q) xs ≡ true → P q
+pub any_of : (P : ℕ → Type 0) (q : ℕ) (xs : List ℕ) → AllByRecursion P xs → list_any (eqb q) xs ≡ true → P q
 any_of P q [] all e = absurd (cc)
 any_of P q (x ∷ xs) all e = elim (or_cases _ _ e) [ inl same ↦ subst P (sym (eqb-true q x same)) all.0 | inr rest ↦ any_of P q xs all.1 rest ]
 
-none_twice : IsDistinct eqb []
+pub none_twice : IsDistinct eqb []
 unfolding IsDistinct
 none_twice = tt
 

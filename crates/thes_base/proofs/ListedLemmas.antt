@@ -36,11 +36,11 @@ count_nothing [] = refl
 count_nothing (h ∷ hs) = let a = sum_by-cons (λ (x : History). 0) h hs in let ih = count_nothing hs in omega (arith, a, ih)
 
 -- the histories are numbered onward from this number
-abbrev NumberedFrom : ℕ → List History → Type 0
+abbrev pub NumberedFrom : ℕ → List History → Type 0
 NumberedFrom first [] = Unit {0}
 NumberedFrom first (h ∷ hs) = (h.number ≡ first) × NumberedFrom (first + 1) hs
 
-numbered_from : (first : ℕ) (hs : List History) → ((i : ℕ) (h : History) → slice_get hs i ≡ Some h → h.number ≡ first + i) → NumberedFrom first hs
+pub numbered_from : (first : ℕ) (hs : List History) → ((i : ℕ) (h : History) → slice_get hs i ≡ Some h → h.number ≡ first + i) → NumberedFrom first hs
 numbered_from first [] each = tt
 numbered_from first (h ∷ hs) each = (
   (let e = each 0 h refl in omega (arith, e)),

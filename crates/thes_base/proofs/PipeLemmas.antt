@@ -2,8 +2,8 @@
 use Rattle.std.proofs.Common.{◌≡◌, ℕ, ◌+◌, ◌≤◌, List, ◌++◌, length, take, drop, Option, arith, ◌-◌, length-drop, length-append}
 use Rattle.std.proofs.KnownBytes.{Appends-trans}
 use Rattle.std.proofs.Math.Seq.{take-add, take-append-add}
-use Rattle.std.proofs.lemmas.Grind.{common_steps}
 use Rattle.std.specs.Io.KnownBytes.{Appends}
+use Rattle.std.proofs.lemmas.List.{take_rest}
 use Rattle.thes_base.specs.Pipe.{AppendsFront, calls_of, counted, calls_limit, PaysCalls, KeepsToLimit}
 use Rattle.thes_base.specs.declared.pipe.Pipe.{Pipe}
 
@@ -11,15 +11,11 @@ use Rattle.thes_base.specs.declared.pipe.Pipe.{Pipe}
 pub appends_more : (a b c : Option (List ℕ)) (s : List ℕ) (i n : ℕ) → Appends a b (take i s) → Appends b c (take n (drop i s)) → Appends a c (take (i + n) s)
 appends_more a b c s i n f g = rw (take-add i n s) (Appends-trans a b c (take i s) (take n (drop i s)) f g)
 
--- the rest of a list from i on, as `&s[i..]`, is all of what stands from i on
-pub rest_is : (s : List ℕ) (i : ℕ) → take (length s - i) (drop i s) ≡ drop i s
-rest_is s i = grind (arith, common_steps)
-
 pub within_rest : (s : List ℕ) (i n : ℕ) → i ≤ length s → n ≤ length (take (length s - i) (drop i s)) → i + n ≤ length s
-within_rest s i n h f = let k : length (drop i s) ≡ length s - i = length-drop i s in let g : n ≤ length (drop i s) = rw rest_is at f in omega (arith, k, g)
+within_rest s i n h f = let k : length (drop i s) ≡ length s - i = length-drop i s in let g : n ≤ length (drop i s) = rw take_rest at f in omega (arith, k, g)
 
 pub front_of_rest : (a b : Option (List ℕ)) (s : List ℕ) (i n : ℕ) → Appends a b (take n (take (length s - i) (drop i s))) → Appends a b (take n (drop i s))
-front_of_rest a b s i n f = rw rest_is at f
+front_of_rest a b s i n f = rw take_rest at f
 
 -- a front of the second text, after the whole of the first
 pub appends_front_then : (a b c : Option (List ℕ)) (xs ys : List ℕ) → Appends a b xs → AppendsFront b c ys → AppendsFront a c (xs ++ ys)
@@ -37,7 +33,7 @@ pub record HasLeft {R W : Type 0} (reader reader' : Pipe R) (writer writer' : Pi
   pub read : calls_of reader' ≡ counted (calls_of reader) reads
   pub wrote : calls_of writer' ≡ counted (calls_of writer) writes
 
-counted_more : (calls m n : ℕ) → counted (counted calls m) n ≡ counted calls (m + n)
+pub counted_more : (calls m n : ℕ) → counted (counted calls m) n ≡ counted calls (m + n)
 counted_more calls m n = omega arith
 
 pub all_left : {R W : Type 0} (reader : Pipe R) (writer : Pipe W) (left : ℕ) → left ≡ calls_limit → HasLeft reader reader writer writer left

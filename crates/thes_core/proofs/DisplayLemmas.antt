@@ -1,6 +1,7 @@
 -- A link within a scheme joins live concepts of one scheme.
-use Rattle.std.proofs.Common.{◌≡◌, ◌∙◌, sym, ap, subst, ℕ, List, Some, ◌↔◌}
+use Rattle.std.proofs.Common.{◌≡◌, ◌∙◌, sym, ap, subst, ℕ, List, ◌↔◌}
 use Rattle.std.proofs.lemmas.Bool.{and_from}
+use Rattle.std.proofs.lemmas.Option.{same_Some}
 use Rattle.thes_base.specs.declared.data.Resource.{Resource}
 use Rattle.thes_base.specs.declared.data.LinkKind.{LinkKind}
 use Rattle.thes_base.specs.declared.data.LinkForm.TheVariants.{Within}
@@ -13,13 +14,10 @@ use Rattle.thes_base.specs.Views.{HasLink}
 use Rattle.thes_vocab.specs.Vocabulary.{IsConceptOf}
 use Rattle.thes_core.specs.Kept.{Kept, Holds, with_histories}
 
-one_resource : (r q : Resource) → Some r ≡ Some q → r ≡ q
-one_resource r q e = cc
-
 module _ (s : State) (base : List ℕ) (legal : Legal base s) where
   live_concept : (n : ℕ) → IsConcept s.resources n → IsLive s.resources n → IsLiveConcept s.resources n
   live_concept n (r, at, kind) (q, at_q, live) =
-      let same = one_resource q r (sym at_q ∙ at) in
+      let same = same_Some q r (sym at_q ∙ at) in
       (r, at, and_from (is_concept_kind r.kind) r.live kind (sym (ap (λ (x : Resource). x.live) same) ∙ live))
 
   pub within : (scheme : ℕ) (kind : LinkKind) (a b : ℕ) → form_of kind ≡ Within → HasLink s.links kind a b → IsConceptOf s.resources scheme a ↔ IsConceptOf s.resources scheme b

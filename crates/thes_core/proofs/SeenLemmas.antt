@@ -1,35 +1,19 @@
 -- Links that are gathered, each once.
-use Rattle.std.proofs.Common.{◌≡◌, ◌⊎◌, ◌↔◌, ◌≤◌, inl, inr, ℕ, zero, suc, length, List, [], ◌∷◌, ◌++◌, refl, sym, ap, ◌∙◌, subst, arith, Bool, true, false, cond, take}
+use Rattle.std.proofs.Common.{◌≡◌, ◌⊎◌, ◌↔◌, inl, inr, List, [], ◌∷◌, ◌++◌, refl, sym, ap, ◌∙◌, subst, Bool, true, false, cond}
 use Rattle.std.specs.Prelude.{Some, Option}
 use Rattle.std.specs.declared.cmp.Ordering.{Ordering}
-use Rattle.std.specs.Ordering.{is_eq, nat_cmp, ordering_then}
+use Rattle.std.specs.Ordering.{is_eq}
 use Rattle.std.specs.Cmp.{tied_itself}
 use Rattle.std.specs.BTreeMap.{is_at}
 use Rattle.std.specs.BTreeSet.{BTreeSet, contains}
 use Rattle.std.proofs.lemmas.Bool.{cases_Bool}
 use Rattle.std.proofs.lemmas.Option.{same_Some}
 use Rattle.thes_base.specs.declared.data.Link.{Link}
-use Rattle.thes_base.specs.declared.data.LinkKind.{LinkKind}
-use Rattle.thes_base.specs.declared.data.LinkKind.TheVariants.{Broader}
-use Rattle.thes_base.specs.contracts.data.LinkOrd.TheImpl as link
-use Rattle.thes_base.specs.contracts.data.LinkKindOrd.TheImpl as kind
-use Rattle.thes_base.specs.Links.{link_cmp, link_kind_no}
+use Rattle.thes_base.specs.Links.{link_cmp}
 use Rattle.thes_base.proofs.LinkSets.{links_total, links_exact}
 use Rattle.thes_rows.specs.Tables.{IsIn, Lists}
 use Rattle.thes_rows.proofs.Sets.{clash, in_append, append_left, append_right, lists_push, tied}
-
-same_kinds : (j k : LinkKind) → kind.ghosts.cmp j k ≡ nat_cmp (link_kind_no j) (link_kind_no k)
-same_kinds Broader Broader = refl
-same_kinds Broader _ = refl
-same_kinds _ Broader = refl
-same_kinds _ _ = refl
-
--- links are compared as their set has them
-abbrev computed : Link → Link → Ordering
-computed = link.ghosts.cmp
-
-computed_is : computed ≡ link_cmp
-computed_is = λ i x y. ordering_then (same_kinds x.kind y.kind i) (ordering_then (nat_cmp x.a y.a) (nat_cmp x.b y.b))
+use Rattle.thes_graph.proofs.LinkOrderLemmas.{computed, computed_is}
 
 pub was_new : (seen : BTreeSet Link) (new : Link) → contains computed seen new ≡ false → contains link_cmp seen new ≡ false
 was_new seen new e = let P : (Link → Link → Ordering) → Type 0 = λ cmp. contains cmp seen new ≡ false in subst P computed_is e
@@ -74,13 +58,6 @@ gains_push links new q = (
 
 pub gains_there : (links : List Link) (new q : Link) → IsIn new links → IsIn q links ↔ (IsIn q links ⊎ (q ≡ new))
 gains_there links new q there = (inl, λ h. elim h [ inl old ↦ old | inr e ↦ (let Q : Link → Type 0 = λ x. IsIn x links in subst Q (sym e) there) ])
-
--- all of a list
-pub take_past : {A : Type 0} (xs : List A) (i : ℕ) → length xs ≤ i → take i xs ≡ xs
-take_past [] zero l = refl
-take_past [] (suc i) l = refl
-take_past (y ∷ xs) zero l = absurd (omega (arith, l))
-take_past {A} (y ∷ xs) (suc i) l = ap (λ (l : List A). y ∷ l) (take_past xs i (omega (arith, l)))
 
 -- What is made of links.
 module _ (make : Link → Option Link) where

@@ -1,5 +1,7 @@
-//! Readers and writers for tests: they give or take few bytes a call, are interrupted, and fail.
+//! Readers and writers for tests: they give or take few bytes a call, are interrupted, and fail. And numbers for tests.
 #![tactic(auto)]
+
+pub mod numbers;
 
 ghost use Rattle.std.specs.Prelude.{Some};
 

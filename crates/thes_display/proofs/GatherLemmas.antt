@@ -1,9 +1,9 @@
 -- What is gathered is a hierarchy, and its lines are those of the display.
-use Rattle.std.proofs.Common.{◌≡◌, ◌∙◌, ◌⊎◌, ◌<◌, ◌≤◌, sym, ap, refl, subst, ℕ, Bool, true, false, List, [], ◌∷◌, length, Option, Some, arith, inl, inr}
+use Rattle.std.proofs.Common.{◌≡◌, ◌∙◌, ◌⊎◌, ◌<◌, ◌≤◌, sym, ap, refl, subst, ℕ, Bool, true, false, List, [], ◌∷◌, length, Option, arith, inl, inr}
 use Rattle.std.specs.Prelude.{Contains}
 use Rattle.std.specs.Option.{option_map_or}
 use Rattle.std.specs.List.Sorted.{IsStrictlySortedBy}
-use Rattle.std.proofs.lemmas.Option.{slice_get_within, slice_get_past}
+use Rattle.std.proofs.lemmas.Option.{slice_get_within, slice_get_past, same_Some}
 use Rattle.std.proofs.lemmas.Bool.{cases_lt}
 use Rattle.std.specs.FinSet.{contains}
 use Rattle.thes_base.specs.Links.{Links}
@@ -43,11 +43,8 @@ module _ (T : ℕ → Type 0) (H A : ℕ → ℕ → Type 0) (Y : Types → ℕ 
   pub line_as : (l : Line) → IsLine T H A Y l → IsLine T' H' A' Y' l
   line_as l p = (placed l.at_home (l.key ∷ l.above) p.0, typed l.types l.at_home (l.key ∷ l.above) p.0 p.1)
 
-one_term : (x y : Term) → Some x ≡ Some y → x ≡ y
-one_term x y e = cc
-
 pub one_concept : (terms : List Term) (m n k : ℕ) → HasKey terms m k → HasKey terms n k → m ≡ n
-one_concept terms m n k g h = sym g.concept ∙ ap (λ (t : Term). t.concept) (one_term g.term h.term (sym g.stands ∙ h.stands)) ∙ h.concept
+one_concept terms m n k g h = sym g.concept ∙ ap (λ (t : Term). t.concept) (same_Some g.term h.term (sym g.stands ∙ h.stands)) ∙ h.concept
 
 pub key_within : (terms : List Term) (n k : ℕ) → HasKey terms n k → k < length terms
 key_within terms n k h = slice_get_within terms k h.term h.stands

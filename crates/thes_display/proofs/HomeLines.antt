@@ -1,7 +1,7 @@
 -- Each concept of a legal state has one line at home: its way home ends at a top, since nothing is above itself.
-use Rattle.std.proofs.Common.{◌≡◌, ◌⊎◌, ◌∙◌, ◌<◌, ◌≤◌, ◌+◌, sym, ap, refl, subst, ℕ, zero, suc, Bool, true, false, ◌||◌, List, [], ◌∷◌, ◌++◌, length, get_or, arith, eqb, eqb-true, ne_eqb, true≢false, ⊎_elim, inl, inr}
+use Rattle.std.proofs.Common.{◌≡◌, ◌⊎◌, ◌∙◌, ◌<◌, ◌≤◌, ◌+◌, sym, ap, refl, subst, ℕ, zero, suc, Bool, true, false, ◌||◌, List, [], ◌∷◌, ◌++◌, length, get_or, arith, eqb, ne_eqb, true≢false, ⊎_elim, inl, inr}
 use Rattle.std.specs.FinSet.{contains}
-use Rattle.std.specs.List.{AllByRecursion, IsDistinct, list_any}
+use Rattle.std.specs.List.{AllByRecursion, IsDistinct}
 use Rattle.std.proofs.lemmas.Bool.{cases_lt, or_cases, or_left, or_right}
 use Rattle.std.proofs.lemmas.Map.Keys.{IsDistinct-cons}
 use Rattle.std.proofs.lemmas.Map.Steps.{length-le_from_distinct_below}
@@ -12,6 +12,7 @@ use Rattle.thes_base.specs.Links.{Chain, HeldIn, IsAbove, Leads, Links, NoCycle,
 use Rattle.thes_base.specs.Links as links_of
 use Rattle.thes_base.specs.Listing.{IsListing}
 use Rattle.thes_base.specs.Views.{HasBroader}
+use Rattle.thes_base.proofs.Forwarding.{each_of, any_of, none_twice}
 use Rattle.thes_core.proofs.DisplayLemmas.{within}
 use Rattle.thes_display.specs.declared.walk.Types.{Types}
 use Rattle.thes_display.specs.Order.{Term}
@@ -84,18 +85,6 @@ path_then : (S : ℕ → ℕ → Type 0) (x : ℕ) (ms : List ℕ) (y z : ℕ) �
 path_then S x [] y z p q = (p, q)
 path_then S x (m ∷ ms) y z p q = (p.0, path_then S m ms y z p.1 q)
 
-each_as : (P Q : ℕ → Type 0) → ((y : ℕ) → P y → Q y) → (xs : List ℕ) → AllByRecursion P xs → AllByRecursion Q xs
-each_as P Q f [] all = tt
-each_as P Q f (x ∷ xs) all = (f x all.0, each_as P Q f xs all.1)
-
-found_in : (P : ℕ → Type 0) (q : ℕ) (xs : List ℕ) → AllByRecursion P xs → list_any (eqb q) xs ≡ true → P q
-found_in P q [] all e = absurd (cc)
-found_in P q (x ∷ xs) all e = elim (or_cases _ _ e) [ inl same ↦ subst P (sym (eqb-true q x same)) all.0 | inr rest ↦ found_in P q xs all.1 rest ]
-
-none_twice : IsDistinct eqb []
-unfolding IsDistinct
-none_twice = tt
-
 nothing : Term
 nothing = record { text = []; concept = 0 }
 
@@ -158,7 +147,7 @@ module _ (links : Links) (terms : List Term) (shut : IsClosed links terms) (cycl
   Homeward = IsHomeward (IsTop links terms) (IsHome links terms) (IsAway links terms) (AreTypes links terms)
 
   apart : (k : ℕ) (seen : List ℕ) → AllByRecursion (IsUp k) seen → AllByRecursion (λ y. eqb k y ≡ false) seen
-  apart k = each_as (IsUp k) (λ y. eqb k y ≡ false) (λ y up. ne_eqb k y (λ same. cycle.none (concept_of y) (subst (λ z. IsAbove (HeldIn links) (concept_of y) (concept_of z)) same up.1)))
+  apart k = each_of (IsUp k) (λ y. eqb k y ≡ false) (λ y up. ne_eqb k y (λ same. cycle.none (concept_of y) (subst (λ z. IsAbove (HeldIn links) (concept_of y) (concept_of z)) same up.1)))
 
   way_from : (k : ℕ) → IsTop links terms k ⊎ ((b : ℕ) × IsHome links terms k b) → ((b : ℕ) → IsHome links terms k b → (up : List ℕ) × Homeward (b ∷ up)) → (up : List ℕ) × Homeward (k ∷ up)
   way_from k (inl top) next = ([], top)
@@ -168,12 +157,12 @@ module _ (links : Links) (terms : List Term) (shut : IsClosed links terms) (cycl
   climb : (m : ℕ) (seen : List ℕ) (k : ℕ) → k < length terms → AllByRecursion (IsUp k) seen → IsDistinct eqb seen → length seen + m ≡ length terms → (up : List ℕ) × Homeward (k ∷ up)
   climb zero seen k l ups distinct e =
       let most = length-le_from_distinct_below (k ∷ seen) (length terms) (IsDistinct-cons eqb k seen (apart k seen ups) distinct)
-      (λ q has. found_in (λ y. y < length terms) q (k ∷ seen) (l, each_as (IsUp k) (λ y. y < length terms) (λ y up. up.0) seen ups) has) in
+      (λ q has. any_of (λ y. y < length terms) q (k ∷ seen) (l, each_of (IsUp k) (λ y. y < length terms) (λ y up. up.0) seen ups) has) in
       absurd (omega (arith, most, e))
   climb (suc m) seen k l ups distinct e = way_from k (top_or_home k l) (λ b home.
       let r = home.broader in
       climb m (k ∷ seen) b (key_within terms r.upper b r.upper_key)
-      ((l, ([], step k b r)), each_as (IsUp k) (IsUp b) (λ j up. up_then k b j r up) seen ups)
+      ((l, ([], step k b r)), each_of (IsUp k) (IsUp b) (λ j up. up_then k b j r up) seen ups)
       (IsDistinct-cons eqb k seen (apart k seen ups) distinct) (omega (arith, e)))
 
   pub way_home : (k : ℕ) → k < length terms → (up : List ℕ) × Homeward (k ∷ up)

@@ -12,7 +12,7 @@ use Rattle.thes_base.specs.Views.{Tagged, tagged_cmp}
 use Rattle.thes_display.specs.Chosen.{IsLabelTerm}
 use Rattle.thes_display.specs.Order.{Term, term_cmp}
 use Rattle.thes_display.proofs.OrderLemmas.{term_total}
-use Rattle.thes_display.proofs.TermLemmas.{second_ties}
+use Rattle.thes_display.proofs.TermLemmas.{second_ties, same_term}
 use Rattle.thes_display.proofs.HeadingLemmas.{first_ties}
 use Rattle.thes_display.proofs.SortLemmas.{relisted}
 use Rattle.thes_display.proofs.WalkLemmas.{Among, among, contains_of, among_append, among_left, among_right}
@@ -46,9 +46,6 @@ module _ (n : ℕ) (tag : List ℕ) (all : List Tagged) where
       (λ z p. ⊎_elim (λ old. inl (p.0, (p.1.0, old, p.1.2, p.1.3))) (λ last. ⊎_elim (λ same. inr (same_term z t (sym p.1.3 ∙ ap (λ (y : Tagged). y.text) same ∙ sym g) (p.0 ∙ sym h))) (λ no. absurd no) last) (among_append p.1.0 (take i all) (x ∷ []) (subst (Among p.1.0) e p.1.1)))
       (λ z p. later i x z e p)
       (h, (x, subst (Among x) (sym e) (among_right x (take i all) (x ∷ []) (inl refl)), f, sym g))
-    where
-      same_term : (x y : Term) → x.text ≡ y.text → x.concept ≡ y.concept → x ≡ y
-      same_term x y a b = λ i. record { text = a i; concept = b i }
 
   pub labels_skip : (i : ℕ) (x : Tagged) (terms new : List Term) → take (i + 1) all ≡ take i all ++ x ∷ [] → (x.tag ≡ tag → ⊥) → IsListing by_text (IsOne (take i all)) terms → new ≡ terms → IsListing by_text (IsOne (take (i + 1) all)) new
   labels_skip i x terms new e other l k =

@@ -3,7 +3,7 @@ use Rattle.std.proofs.Common.{◌≡◌, ◌∙◌, ◌<◌, ◌≤◌, ◌+◌,
 use Rattle.std.specs.Prelude.{slice_get, is_some, not}
 use Rattle.std.specs.Ordering.{nat_cmp}
 use Rattle.std.proofs.lemmas.Bool.{cases_lt}
-use Rattle.std.proofs.lemmas.Option.{slice_get_within, slice_get-get_or}
+use Rattle.std.proofs.lemmas.Option.{slice_get_within, slice_get-get_or, same_Some}
 use Rattle.thes_base.specs.Links.{Links}
 use Rattle.thes_base.specs.Listing.{IsListing}
 use Rattle.thes_display.specs.declared.walk.Child.{Child}
@@ -38,15 +38,12 @@ module _ (homes : List (Option ℕ)) where
         (cases_lt c.key m));
   })
 
-  one_of : (x y : Option ℕ) → Some x ≡ Some y → x ≡ y
-  one_of x y e = cc
-
   pub tops_skip : (m j : ℕ) (tops : List Child) → AreTops homes m tops → slice_get homes m ≡ Some (Some j) → AreTops homes (m + 1) tops
   tops_skip m j tops t h = record {
     rises = t.rises;
     sound = λ c a. let r = t.sound c a in (r.0, let l = r.1 in omega arith);
     complete = λ c i. ⊎_elim (λ old. t.complete c (i.0, old))
-        (λ last. let l = i.1 in let k : c.key ≡ m = omega (arith, l, last) in let f : Some None ≡ Some (Some j) = sym i.0.1 ∙ ap (slice_get homes) k ∙ h in let g : None ≡ Some j = one_of None (Some j) f in absurd (cc))
+        (λ last. let l = i.1 in let k : c.key ≡ m = omega (arith, l, last) in let f : Some None ≡ Some (Some j) = sym i.0.1 ∙ ap (slice_get homes) k ∙ h in let g : None ≡ Some j = same_Some None (Some j) f in absurd (cc))
         (cases_lt c.key m);
   }
 

@@ -22,13 +22,8 @@ use thes_base::number::ResNo;
 use thes_base::text::Tag;
 use thes_core::Core;
 
-/// Lists the live concepts of a scheme under their terms, in alphabetical order.
-pub fn terms_of(
-    alloc: Global,
-    core: &Core,
-    scheme: ResNo,
-    tag: &Tag,
-) -> Result<Vec<Term>, AllocError>
+// Lists the live concepts of a scheme under their terms, in alphabetical order.
+fn terms_of(alloc: Global, core: &Core, scheme: ResNo, tag: &Tag) -> Result<Vec<Term>, AllocError>
     requires { core.now.spent ≡ false }
     ensures terms { (s : State) → Holds core.now s →
         IfOk result (λ terms. AreTerms s scheme tag.now terms.items) }
@@ -40,8 +35,8 @@ pub fn terms_of(
     Ok(terms)
 }
 
-/// Maps each concept to its key.
-pub fn keys_of(alloc: Global, terms: &[Term]) -> Result<BTreeMap<ResNo, usize>, AllocError>
+// Maps each concept to its key.
+fn keys_of(alloc: Global, terms: &[Term]) -> Result<BTreeMap<ResNo, usize>, AllocError>
     requires { HaveOneKey terms.now }
     ensures { IfOk result (λ keys. AreKeys terms.now (get nat_cmp keys)) }
 {

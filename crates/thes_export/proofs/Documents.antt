@@ -1,9 +1,10 @@
 -- The lines of triples, one after another, have one reading as a document: those triples.
 use Rattle.std.proofs.Common.{◌≡◌, ◌∙◌, sym, ap, refl, subst, ℕ, List, [], ◌∷◌, ◌++◌, map, arith, inl, inr, ⊎_elim}
+use Rattle.std.proofs.lemmas.List.Elements.{All-head}
 use Rattle.thes_base.specs.Triples.{Triple}
 use Rattle.thes_export.specs.NTriples.{Statement, IsBlank, IsEolByte, IsEol, IsSpaced, IsSubject, IsTriple, IsLineEnd, IsTail, IsDocument}
 use Rattle.thes_export.specs.Spelling.{statement_of}
-use Rattle.thes_export.proofs.Terminals.{head_of, tail_of, apart, all_head, unspaced}
+use Rattle.thes_export.proofs.Terminals.{head_of, tail_of, apart, unspaced}
 use Rattle.thes_export.proofs.Writable.{IsWritable}
 use Rattle.thes_export.proofs.Readings.{line_then, not_blank, line_same}
 
@@ -27,7 +28,7 @@ one_eol (b ∷ c ∷ eol) rest text x formed spelled e stops = absurd (stops c (
 
 no_eol : (eol rest text : List ℕ) (c : ℕ) (x : List ℕ) → IsEol eol → text ≡ eol ++ rest → text ≡ c ∷ x → ¬ IsEolByte c → ⊥
 no_eol [] rest text c x formed spelled e stops = let l = formed.0 in omega arith
-no_eol (b ∷ eol) rest text c x formed spelled e stops = stops (subst IsEolByte (head_of _ _ _ _ (sym spelled ∙ e)) (all_head IsEolByte b eol formed.1))
+no_eol (b ∷ eol) rest text c x formed spelled e stops = stops (subst IsEolByte (head_of _ _ _ _ (sym spelled ∙ e)) (All-head IsEolByte b eol formed.1))
 
 no_eol_empty : (eol rest text : List ℕ) → IsEol eol → text ≡ eol ++ rest → text ≡ [] → ⊥
 no_eol_empty [] rest text formed spelled e = let l = formed.0 in omega arith

@@ -4,12 +4,13 @@ use borrow.Author.Tests.{eqb-false}
 use Rattle.std.specs.List.{concat}
 use Rattle.std.specs.List.Retain.{DiffersFromLast, IsFiltered}
 use Rattle.std.specs.List.Sorted.{IsStrictlySortedBy}
-use Rattle.std.specs.Cmp.Lexicographic.{pointwise, bytes_decides, nat_list_cmp_total, nat_list_eq_equiv, texts_ties}
+use Rattle.std.specs.Cmp.Lexicographic.{pointwise, bytes_decides, nat_list_cmp_total, nat_list_eq_equiv, texts_ties, slice_cmp}
 use Rattle.std.proofs.lemmas.List.{append-nil, take_more}
 use Rattle.std.proofs.lemmas.List.Folds.{concat-append}
 use Rattle.std.proofs.lemmas.List.Filters.{dedup_is}
 use Rattle.std.proofs.lemmas.List.Kept.{Contains-dedup, Contains-from_dedup, IsStrictlySortedBy-dedup}
 use Rattle.std.proofs.lemmas.List.Sorted.{Contains-permutation, IsPermutation-sym}
+use Rattle.std.specs.Ordering.{nat_cmp}
 use Rattle.thes_base.specs.Legal.{Legal}
 use Rattle.thes_base.specs.Listing.{IsListing}
 use Rattle.thes_base.specs.State.{State}
@@ -17,7 +18,7 @@ use Rattle.thes_base.specs.Triples.{Triple}
 use Rattle.thes_base.proofs.ListMembers.{Contains-none}
 use Rattle.thes_base.proofs.NumberedLemmas.{numbered_bound}
 use Rattle.thes_core.specs.Kept.{Kept, Holds, with_histories}
-use Rattle.thes_export.specs.Export.{IsExport, IsTripleLine, bytes_cmp}
+use Rattle.thes_export.specs.Export.{IsExport, IsTripleLine}
 use Rattle.thes_export.specs.Spelling.{line_of}
 use Rattle.thes_export.specs.Topics.{Adds, IsAbout, IsLineOf, IsUpTo}
 use Rattle.thes_export.proofs.AddedLemmas.{added_then, no_lines}
@@ -41,11 +42,11 @@ one_up core i old mid new =
 
 -- Sorting.
 
-pub sorted_listing : (xs ys zs : List (List ℕ)) → IsPermutation xs ys → IsSorted bytes_cmp ys → IsFiltered (DiffersFromLast (pointwise nat_eq)) [] ys zs → IsListing bytes_cmp (Contains xs) zs
+pub sorted_listing : (xs ys zs : List (List ℕ)) → IsPermutation xs ys → IsSorted (slice_cmp nat_cmp) ys → IsFiltered (DiffersFromLast (pointwise nat_eq)) [] ys zs → IsListing (slice_cmp nat_cmp) (Contains xs) zs
 sorted_listing xs ys zs moved sorted filtered =
     let is = dedup_is (pointwise nat_eq) ys zs filtered in
     record {
-      rises = subst (IsStrictlySortedBy bytes_cmp) (sym is) (IsStrictlySortedBy-dedup nat_list_cmp_total texts_ties ys sorted);
+      rises = subst (IsStrictlySortedBy (slice_cmp nat_cmp)) (sym is) (IsStrictlySortedBy-dedup nat_list_cmp_total texts_ties ys sorted);
       sound = λ l c. Contains-permutation ys xs l (IsPermutation-sym xs ys moved) (Contains-from_dedup (pointwise nat_eq) ys l (subst (λ ws. Contains ws l) is c));
       complete = λ l c. subst (λ ws. Contains ws l) (sym is) (Contains-dedup nat_list_eq_equiv (λ x y e. (bytes_decides x y).0 e) ys l (Contains-permutation xs ys l moved c));
     }
@@ -58,7 +59,7 @@ joined_more xs i x old new below at so_far more =
 
 -- The export.
 
-module _ (core : Kept) (s : State) (holds : Holds core s) (gathered lines : List (List ℕ)) (added : Adds (IsLineOf (IsUpTo core (length core.resources))) [] gathered) (sorted : IsListing bytes_cmp (Contains gathered) lines) where
+module _ (core : Kept) (s : State) (holds : Holds core s) (gathered lines : List (List ℕ)) (added : Adds (IsLineOf (IsUpTo core (length core.resources))) [] gathered) (sorted : IsListing (slice_cmp nat_cmp) (Contains gathered) lines) where
   abbrev base : List ℕ
   base = core.setting.base
 

@@ -1,11 +1,12 @@
 -- A text in the one spelling has one reading as a document, whatever the grammar allows besides.
 use Rattle.std.proofs.Common.{◌≡◌, ◌⊎◌, ◌∙◌, sym, ap, refl, subst, ℕ, List, [], ◌∷◌, ◌++◌, All, arith, inl, inr, ⊎_elim}
 use Rattle.std.specs.Prelude.{codes, flat_map}
+use Rattle.std.proofs.lemmas.List.Elements.{All-head}
 use Rattle.thes_base.specs.Forms.{IsIriByte}
 use Rattle.thes_base.specs.Triples.{Triple, Object, Node, Class, Literal, True}
 use Rattle.thes_export.specs.NTriples.{Term, Iri, Tagged, Typed, Statement, string_type, IsBlank, IsGap, IsIriref, IsLangtag, IsSpaced, IsTypedAs, IsTaggedAs, IsLiteral, IsSubject, IsObject, IsTriple}
 use Rattle.thes_export.specs.Spelling.{xsd, escaped, statement_of, term_of, property_iri, class_iri}
-use Rattle.thes_export.proofs.Terminals.{tail_of, apart, all_head, unspaced, past_space, iriref_same, quoted_same, IsTagByte, Stops, run_same, tag_bytes}
+use Rattle.thes_export.proofs.Terminals.{tail_of, apart, unspaced, past_space, iriref_same, quoted_same, IsTagByte, Stops, run_same, tag_bytes}
 use Rattle.thes_export.proofs.Writable.{IsTagForm, IsWritableObject, IsWritable, class_bytes, property_bytes, boolean_bytes}
 
 pub not_blank : (c : ℕ) → (c ≡ 32 → ⊥) → (c ≡ 9 → ⊥) → ¬ IsBlank c
@@ -39,7 +40,7 @@ literal_object text inner other rest e known (inr literal) = known literal
 
 stops_gap : (gap x : List ℕ) → IsGap gap → Stops (gap ++ 46 ∷ x)
 stops_gap [] x blank = λ is. omega arith
-stops_gap (b ∷ gap) x blank = λ is. elim (all_head IsBlank b gap blank) [ inl e ↦ omega arith | inr e ↦ omega arith ]
+stops_gap (b ∷ gap) x blank = λ is. elim (All-head IsBlank b gap blank) [ inl e ↦ omega arith | inr e ↦ omega arith ]
 
 -- a tag's bytes
 form_bytes : (tag : List ℕ) → IsTagForm tag → All IsTagByte tag

@@ -1,12 +1,12 @@
 -- The one spelling of triples is a document of them.
 use Rattle.std.proofs.Common.{◌≡◌, ◌∙◌, sym, ap, refl, subst, ℕ, ◌≤◌, List, [], ◌∷◌, ◌++◌, map, All, arith, inl, inr, append_assoc}
 use Rattle.std.specs.Prelude.{codes, flat_map}
-use Rattle.std.proofs.lemmas.List.Elements.{All-cons, All-nil}
+use Rattle.std.proofs.lemmas.List.Elements.{All-cons, All-nil, All-head, All-tail}
 use Rattle.thes_base.specs.Forms.{IsIriByte}
 use Rattle.thes_base.specs.Triples.{Triple, Object, Node, Class, Literal, True}
 use Rattle.thes_export.specs.NTriples.{IsBlank, IsEolByte, IsEchar, Piece, Plain, Echar, piece_text, piece_value, IsIriPiece, IsStringPiece, IsMadeOf, IsIriref, IsQuoted, IsLangtag, IsSpaced, IsObject, IsTriple, IsLineEnd, IsEolThen, IsTail, IsDocument}
 use Rattle.thes_export.specs.Spelling.{xsd, escaped, object_text, line_of, statement_of, term_of, property_iri, class_iri}
-use Rattle.thes_export.proofs.Terminals.{all_head, all_tail, IsSpecial, spelled_byte, special_value}
+use Rattle.thes_export.proofs.Terminals.{IsSpecial, spelled_byte, special_value}
 use Rattle.thes_export.proofs.Writable.{IsTagForm, IsTextByte, IsWritableObject, IsWritable, class_bytes, property_bytes, boolean_bytes}
 use Rattle.thes_export.proofs.Readings.{object_then, line_then}
 use Rattle.thes_export.proofs.Documents.{AllWritable, lines_text, document_same}
@@ -16,10 +16,10 @@ use Rattle.thes_export.proofs.Documents.{AllWritable, lines_text, document_same}
 iri_made : (iri : List ℕ) → All IsIriByte iri → IsMadeOf IsIriPiece iri iri
 iri_made [] each = record { pieces = []; each = All-nil IsIriPiece; text = refl; read = refl }
 iri_made (b ∷ iri) each =
-    let more = iri_made iri (all_tail IsIriByte b iri each) in
+    let more = iri_made iri (All-tail IsIriByte b iri each) in
     record {
       pieces = Plain b ∷ more.pieces;
-      each = All-cons IsIriPiece (Plain b) more.pieces (all_head IsIriByte b iri each) more.each;
+      each = All-cons IsIriPiece (Plain b) more.pieces (All-head IsIriByte b iri each) more.each;
       text = ap (λ l. b ∷ l) more.text;
       read = ap (λ l. b ∷ l) more.read;
     }
@@ -47,8 +47,8 @@ by_piece b fine = elim (spelled_byte b) [
 string_made : (text : List ℕ) → All IsTextByte text → IsMadeOf IsStringPiece (flat_map escaped text) text
 string_made [] each = record { pieces = []; each = All-nil IsStringPiece; text = refl; read = refl }
 string_made (b ∷ text) each =
-    let one = by_piece b (all_head IsTextByte b text each) in
-    let more = string_made text (all_tail IsTextByte b text each) in
+    let one = by_piece b (All-head IsTextByte b text each) in
+    let more = string_made text (All-tail IsTextByte b text each) in
     record {
       pieces = one.piece ∷ more.pieces;
       each = All-cons IsStringPiece one.piece more.pieces one.fine more.each;

@@ -1,9 +1,9 @@
 -- Terminals in the one spelling have one reading, whatever the grammar allows besides.
-use Rattle.std.proofs.Common.{◌≡◌, ◌⊎◌, ◌∙◌, sym, ap, refl, subst, ℕ, suc, ◌==◌, Bool, true, false, List, [], ◌∷◌, ◌++◌, All, arith, inl, inr, ⊎_elim, rules}
+use Rattle.std.proofs.Common.{◌≡◌, ◌⊎◌, ◌∙◌, sym, ap, refl, subst, ℕ, ◌==◌, Bool, true, false, List, [], ◌∷◌, ◌++◌, All, arith, inl, inr, ⊎_elim, rules}
 use Rattle.std.specs.Prelude.{codes, flat_map}
 use Rattle.std.specs.List.{list_any}
 use borrow.Author.Tests.{eqb-true, eqb-false}
-use Rattle.std.proofs.lemmas.List.Elements.{All-cons, All-append}
+use Rattle.std.proofs.lemmas.List.Elements.{All-cons, All-append, All-head, All-tail}
 use Rattle.std.specs.Char.{IsAsciiAlphabetic, IsAsciiAlphanumeric}
 use Rattle.thes_base.specs.Forms.{IsIriByte}
 use Rattle.thes_export.specs.NTriples.{IsBlank, IsGap, Piece, Plain, Echar, Uchar, piece_text, piece_value, IsUchar, escaped_value, IsIriPiece, IsStringPiece, IsIriref, IsQuoted, AreSome, IsLangtag, IsSpaced}
@@ -21,12 +21,6 @@ apart c d x y never e = absurd (never (head_of c d x y e))
 nothing_before : {A : Type 0} (c : ℕ) (x : List ℕ) → [] ≡ c ∷ x → A
 nothing_before c x e = absurd (cc)
 
-pub all_head : {X : Type 0} (P : X → Type 0) (x : X) (xs : List X) → All P (x ∷ xs) → P x
-all_head P x xs each = each 0 x (omega arith)
-
-pub all_tail : {X : Type 0} (P : X → Type 0) (x : X) (xs : List X) → All P (x ∷ xs) → All P xs
-all_tail P x xs each k d below = each (suc k) d (omega arith)
-
 -- Gaps.
 
 -- no gap stands before a byte that is no blank
@@ -35,7 +29,7 @@ unspaced text rest c x spaced e never = go spaced.gap spaced.blank (sym spaced.s
   where
     go : (gap : List ℕ) → IsGap gap → gap ++ rest ≡ c ∷ x → rest ≡ c ∷ x
     go [] blank same = same
-    go (b ∷ gap) blank same = absurd (never (subst IsBlank (head_of _ _ _ _ same) (all_head IsBlank b gap blank)))
+    go (b ∷ gap) blank same = absurd (never (subst IsBlank (head_of _ _ _ _ same) (All-head IsBlank b gap blank)))
 
 -- one space is passed over by what doesn't begin with one
 pub past_space : (text rest : List ℕ) (c : ℕ) (x : List ℕ) → IsSpaced text rest → text ≡ 32 ∷ c ∷ x → ¬ IsBlank c → ((z : List ℕ) → rest ≡ 32 ∷ z → ⊥) → rest ≡ c ∷ x
@@ -43,7 +37,7 @@ past_space text rest c x spaced e never other = go spaced.gap spaced.blank (sym 
   where
     go : (gap : List ℕ) → IsGap gap → gap ++ rest ≡ 32 ∷ c ∷ x → rest ≡ c ∷ x
     go [] blank same = absurd (other (c ∷ x) same)
-    go (b ∷ gap) blank same = unspaced (gap ++ rest) rest c x (record { gap = gap; blank = all_tail IsBlank b gap blank; spelled = refl }) (tail_of _ _ _ _ same) never
+    go (b ∷ gap) blank same = unspaced (gap ++ rest) rest c x (record { gap = gap; blank = All-tail IsBlank b gap blank; spelled = refl }) (tail_of _ _ _ _ same) never
 
 -- Bytes of an IRI.
 
@@ -55,16 +49,16 @@ iri_not c b of same among = not_iri_byte b among (subst IsIriByte same of)
 
 iri_pieces : (iri : List ℕ) (pieces : List Piece) (x y : List ℕ) → All IsIriByte iri → All IsIriPiece pieces → iri ++ 62 ∷ x ≡ flat_map piece_text pieces ++ 62 ∷ y → (flat_map piece_value pieces ≡ iri) × (x ≡ y)
 iri_pieces [] [] x y own their e = (refl, tail_of _ _ _ _ e)
-iri_pieces [] (Plain b ∷ ps) x y own their e = absurd (iri_not b 62 (all_head IsIriPiece (Plain b) ps their) (sym (head_of _ _ _ _ e)) refl)
-iri_pieces [] (Echar b ∷ ps) x y own their e = absurd (all_head IsIriPiece (Echar b) ps their)
+iri_pieces [] (Plain b ∷ ps) x y own their e = absurd (iri_not b 62 (All-head IsIriPiece (Plain b) ps their) (sym (head_of _ _ _ _ e)) refl)
+iri_pieces [] (Echar b ∷ ps) x y own their e = absurd (All-head IsIriPiece (Echar b) ps their)
 iri_pieces [] (Uchar b ds ∷ ps) x y own their e = apart _ _ _ _ (λ q. omega arith) e
-iri_pieces (c ∷ iri) [] x y own their e = absurd (iri_not c 62 (all_head IsIriByte c iri own) (head_of _ _ _ _ e) refl)
+iri_pieces (c ∷ iri) [] x y own their e = absurd (iri_not c 62 (All-head IsIriByte c iri own) (head_of _ _ _ _ e) refl)
 iri_pieces (c ∷ iri) (Plain b ∷ ps) x y own their e =
     let heads : b ≡ c = sym (head_of _ _ _ _ e) in
-    let more = iri_pieces iri ps x y (all_tail IsIriByte c iri own) (all_tail IsIriPiece (Plain b) ps their) (tail_of _ _ _ _ e) in
+    let more = iri_pieces iri ps x y (All-tail IsIriByte c iri own) (All-tail IsIriPiece (Plain b) ps their) (tail_of _ _ _ _ e) in
     (λ i. heads i ∷ more.0 i, more.1)
-iri_pieces (c ∷ iri) (Echar b ∷ ps) x y own their e = absurd (all_head IsIriPiece (Echar b) ps their)
-iri_pieces (c ∷ iri) (Uchar b ds ∷ ps) x y own their e = absurd (iri_not c 92 (all_head IsIriByte c iri own) (head_of _ _ _ _ e) refl)
+iri_pieces (c ∷ iri) (Echar b ∷ ps) x y own their e = absurd (All-head IsIriPiece (Echar b) ps their)
+iri_pieces (c ∷ iri) (Uchar b ds ∷ ps) x y own their e = absurd (iri_not c 92 (All-head IsIriByte c iri own) (head_of _ _ _ _ e) refl)
 
 -- an IRI between brackets is read as itself
 pub iriref_same : (text : List ℕ) (iri x other rest : List ℕ) → All IsIriByte iri → text ≡ 60 ∷ (iri ++ 62 ∷ x) → IsIriref text other rest → (other ≡ iri) × (rest ≡ x)
@@ -102,19 +96,19 @@ ReadsAs text x y = (pieces : List Piece) → All IsStringPiece pieces → flat_m
 module _ (c : ℕ) (text x y : List ℕ) (again : ReadsAs text x y) where
   special : IsSpecial c → (pieces : List Piece) → All IsStringPiece pieces → 92 ∷ c ∷ (flat_map escaped text ++ 34 ∷ x) ≡ flat_map piece_text pieces ++ 34 ∷ y → (flat_map piece_value pieces ≡ c ∷ text) × (x ≡ y)
   special of [] their e = apart _ _ _ _ (λ q. omega arith) e
-  special of (Plain b ∷ ps) their e = let fine = all_head IsStringPiece (Plain b) ps their in absurd (fine.1 (sym (head_of _ _ _ _ e)))
+  special of (Plain b ∷ ps) their e = let fine = All-head IsStringPiece (Plain b) ps their in absurd (fine.1 (sym (head_of _ _ _ _ e)))
   special of (Echar b ∷ ps) their e =
       let heads : b ≡ c = sym (head_of _ _ _ _ (tail_of _ _ _ _ e)) in
-      let more = again ps (all_tail IsStringPiece (Echar b) ps their) (tail_of _ _ _ _ (tail_of _ _ _ _ e)) in
+      let more = again ps (All-tail IsStringPiece (Echar b) ps their) (tail_of _ _ _ _ (tail_of _ _ _ _ e)) in
       let value : escaped_value b ≡ c = ap escaped_value heads ∙ special_value c of in
       (λ i. value i ∷ more.0 i, more.1)
-  special of (Uchar b ds ∷ ps) their e = absurd (no_letter c b ds of (all_head IsStringPiece (Uchar b ds) ps their) (sym (head_of _ _ _ _ (tail_of _ _ _ _ e))))
+  special of (Uchar b ds ∷ ps) their e = absurd (no_letter c b ds of (All-head IsStringPiece (Uchar b ds) ps their) (sym (head_of _ _ _ _ (tail_of _ _ _ _ e))))
 
   usual : (c ≡ 34 → ⊥) → (c ≡ 92 → ⊥) → (pieces : List Piece) → All IsStringPiece pieces → c ∷ (flat_map escaped text ++ 34 ∷ x) ≡ flat_map piece_text pieces ++ 34 ∷ y → (flat_map piece_value pieces ≡ c ∷ text) × (x ≡ y)
   usual quote slash [] their e = absurd (quote (head_of _ _ _ _ e))
   usual quote slash (Plain b ∷ ps) their e =
       let heads : b ≡ c = sym (head_of _ _ _ _ e) in
-      let more = again ps (all_tail IsStringPiece (Plain b) ps their) (tail_of _ _ _ _ e) in
+      let more = again ps (All-tail IsStringPiece (Plain b) ps their) (tail_of _ _ _ _ e) in
       (λ i. heads i ∷ more.0 i, more.1)
   usual quote slash (Echar b ∷ ps) their e = absurd (slash (head_of _ _ _ _ e))
   usual quote slash (Uchar b ds ∷ ps) their e = absurd (slash (head_of _ _ _ _ e))
@@ -127,7 +121,7 @@ module _ (c : ℕ) (text x y : List ℕ) (again : ReadsAs text x y) where
 
 string_pieces : (text x y : List ℕ) → ReadsAs text x y
 string_pieces [] x y [] their e = (refl, tail_of _ _ _ _ e)
-string_pieces [] x y (Plain b ∷ ps) their e = let of = all_head IsStringPiece (Plain b) ps their in absurd (of.0 (sym (head_of _ _ _ _ e)))
+string_pieces [] x y (Plain b ∷ ps) their e = let of = All-head IsStringPiece (Plain b) ps their in absurd (of.0 (sym (head_of _ _ _ _ e)))
 string_pieces [] x y (Echar b ∷ ps) their e = apart _ _ _ _ (λ q. omega arith) e
 string_pieces [] x y (Uchar b ds ∷ ps) their e = apart _ _ _ _ (λ q. omega arith) e
 string_pieces (c ∷ text) x y pieces their e = one_byte c text x y (string_pieces text x y) pieces their e
@@ -152,16 +146,16 @@ Stops (c ∷ x) = IsTagByte c → ⊥
 -- a run of such bytes ends at one place
 pub run_same : (a b x y : List ℕ) → All IsTagByte a → All IsTagByte b → Stops x → Stops y → a ++ x ≡ b ++ y → (a ≡ b) × (x ≡ y)
 run_same [] [] x y h k s t e = (refl, e)
-run_same [] (q ∷ b) x y h k s t e = absurd (subst Stops e s (all_head IsTagByte q b k))
-run_same (r ∷ a) [] x y h k s t e = absurd (subst Stops (sym e) t (all_head IsTagByte r a h))
+run_same [] (q ∷ b) x y h k s t e = absurd (subst Stops e s (All-head IsTagByte q b k))
+run_same (r ∷ a) [] x y h k s t e = absurd (subst Stops (sym e) t (All-head IsTagByte r a h))
 run_same (r ∷ a) (q ∷ b) x y h k s t e =
     let heads : r ≡ q = head_of _ _ _ _ e in
-    let more = run_same a b x y (all_tail IsTagByte r a h) (all_tail IsTagByte q b k) s t (tail_of _ _ _ _ e) in
+    let more = run_same a b x y (All-tail IsTagByte r a h) (All-tail IsTagByte q b k) s t (tail_of _ _ _ _ e) in
     (λ i. heads i ∷ more.0 i, more.1)
 
 pub part_bytes : (parts : List (List ℕ)) → All (AreSome IsAsciiAlphanumeric) parts → All IsTagByte (flat_map (λ part. 45 ∷ part) parts)
 part_bytes [] each = λ k d below. absurd (omega arith)
-part_bytes (part ∷ parts) each = All-cons IsTagByte 45 _ (inr refl) (All-append IsTagByte part _ (λ k d below. inl ((all_head (AreSome IsAsciiAlphanumeric) part parts each).1 k d below)) (part_bytes parts (all_tail (AreSome IsAsciiAlphanumeric) part parts each)))
+part_bytes (part ∷ parts) each = All-cons IsTagByte 45 _ (inr refl) (All-append IsTagByte part _ (λ k d below. inl ((All-head (AreSome IsAsciiAlphanumeric) part parts each).1 k d below)) (part_bytes parts (All-tail (AreSome IsAsciiAlphanumeric) part parts each)))
 
 letter_byte : (b : ℕ) → IsAsciiAlphabetic b → IsTagByte b
 letter_byte b is = inl (search rules)

@@ -1,6 +1,5 @@
 -- The export of a state: the lines of its triples, each once, in the order of their bytes.
 use Rattle.std.specs.Prelude.{◌≡◌, ◌↔◌, ℕ, List, Contains}
-use Rattle.std.specs.declared.cmp.Ordering.{Ordering}
 use Rattle.std.specs.List.{concat}
 use Rattle.std.specs.Ordering.{nat_cmp}
 use Rattle.std.specs.Cmp.Lexicographic.{slice_cmp}
@@ -11,16 +10,13 @@ use Rattle.thes_base.specs.Triples.{Triple, Asserted}
 use Rattle.thes_export.specs.NTriples.{Statement, IsDocument}
 use Rattle.thes_export.specs.Spelling.{line_of, statement_of}
 
-abbrev pub bytes_cmp : List ℕ → List ℕ → Ordering
-bytes_cmp = slice_cmp nat_cmp
-
 -- the line of a triple of the state
 abbrev pub IsTripleLine : List ℕ → State → List ℕ → Type 0
 IsTripleLine base s line = (t : Triple) × Asserted base s t × (line ≡ line_of t)
 
 pub record IsExport (base : List ℕ) (s : State) (text : List ℕ) : Type 0 where
   pub lines : List (List ℕ)
-  pub listed : IsListing bytes_cmp (IsTripleLine base s) lines
+  pub listed : IsListing (slice_cmp nat_cmp) (IsTripleLine base s) lines
   pub is : text ≡ concat lines
 
 -- the state asserts this, as a triple of RDF

@@ -1,10 +1,12 @@
 //! The text of an export.
 ghost use Rattle.std.specs.Prelude.{◌≡◌, ◌+◌, ◌++◌, ◌<◌, [], Contains, false, IfOk, OnOk, length};
 ghost use Rattle.std.specs.List.{concat};
+ghost use Rattle.std.specs.Ordering.{nat_cmp};
+ghost use Rattle.std.specs.Cmp.Lexicographic.{slice_cmp};
 ghost use Rattle.thes_base.specs.Listing.{IsListing};
 ghost use Rattle.thes_base.specs.State.{State};
 ghost use Rattle.thes_core.specs.Kept.{Holds};
-ghost use Rattle.thes_export.specs.Export.{IsExport, bytes_cmp};
+ghost use Rattle.thes_export.specs.Export.{IsExport};
 ghost use Rattle.thes_export.specs.Topics.{Adds, IsAbout, IsLineOf, IsUpTo};
 
 use crate::about::About;
@@ -56,7 +58,7 @@ fn all_lines(alloc: Global, core: &Core) -> Result<Vec<Line>, AllocError>
 
 // Puts lines in the order of their bytes, each once.
 fn sort_lines(lines: &mut Vec<Line>) -> Result<(), AllocError>
-    ensures { OnOk result (IsListing bytes_cmp (Contains lines.old.items) lines.new.items) }
+    ensures { OnOk result (IsListing (slice_cmp nat_cmp) (Contains lines.old.items) lines.new.items) }
 {
     lines.sort()?;
     lines.dedup();

@@ -1,13 +1,13 @@
 //! The triples of a thesaurus as a text of N-Triples.
 #![tactic(auto)]
 
-pub mod about;
+mod about;
 pub mod gather;
 pub mod laws;
-pub mod line;
+mod line;
 mod linked;
 mod pushed;
 mod said;
-pub mod topic;
-pub mod vocabulary;
+mod topic;
+mod vocabulary;
 pub mod written;

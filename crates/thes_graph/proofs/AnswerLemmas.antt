@@ -1,7 +1,8 @@
 -- What carries the answers of the judging calls into rows of refusals, and how many links a merge leaves.
-use Rattle.std.proofs.Common.{◌≡◌, ◌≢◌, inl, inr, ◌+◌, ◌≤◌, ℕ, List, [], ◌∷◌, Bool, true, false, not, ◌==◌, cond, Contains, length, Option, map, refl, sym, ap, subst, ◌∙◌, arith}
+use Rattle.std.proofs.Common.{◌≡◌, ◌≢◌, inl, inr, ◌+◌, ◌≤◌, ℕ, List, [], ◌∷◌, Bool, true, false, not, ◌==◌, cond, Contains, length, Option, map, sym, ap, subst, ◌∙◌, arith}
 use Rattle.std.specs.Prelude.{filter}
 use Rattle.std.specs.FinSet.{insert, contains, items, from_list, len, len-insert, len-empty}
+use Rattle.std.proofs.lemmas.List.{length-map}
 use Rattle.thes_base.specs.declared.data.Link.{Link}
 use Rattle.thes_base.specs.declared.fault.Refusal.{Refusal}
 use Rattle.thes_base.specs.declared.fault.Refusal.TheVariants as no
@@ -57,10 +58,6 @@ len_few (l ∷ ls) = go (contains (from_list {R = link_cmp} ls) l) (len-insert l
     go true e few = omega arith
     go false e few = omega arith
 
-length_map : {X Y : Type 0} (f : X → Y) (xs : List X) → length (map f xs) ≡ length xs
-length_map f [] = refl
-length_map f (x ∷ xs) = omega (arith, length_map f xs)
-
 length_filter : {X : Type 0} (p : X → Bool) (xs : List X) → length (filter p xs) ≤ length xs
 length_filter p [] = omega arith
 length_filter p (x ∷ xs) = go (p x) (length_filter p xs)
@@ -75,7 +72,7 @@ contracted_few is_outside source target links =
     let some : len links ≡ length (listed links) = ap len (sym whole) ∙ len_is (listed links) (listed_sorted links) in
     let made : len (contracted is_outside source target links) ≡ len (from_list {R = link_cmp} (map kept (filter stays (listed links)))) = ap len merged in
     let few : len (from_list {R = link_cmp} (map kept (filter stays (listed links)))) ≤ length (map kept (filter stays (listed links))) = len_few (map kept (filter stays (listed links))) in
-    omega (arith, length_map kept (filter stays (listed links)), length_filter stays (listed links))
+    omega (arith, length-map (filter stays (listed links)) kept, length_filter stays (listed links))
   where
     kept : Link → Link
     kept l = norm is_outside (sent_link source target l)

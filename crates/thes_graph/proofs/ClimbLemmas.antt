@@ -221,11 +221,6 @@ to_do-more met later way s t more small few =
     let with_t : still ((way ++ s ∷ []) ++ t ∷ []) ≡ still (way ++ s ∷ []) + (1 + length t.above.items) = still-push (way ++ s ∷ []) t in
     omega arith
 
--- a way without stops
-pub no_stops : (way : List Stop) → length way ≡ 0 → way ≡ []
-no_stops [] none = refl
-no_stops (w ∷ way) none = absurd (omega arith)
-
 -- the last node above a stop
 
 pub none_above : (above : List ℕ) (o : Option ℕ) → o ≡ slice_get above (length above - 1) → ((h : ℕ) → o ≡ Some h → ⊥) → above ≡ []

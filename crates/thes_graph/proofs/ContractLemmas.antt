@@ -12,13 +12,14 @@ use Rattle.thes_graph.specs.Sight.{WouldBe, becomes}
 use Rattle.thes_graph.proofs.NormLemmas.{Says, Says-itself, norm-says, IsFirstBroken-same}
 use Rattle.thes_graph.proofs.SetLemmas.{held_from_list, listed_of_held, held_of_item, item_of_held, inserted_held, insert_keeps}
 
-pub IsFirstBroken-inserted : (held : Links) (new : Link) (r : Option Refusal) → IsFirstBroken (WouldBe (With new) held) r → IsFirstBroken (HeldIn (insert held new)) r
-IsFirstBroken-inserted held new = IsFirstBroken-same (WouldBe (With new) held) (HeldIn (insert held new)) to from
-  where
-    to : (l : Link) → WouldBe (With new) held l → (m : Link) × HeldIn (insert held new) m × Says l m
-    to l (inl old) = (l, insert_keeps held new l old, Says-itself l)
-    to l (inr same) = (l, subst (HeldIn (insert held new)) same (inserted_held held new), Says-itself l)
+-- each link that would be, once one is added, is there
+pub inserted_to : (held : Links) (new l : Link) → WouldBe (With new) held l → (m : Link) × HeldIn (insert held new) m × Says l m
+inserted_to held new l (inl old) = (l, insert_keeps held new l old, Says-itself l)
+inserted_to held new l (inr same) = (l, subst (HeldIn (insert held new)) same (inserted_held held new), Says-itself l)
 
+pub IsFirstBroken-inserted : (held : Links) (new : Link) (r : Option Refusal) → IsFirstBroken (WouldBe (With new) held) r → IsFirstBroken (HeldIn (insert held new)) r
+IsFirstBroken-inserted held new = IsFirstBroken-same (WouldBe (With new) held) (HeldIn (insert held new)) (inserted_to held new) from
+  where
     from : (l : Link) → HeldIn (insert held new) l → (m : Link) × WouldBe (With new) held m × Says l m
     from l has = elim (link_inserted_cases held new l has) [
       | inl same ↦ (l, inr (sym same), Says-itself l)
@@ -69,12 +70,13 @@ module _ (is_outside : ℕ → Bool) (source target : ℕ) (held : Links) where
       (Contains-map (λ (l : Link). norm is_outside (sent_link source target l)) (filter stays (items held)) l
       (Contains-filter stays (items held) l (item_of_held held l has) is.0)))
 
-  pub IsFirstBroken-contracted : (r : Option Refusal) → IsFirstBroken (WouldBe (Merged source target) held) r → IsFirstBroken (HeldIn (contracted is_outside source target held)) r
-  IsFirstBroken-contracted = IsFirstBroken-same (WouldBe (Merged source target) held) (HeldIn (contracted is_outside source target held)) to from
-    where
-      to : (n : Link) → WouldBe (Merged source target) held n → (m : Link) × HeldIn (contracted is_outside source target held) m × Says n m
-      to n (l, has, gives) = (norm is_outside n, contracted_to l n has gives, (norm-says is_outside n).0)
+  -- each link that would be after the merge is there
+  pub merged_to : (n : Link) → WouldBe (Merged source target) held n → (m : Link) × HeldIn (contracted is_outside source target held) m × Says n m
+  merged_to n (l, has, gives) = (norm is_outside n, contracted_to l n has gives, (norm-says is_outside n).0)
 
+  pub IsFirstBroken-contracted : (r : Option Refusal) → IsFirstBroken (WouldBe (Merged source target) held) r → IsFirstBroken (HeldIn (contracted is_outside source target held)) r
+  IsFirstBroken-contracted = IsFirstBroken-same (WouldBe (Merged source target) held) (HeldIn (contracted is_outside source target held)) merged_to from
+    where
       from : (m : Link) → HeldIn (contracted is_outside source target held) m → (n : Link) × WouldBe (Merged source target) held n × Says m n
       from m has =
           let c = contracted_from m has in

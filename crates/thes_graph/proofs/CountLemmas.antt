@@ -3,6 +3,7 @@ use Rattle.std.proofs.Common.{◌≡◌, ◌==◌, ◌+◌, ◌*◌, ◌≤◌, 
 use Rattle.std.specs.List.{IsDistinct, AllByRecursion}
 use Rattle.std.proofs.lemmas.List.Sums.{sum_by-cons, sum_by-le}
 use Rattle.thes_base.specs.declared.data.Link.{Link}
+use Rattle.thes_base.proofs.Counts.{sums_same}
 use Rattle.thes_graph.specs.declared.sight.Sight.{Sight}
 use Rattle.thes_graph.specs.Sight.{node_after, touches}
 use Rattle.thes_graph.proofs.ReadLemmas.{one_at}
@@ -47,12 +48,8 @@ module _ (nodes : List ℕ) (weight : ℕ → Link → ℕ) where
   swapped [] = sum_by-none nodes
   swapped (l ∷ ns) = omega (arith, split, swapped ns, sum_by-cons (λ l. sum_by (λ n. weight n l) nodes) l ns)
     where
-      same : (f g : ℕ → ℕ) → ((n : ℕ) → f n ≡ g n) → (xs : List ℕ) → sum_by f xs ≡ sum_by g xs
-      same f g agree [] = refl
-      same f g agree (x ∷ xs) = omega (arith, agree x, same f g agree xs, sum_by-cons f x xs, sum_by-cons g x xs)
-
       split : sum_by (λ n. sum_by (weight n) (l ∷ ns)) nodes ≡ sum_by (λ n. weight n l) nodes + sum_by (λ n. sum_by (weight n) ns) nodes
-      split = same (λ n. sum_by (weight n) (l ∷ ns)) (λ n. weight n l + sum_by (weight n) ns) (λ n. sum_by-cons (weight n) l ns) nodes
+      split = sums_same (λ n. sum_by (weight n) (l ∷ ns)) (λ n. weight n l + sum_by (weight n) ns) (λ n. sum_by-cons (weight n) l ns) nodes
           ∙ sum_by-plus (λ n. weight n l) (λ n. sum_by (weight n) ns) nodes
 
   -- links of which each weighs so much at most

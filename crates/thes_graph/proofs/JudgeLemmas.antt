@@ -11,7 +11,7 @@ use Rattle.thes_graph.specs.Reading.{HaveTwoEnds, EndsAt}
 use Rattle.thes_graph.specs.Sight.{node_after, WouldBe, TouchesAt}
 use Rattle.thes_graph.specs.Local.{BreakNone, AwayFrom, IsS46At, NoS46At, IsFirstBrokenAt, CoversNear}
 use Rattle.thes_graph.specs.Whole.{IsSomeS46}
-use Rattle.thes_graph.specs.Judge.{HasNeighbourhood}
+use Rattle.thes_graph.specs.Judge.{CoversEdit}
 use Rattle.thes_graph.proofs.PivotLemmas.{BreakNone-within, s46_pivot, S46-witness, IsFirstBroken-from_pivot}
 use Rattle.thes_graph.proofs.WeightLemmas.{cut}
 use Rattle.thes_graph.proofs.SightLemmas.{becomes-ends}
@@ -61,7 +61,7 @@ module _ (held : Links) (source target : ℕ) (two : source ≢ target) (legal :
   place_back : (x n : ℕ) → node_after (Merged source target) x ≡ n → (source ≡ x) ⊎ (n ≡ x)
   place_back x n at = grind arith
 
-  pub CoversNear-joined : (ns : List Link) → HasNeighbourhood (Merged source target) held target ns → CoversNear (Merged source target) held target ns
+  pub CoversNear-joined : (ns : List Link) → CoversEdit (Merged source target) held target ns → CoversNear (Merged source target) held target ns
   CoversNear-joined ns all n near l has touch = go touch
     where
       by : (x : ℕ) → ((m : ℕ) → x ≡ m → EndsAt m l) → (source ≡ x) ⊎ (n ≡ x) → Contains ns l
@@ -72,11 +72,11 @@ module _ (held : Links) (source target : ℕ) (two : source ≢ target) (legal :
       go (inl a) = by l.a (λ m e. inl e) (place_back l.a n a)
       go (inr b) = by l.b (λ m e. inr e) (place_back l.b n b)
 
-pub CoversNear-held : (held : Links) (p : ℕ) (ns : List Link) → HasNeighbourhood AsHeld held p ns → CoversNear AsHeld held p ns
+pub CoversNear-held : (held : Links) (p : ℕ) (ns : List Link) → CoversEdit AsHeld held p ns → CoversNear AsHeld held p ns
 CoversNear-held held p ns all n near l has touch = all l has n (inr near) touch
 
 -- one place among these is the new link's, which is not held
-pub CoversNear-with : (held : Links) (new : Link) (ns : List Link) → (HeldIn held new → ⊥) → Contains ns new → HasNeighbourhood (With new) held new.a ns
+pub CoversNear-with : (held : Links) (new : Link) (ns : List Link) → (HeldIn held new → ⊥) → Contains ns new → CoversEdit (With new) held new.a ns
     → (rest : List Link) × (length rest + 1 ≡ length ns) × CoversNear (With new) held new.a rest
 CoversNear-with held new ns fresh has_new all =
     let c = cut ns new has_new in

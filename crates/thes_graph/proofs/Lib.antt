@@ -14,7 +14,7 @@ mod NeighbourhoodLemmas
 pub mod NormLemmas
 pub mod SetLemmas
 pub mod ContractLemmas
-mod LinkOrderLemmas
+pub mod LinkOrderLemmas
 mod IndexLemmas
 mod MarkLemmas
 pub mod ChangeLemmas

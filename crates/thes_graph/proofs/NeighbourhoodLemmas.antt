@@ -1,17 +1,16 @@
 -- The neighbourhood of an edit, as thes_base defines it, has all that the walks may read.
-use Rattle.std.proofs.Common.{◌≡◌, ◌⊎◌, inl, inr, ℕ, List, Bool, Contains, refl, sym, subst}
+use Rattle.std.proofs.Common.{◌≡◌, ◌⊎◌, inl, inr, ℕ, List, Bool, Contains, refl, sym}
 use Rattle.std.specs.FinSet.{insert}
 use Rattle.thes_base.specs.declared.data.Link.{Link}
-use Rattle.thes_base.specs.Links.{Links, HeldIn, HasEnd, IsAbove, IsExact, norm, contracted}
+use Rattle.thes_base.specs.Links.{Links, HeldIn, HasEnd, IsAbove, IsExact, contracted}
 use Rattle.thes_base.specs.Neighbourhood.{Edit, Add, Merge, Check}
 use Rattle.thes_base.specs.Neighbourhood as edit
 use Rattle.thes_graph.specs.declared.sight.Sight.TheVariants.{AsHeld, With, Merged}
 use Rattle.thes_graph.specs.Sight.{WouldBe}
 use Rattle.thes_graph.specs.Local.{IsNear}
-use Rattle.thes_graph.specs.Judge.{IsEdited, HasNeighbourhood}
-use Rattle.thes_graph.proofs.NormLemmas.{Says, Says-itself, norm-says, above_to, exact_to}
-use Rattle.thes_graph.proofs.SetLemmas.{inserted_held, insert_keeps}
-use Rattle.thes_graph.proofs.ContractLemmas.{contracted_to}
+use Rattle.thes_graph.specs.Judge.{IsChanged, CoversEdit}
+use Rattle.thes_graph.proofs.NormLemmas.{Says, Says-itself, above_to, exact_to}
+use Rattle.thes_graph.proofs.ContractLemmas.{inserted_to, merged_to}
 
 -- what is near in links that say the same is near
 near_to : (Would After : Link → Type 0) → ((l : Link) → Would l → (m : Link) × After m × Says l m) → (p n : ℕ) → IsNear Would p n
@@ -22,34 +21,27 @@ near_to Would After to p n (inr (inl below)) = inr (inr (inl (above_to Would Aft
 near_to Would After to p n (inr (inr alike)) = inr (inr (inr (exact_to Would After to p n alike)))
 
 module _ (is_outside : ℕ → Bool) (held : Links) (ns : List Link) where
-  pub check_neighbourhood : (p : ℕ) → edit.HasNeighbourhood is_outside (Check p) held ns → HasNeighbourhood AsHeld held p ns
+  pub check_neighbourhood : (p : ℕ) → edit.HasNeighbourhood is_outside (Check p) held ns → CoversEdit AsHeld held p ns
   check_neighbourhood p has l there n near at = has l (there, near_one near)
     where
-      near_one : IsEdited AsHeld p n ⊎ IsNear (HeldIn held) p n → (e : ℕ) × (m : ℕ) × (e ≡ p) × edit.IsNear is_outside (Check p) held e m × HasEnd m l
+      near_one : IsChanged AsHeld p n ⊎ IsNear (HeldIn held) p n → (e : ℕ) × (m : ℕ) × (e ≡ p) × edit.IsNear is_outside (Check p) held e m × HasEnd m l
       near_one (inl same) = (p, n, refl, inl (sym same), at)
       near_one (inr close) = (p, n, refl, near_to (HeldIn held) (HeldIn held) (λ l h. (l, h, Says-itself l)) p n close, at)
 
-  pub add_neighbourhood : (new : Link) → edit.HasNeighbourhood is_outside (Add new) held ns → Contains ns new × HasNeighbourhood (With new) held new.a ns
+  pub add_neighbourhood : (new : Link) → edit.HasNeighbourhood is_outside (Add new) held ns → Contains ns new × CoversEdit (With new) held new.a ns
   add_neighbourhood new has = (has new (inl refl, (new.a, new.a, refl, inl refl, inl refl)), λ l there n near at. has l (inr there, near_one l n at near))
     where
-      to : (l : Link) → WouldBe (With new) held l → (m : Link) × HeldIn (insert held new) m × Says l m
-      to l (inl old) = (l, insert_keeps held new l old, Says-itself l)
-      to l (inr same) = (l, subst (HeldIn (insert held new)) same (inserted_held held new), Says-itself l)
-
-      near_one : (l : Link) (n : ℕ) → HasEnd n l → IsEdited (With new) new.a n ⊎ IsNear (WouldBe (With new) held) new.a n
+      near_one : (l : Link) (n : ℕ) → HasEnd n l → IsChanged (With new) new.a n ⊎ IsNear (WouldBe (With new) held) new.a n
           → (e : ℕ) × (m : ℕ) × (e ≡ new.a) × edit.IsNear is_outside (Add new) held e m × HasEnd m l
       near_one l n at (inl same) = (new.a, n, refl, inl (sym same), at)
-      near_one l n at (inr close) = (new.a, n, refl, near_to (WouldBe (With new) held) (HeldIn (insert held new)) to new.a n close, at)
+      near_one l n at (inr close) = (new.a, n, refl, near_to (WouldBe (With new) held) (HeldIn (insert held new)) (inserted_to held new) new.a n close, at)
 
-  pub merge_neighbourhood : (source target : ℕ) → edit.HasNeighbourhood is_outside (Merge source target) held ns → HasNeighbourhood (Merged source target) held target ns
+  pub merge_neighbourhood : (source target : ℕ) → edit.HasNeighbourhood is_outside (Merge source target) held ns → CoversEdit (Merged source target) held target ns
   merge_neighbourhood source target has l there n near at = has l (there, near_one near)
     where
-      to : (k : Link) → WouldBe (Merged source target) held k → (m : Link) × HeldIn (contracted is_outside source target held) m × Says k m
-      to k (l, has, gives) = (norm is_outside k, contracted_to is_outside source target held l k has gives, (norm-says is_outside k).0)
-
-      near_one : IsEdited (Merged source target) target n ⊎ IsNear (WouldBe (Merged source target) held) target n
+      near_one : IsChanged (Merged source target) target n ⊎ IsNear (WouldBe (Merged source target) held) target n
           → (e : ℕ) × (m : ℕ) × ((e ≡ source) ⊎ (e ≡ target)) × edit.IsNear is_outside (Merge source target) held e m × HasEnd m l
       near_one (inl (inl same)) = (n, n, inl (sym same), inl refl, at)
       near_one (inl (inr same)) = (n, n, inr (sym same), inl refl, at)
       near_one (inr close) =
-          (target, n, inr refl, near_to (WouldBe (Merged source target) held) (HeldIn (contracted is_outside source target held)) to target n close, at)
+          (target, n, inr refl, near_to (WouldBe (Merged source target) held) (HeldIn (contracted is_outside source target held)) (merged_to is_outside source target held) target n close, at)

@@ -1,5 +1,5 @@
 -- What the readers list: what the links at a node are seen as, each once and in order.
-use Rattle.std.proofs.Common.{◌≡◌, ◌⊎◌, inl, inr, ◌+◌, ◌<◌, ◌++◌, ℕ, List, [], ◌∷◌, Contains, take, length, get_or, Option, Some, None, Ordering, Result, Ok, Err, IfOk, refl, sym, ap, subst, ◌∙◌, append-nil}
+use Rattle.std.proofs.Common.{◌≡◌, ◌⊎◌, inl, inr, ◌+◌, ◌<◌, ◌++◌, ℕ, List, [], ◌∷◌, Contains, take, length, get_or, Option, Some, None, Ordering, refl, sym, ap, subst, ◌∙◌, append-nil}
 use Rattle.std.specs.List.{filter_map}
 use Rattle.std.specs.Cmp.{IsTotalOrder}
 use Rattle.std.specs.FinSet.{IsAntisymmetric}
@@ -26,10 +26,6 @@ use Rattle.thes_graph.proofs.SightLemmas.{filter_map-from, filter_map-to}
 use Rattle.thes_graph.proofs.JudgeLemmas.{link_same}
 use Rattle.thes_graph.proofs.IndexLemmas.{standings_from, standings_to}
 use Rattle.thes_graph.proofs.MovedLemmas.{filter_map_more}
-
-pub ok_as : {T E : Type 0} (P Q : T → Type 0) (r : Result T E) → ((x : T) → P x → Q x) → IfOk r P → IfOk r Q
-ok_as P Q (Ok x) to is = to x is
-ok_as P Q (Err e) to is = tt
 
 -- a held link at the node is seen as p
 abbrev pub IsSeen : {K : Type 0} → Links → ℕ → (Link → Option K) → K → Type 0

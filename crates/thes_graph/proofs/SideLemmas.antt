@@ -6,7 +6,7 @@ use Rattle.std.proofs.lemmas.List.Sorted.{IsPartitionedBy-ltb, IsPartitionedBy-l
 use Rattle.std.specs.Ordering.{nat_cmp, ordering_then, MatchOrdering}
 use Rattle.std.specs.declared.cmp.Ordering.{Ordering}
 use Rattle.std.proofs.Math.Dec.{ltb, leb}
-use Rattle.std.proofs.lemmas.Bool.{leb-true, le-leb, false_from_ne_true}
+use Rattle.std.proofs.lemmas.Bool.{leb-true, le-leb, false_from_ne_true, both_ways}
 use Rattle.std.proofs.lemmas.Bool.Decides.{Decides-eqb, Decides-ltb}
 use Rattle.std.proofs.lemmas.Cmp.{ranked}
 use Rattle.std.proofs.lemmas.Map.Keys.{Less-from_sorted}
@@ -61,11 +61,8 @@ sides_rise links n i j d lt within = go (same_or_less i j lt)
 pub none_pass : (p : Standing → Bool) (row : List Standing) (first : Standing) → slice_get row 0 ≡ Some first → p first ≡ false → IsPlaceOf p row 0
 none_pass p row first is off parted = (
   λ k d _ lt. absurd (omega arith),
-  λ k d _ lt. false_from_ne_true (p (get_or row k d)) (λ on. both (ap p (get_or_from_slice_get row 0 first d is) ∙ off) (parted 0 k d (omega arith) lt on)),
+  λ k d _ lt. false_from_ne_true (p (get_or row k d)) (λ on. both_ways _ (ap p (get_or_from_slice_get row 0 first d is) ∙ off) (parted 0 k d (omega arith) lt on)),
 )
-  where
-    both : {b : Bool} → b ≡ false → b ≡ true → ⊥
-    both off on = cc
 
 -- where the last one passes it, all do
 pub all_pass : (p : Standing → Bool) (row : List Standing) (last : Standing) → slice_get row (length row - 1) ≡ Some last → p last ≡ true

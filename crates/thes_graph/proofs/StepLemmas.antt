@@ -5,6 +5,7 @@ use Rattle.std.proofs.lemmas.Cmp.{nat_eq_equiv}
 use Rattle.std.proofs.lemmas.List.Elements.{Contains-append_left, Contains-push, Contains-push_cases}
 use Rattle.std.proofs.lemmas.Map.Keys.{IsDistinct-push}
 use Rattle.std.proofs.lemmas.List.{take_more}
+use Rattle.std.proofs.lemmas.Option.{none-some, same_Some}
 use Rattle.thes_base.specs.declared.data.Link.{Link}
 use Rattle.thes_base.specs.declared.data.Direction.{Direction}
 use Rattle.thes_base.specs.declared.data.Direction.TheVariants.{Forward, Backward, Either, Never}
@@ -72,10 +73,7 @@ pub Leads-from_step : (d : Direction) (a b x y : ℕ) → step_in d a b x ≡ So
 Leads-from_step Forward a b x y e = grind arith
 Leads-from_step Backward a b x y e = grind arith
 Leads-from_step Either a b x y e = grind arith
-Leads-from_step Never a b x y e = absurd (None_not_Some e)
-  where
-    None_not_Some : {z : ℕ} → None ≡ Some z → ⊥
-    None_not_Some e = cc
+Leads-from_step Never a b x y e = absurd (none-some y e)
 
 abbrev Says : Relation → Link → ℕ → ℕ → Type 0
 Says relation l x y = Leads (way_of relation l.kind) l.a l.b x y
@@ -105,12 +103,9 @@ module _ (relation : Relation) (links : List Link) (k : ℕ) (d : Link) (x : ℕ
       → GrowsBy xs zs (Steps relation (Contains (take (k + 1) links)) x)
   GrowsBy-step xs ys zs y leads =
       GrowsBy-then xs ys zs (Steps relation (Contains (take k links)) x) (λ z. y ≡ z) (Steps relation (Contains (take (k + 1) links)) x)
-      (λ z has. elim (Steps-parts z has) [ inl before ↦ inl before | inr now ↦ inr (Some_same (sym leads ∙ step_from_Leads _ _ _ x z now)) ])
+      (λ z has. elim (Steps-parts z has) [ inl before ↦ inl before | inr now ↦ inr (same_Some y z (sym leads ∙ step_from_Leads _ _ _ x z now)) ])
       Steps-before
       (λ z same. Steps-last z (Leads-from_step (way_of relation (get_or links k d).kind) (get_or links k d).a (get_or links k d).b x z (leads ∙ ap Some same)))
-    where
-      Some_same : {a b : ℕ} → Some a ≡ Some b → a ≡ b
-      Some_same e = cc
 
   pub GrowsBy-no_step : (xs ys : List ℕ) → step_along relation (get_or links k d) x ≡ None
       → GrowsBy xs ys (Steps relation (Contains (take k links)) x)
@@ -118,10 +113,7 @@ module _ (relation : Relation) (links : List Link) (k : ℕ) (d : Link) (x : ℕ
   GrowsBy-no_step xs ys none g =
       GrowsBy-then xs ys ys (Steps relation (Contains (take k links)) x) (λ z. Says relation (get_or links k d) x z) (Steps relation (Contains (take (k + 1) links)) x)
       Steps-parts Steps-before Steps-last g
-      (GrowsBy-none ys (λ z. Says relation (get_or links k d) x z) (λ z some. None_not_Some (sym none ∙ step_from_Leads _ _ _ x z some)))
-    where
-      None_not_Some : {a : ℕ} → None ≡ Some a → ⊥
-      None_not_Some e = cc
+      (GrowsBy-none ys (λ z. Says relation (get_or links k d) x z) (λ z some. none-some z (sym none ∙ step_from_Leads _ _ _ x z some)))
 
 -- the first of two that a link leads is one of its ends
 pub Leads-first : (d : Direction) (a b x y : ℕ) → Leads d a b x y → (a ≡ x) ⊎ (b ≡ x)

@@ -1,7 +1,7 @@
 -- What reading a node finds, and what it costs.
 use Rattle.std.proofs.Common.{◌≡◌, ◌≢◌, ◌==◌, ◌+◌, ◌-◌, ◌*◌, ◌≤◌, ◌<◌, ◌⊎◌, inl, inr, ℕ, suc, zero, List, [], ◌∷◌, length, take, drop, get_or, ap, sym, subst, ◌∙◌, arith, refl, Contains, AllPairs, sum_by, Bool, true, false, Option, Some, None, slice_get, nat_eq, ◌&&◌, ◌||◌, if◌then◌else◌}
 use Rattle.std.specs.Prelude.{option_and_then}
-use Rattle.std.proofs.lemmas.List.{get_or-take, get_or-drop, length-take, length-drop}
+use Rattle.std.proofs.lemmas.List.{get_or-take, get_or-drop, length-take, length-drop, get_or_default}
 use Rattle.std.proofs.lemmas.Option.{slice_get_within, slice_get-get_or, get_or_from_slice_get, option_and_then_some, none-some, same_Some}
 use Rattle.thes_base.specs.declared.data.Link.{Link}
 use Rattle.thes_base.specs.declared.data.Direction.{Direction}
@@ -25,6 +25,12 @@ use Rattle.thes_graph.proofs.WeightLemmas.{length-once, once_from_pairs, once_ta
 use Rattle.thes_graph.proofs.StepLemmas.{GrowsBy-then, GrowsBy-none, GrowsBy-there, Leads-first, Leads-from_step, step_from_Leads}
 use Rattle.thes_graph.proofs.SightLemmas.{becomes-ends}
 use Rattle.thes_graph.proofs.SideLemmas.{side_of_lead}
+
+-- what a loop over nodes has at hand stands in their list
+pub item_at : (items xs : List ℕ) (i x : ℕ) → items ≡ xs → i < length items → x ≡ get_or items i x → (i < length xs) × (x ≡ get_or xs i 0)
+item_at items xs i x same within is =
+    let inside : i < length xs = subst (λ (l : List ℕ). i < length l) same within in
+    (inside, is ∙ ap (λ (l : List ℕ). get_or l i x) same ∙ get_or_default xs i x 0 inside)
 
 -- joining what two readings find
 

@@ -18,16 +18,16 @@ abbrev pub row_of_add : Links → Link → Row
 row_of_add held new = refused_if (HeldIn held new) no.LinkThere (IsFirstBroken (HeldIn (insert held new)))
 
 -- the nodes of an edit
-abbrev pub IsEdited : Sight → (p n : ℕ) → Type 0
-IsEdited AsHeld p n = p ≡ n
-IsEdited (With new) p n = p ≡ n
-IsEdited (Merged source target) p n = (source ≡ n) ⊎ (p ≡ n)
+abbrev pub IsChanged : Sight → (p n : ℕ) → Type 0
+IsChanged AsHeld p n = p ≡ n
+IsChanged (With new) p n = p ≡ n
+IsChanged (Merged source target) p n = (source ≡ n) ⊎ (p ≡ n)
 
 -- These have each held link that has an end at an edited node, or at one above, below or alike it after the edit.
 -- The neighbourhood of the edit has them.
-abbrev pub HasNeighbourhood : Sight → Links → (p : ℕ) → List Link → Type 0
-HasNeighbourhood sight held p ns =
-    (l : Link) → HeldIn held l → (n : ℕ) → IsEdited sight p n ⊎ IsNear (WouldBe sight held) p n → EndsAt n l → Contains ns l
+abbrev pub CoversEdit : Sight → Links → (p : ℕ) → List Link → Type 0
+CoversEdit sight held p ns =
+    (l : Link) → HeldIn held l → (n : ℕ) → IsChanged sight p n ⊎ IsNear (WouldBe sight held) p n → EndsAt n l → Contains ns l
 
 -- No more visits than six for each link in the neighbourhood of the edit.
 abbrev pub AreFewVisits : (is_outside : ℕ → Bool) → Edit → Links → (before after : ℕ) → Type 0

@@ -3,16 +3,16 @@ use Rattle.std.specs.Prelude.{◌≡◌, ◌<◌, ◌||◌, ℕ, Bool, false, Li
 use Rattle.std.specs.List.{list_any}
 
 -- there is a mark at this number
-abbrev pub is_marked : List Bool → ℕ → Bool
-is_marked marks n = get_or marks n false
+abbrev pub mark_at : List Bool → ℕ → Bool
+mark_at marks n = get_or marks n false
 
 -- the nodes of the list are marked, and no others
 abbrev pub AreMarked : List ℕ → List Bool → Type 0
-AreMarked nodes marks = (n : ℕ) → is_marked marks n ≡ list_any (nat_eq n) nodes
+AreMarked nodes marks = (n : ℕ) → mark_at marks n ≡ list_any (nat_eq n) nodes
 
 -- one more number is marked
 abbrev pub IsOneMore : (old new : List Bool) → ℕ → Type 0
-IsOneMore old new n = (m : ℕ) → is_marked new m ≡ (nat_eq m n || is_marked old m)
+IsOneMore old new n = (m : ℕ) → mark_at new m ≡ (nat_eq m n || mark_at old m)
 
 -- the nodes of a list that has many are marked, and no others
 abbrev pub IsMet : List ℕ → List Bool → Type 0

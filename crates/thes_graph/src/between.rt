@@ -67,7 +67,8 @@ fn take_turns<L: Links>(
     ensures rows { L.links_of links.new ≡ L.links_of links.old }
     ensures two_ends { OnOk result (LooksAsHeld sight.now → 0 < up.new.next + down.new.next → HaveTwoEnds (HeldIn (L.held links.old))) }
     ensures turns { IfOk result (λ found. found ≡ true → 0 < up.new.next + down.new.next) }
-    ensures done { IfOk result (λ found. found ≡ false → up.new.next < length up.new.nodes → length down.new.nodes ≤ down.new.next) }
+    ensures done { IfOk result (λ found. found ≡ false → up.new.next < length up.new.nodes
+        → length down.new.nodes ≤ down.new.next) }
     ensures goes { IfOk result (λ found. (low high from : ℕ)
         → AreInTurn sight.now (L.held links.old) lows.now highs.now low high up.old down.old from (L.count links.old)
         → MatchBool found (HaveMet sight.now (L.held links.old) lows.now highs.now low high from (L.count links.new))
@@ -139,7 +140,8 @@ fn judge_rest<L: Links>(
         → IsRest sight.now (L.held links.old) relation goals.now ended.now start answer) }
     ensures count { OnOk result ((start read : ℕ) (ns : List Link)
         → IsTrail sight.now (L.held links.old) relation goals.now start other.old read
-        → ((n : ℕ) → Reaches (Steps relation (WouldBe sight.now (L.held links.old))) start n → CoversAt sight.now (L.held links.old) n ns)
+        → ((n : ℕ) → Reaches (Steps relation (WouldBe sight.now (L.held links.old))) start n
+        → CoversAt sight.now (L.held links.old) n ns)
         → ((n : ℕ) → Contains ended.now n → CoversAt sight.now (L.held links.old) n ns)
         → read + L.count links.new ≤ L.count links.old + 2 * length ns + spent sight.now Beside ended.now ns) }
 {

@@ -8,7 +8,7 @@ ghost use Rattle.thes_graph.specs.declared.sight.Sight.TheVariants.{With};
 ghost use Rattle.thes_graph.specs.Reading.{HaveTwoEnds};
 ghost use Rattle.thes_graph.specs.Sight.{WouldBe, IsFit, LooksAsHeld};
 ghost use Rattle.thes_graph.specs.Local.{BreakNone, AwayFrom, IsFirstBrokenAt, CoversNear};
-ghost use Rattle.thes_graph.specs.Judge.{row_of_add, HasNeighbourhood, AreFewVisits};
+ghost use Rattle.thes_graph.specs.Judge.{row_of_add, CoversEdit, AreFewVisits};
 
 use crate::added::judge_one_more;
 use crate::between::judge_between;
@@ -127,7 +127,7 @@ fn judge_normal<L: Links>(
     ensures outside { L.outside links.new ≡ L.outside links.old }
     ensures answer { IfOk result (row_of_add (L.held links.old) new.now) }
     ensures count { OnOk result ((ns : List Link) → Contains ns new.now
-        → HasNeighbourhood (With new.now) (L.held links.old) new.now.a ns
+        → CoversEdit (With new.now) (L.held links.old) new.now.a ns
         → L.count links.new ≤ L.count links.old + 6 * length ns) }
 {
     if links.holds(new) {

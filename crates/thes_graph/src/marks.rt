@@ -1,6 +1,6 @@
 //! The nodes of a list that has many, marked at their numbers.
 ghost use Rattle.std.specs.Prelude.{◌≡◌, ◌++◌, ◌∷◌, [], ℕ, OnErr, OnOk};
-ghost use Rattle.thes_graph.specs.Met.{is_marked, AreMarked, IsMet, IsOneMore};
+ghost use Rattle.thes_graph.specs.Met.{mark_at, AreMarked, IsMet, IsOneMore};
 
 use std::alloc::AllocError;
 use thes_base::number::ResNo;
@@ -10,7 +10,7 @@ pub const FEW: usize = 16;
 
 /// Tells whether the number is marked.
 pub fn has_mark(marks: &[bool], n: ResNo) -> bool
-    ensures { result ≡ is_marked marks.now n }
+    ensures { result ≡ mark_at marks.now n }
 {
     match marks.get(n.get() as usize) {
         Some(mark) => *mark,

@@ -7,22 +7,9 @@ use std::alloc::{AllocError, Global};
 use thes_base::data::{Link, LinkKind};
 use thes_base::fault::Refusal;
 use thes_base::number::ResNo;
+use thes_devices::numbers::Numbers;
 use thes_graph::graph::{Graph, Walk};
 use thes_graph::judge::{judge_add, judge_contract};
-
-// Numbers that are the same in each run.
-#[derive(Drop)]
-struct Numbers(u64);
-
-impl Numbers {
-    fn below(&mut self, n: u32) -> u32 {
-        self.0 = self
-            .0
-            .wrapping_mul(6364136223846793005)
-            .wrapping_add(1442695040888963407);
-        ((self.0 >> 33) % u64::from(n.max(1))) as u32
-    }
-}
 
 fn link(kind: LinkKind, a: u32, b: u32) -> Link {
     Link {

@@ -8,6 +8,7 @@ use std::test::Fail;
 use thes_base::data::{Link, LinkKind};
 use thes_base::fault::Refusal;
 use thes_base::number::ResNo;
+use thes_devices::numbers::Numbers;
 use thes_graph::graph::Graph;
 use thes_graph::judge::{check_at, judge_add, judge_contract};
 use thes_graph::links::Links;
@@ -457,37 +458,24 @@ fn plain_merge(
     Ok(merged)
 }
 
-// Numbers that are the same in each run.
-#[derive(Drop)]
-struct Numbers(u64);
-
-impl Numbers {
-    fn below(&mut self, n: u32) -> u32 {
-        self.0 = self
-            .0
-            .wrapping_mul(6364136223846793005)
-            .wrapping_add(1442695040888963407);
-        ((self.0 >> 33) % u64::from(n.max(1))) as u32
-    }
-
-    fn link(&mut self, nodes: u32) -> Link {
-        let kind = match self.below(13) {
-            0 | 1 => Broader,
-            2 => BroaderGeneric,
-            3 => BroaderPartitive,
-            4 => BroaderInstantial,
-            5 | 6 => Related,
-            7 => Exact,
-            8 => Close,
-            9 => Broad,
-            10 => Narrow,
-            11 => RelMatch,
-            _ => Member,
-        };
-        let a = self.below(nodes);
-        let b = self.below(nodes);
-        link(kind, a.saturating_add(1), b.saturating_add(1))
-    }
+// A link of any kind between two of so many nodes.
+fn any_link(numbers: &mut Numbers, nodes: u32) -> Link {
+    let kind = match numbers.below(13) {
+        0 | 1 => Broader,
+        2 => BroaderGeneric,
+        3 => BroaderPartitive,
+        4 => BroaderInstantial,
+        5 | 6 => Related,
+        7 => Exact,
+        8 => Close,
+        9 => Broad,
+        10 => Narrow,
+        11 => RelMatch,
+        _ => Member,
+    };
+    let a = numbers.below(nodes);
+    let b = numbers.below(nodes);
+    link(kind, a.saturating_add(1), b.saturating_add(1))
 }
 
 // What the check at the pivot finds once the link, which has an end there, is added to a graph that keeps the rules.
@@ -602,7 +590,7 @@ fn as_the_plain_program(rt: HostRuntime) -> Result<(), Fail> {
         mark(&mut graph, 1)?;
         mark(&mut graph, 2)?;
         for _ in 0..nodes {
-            let new = numbers.link(nodes);
+            let new = any_link(&mut numbers, nodes);
             if new.a != new.b {
                 compare(&rt, alloc, &mut graph, &mut list, &new)?;
             }

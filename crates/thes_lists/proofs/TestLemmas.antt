@@ -11,6 +11,7 @@ use Rattle.std.proofs.Math.Bool.{and-false}
 use Rattle.std.proofs.lemmas.Bool.{cases_lt}
 use Rattle.std.proofs.lemmas.List.Folds.{list_any_at, list_any_none}
 use Rattle.std.proofs.lemmas.Map.Keys.{sorted_head, sorted_tail}
+use Rattle.thes_base.proofs.SetMembers.{or_swap}
 
 module _ {A : Type 0} (c : A → A → Ordering) (o : IsTotalOrder c) where
   abbrev has_key : List A → A → Bool
@@ -40,16 +41,11 @@ module _ {A : Type 0} (c : A → A → Ordering) (o : IsTotalOrder c) where
       twice true b = refl
       twice false b = refl
 
-      swap : (a b d : Bool) → (a || (b || d)) ≡ (b || (a || d))
-      swap true true d = refl
-      swap true false d = refl
-      swap false b d = refl
-
       go : (r : Ordering) → c x y ≡ r → has_key (insert_key c ys x) q ≡ (eq_by_cmp c q x || has_key ys q)
           → has_key (match_ordering r (x ∷ y ∷ ys) (y ∷ ys) (y ∷ insert_key c ys x)) q ≡ (eq_by_cmp c q x || has_key (y ∷ ys) q)
       go Less below later = refl
       go Equal tied later = twice (eq_by_cmp c q y) (has_key ys q) ∙ ap (λ b. b || (eq_by_cmp c q y || has_key ys q)) (sym (alike x y q tied))
-      go Greater above later = ap (λ b. eq_by_cmp c q y || b) later ∙ swap (eq_by_cmp c q y) (eq_by_cmp c q x) (has_key ys q)
+      go Greater above later = ap (λ b. eq_by_cmp c q y || b) later ∙ or_swap (eq_by_cmp c q y) (eq_by_cmp c q x) (has_key ys q)
 
   pub has_remove : (ks : List A) (x q : A) → IsStrictlySortedBy c ks → has_key (remove_key (is_at (c x)) ks) q ≡ (not (eq_by_cmp c q x) && has_key ks q)
   has_remove [] x q sorted = sym (and-false (not (eq_by_cmp c q x)))

@@ -5,7 +5,7 @@ use Rattle.std.proofs.lemmas.Map.Lookups.{exact_unsigned}
 use Rattle.std.specs.Prelude.{Option, None, Some}
 use Rattle.std.specs.Option.{option_map_or}
 use Rattle.std.specs.Ordering.{nat_cmp}
-use Rattle.std.specs.Cmp.{nat_cmp_total}
+use Rattle.std.specs.Cmp.{nat_cmp_total, both_ways as same_test}
 use Rattle.std.specs.FinSet.{empty, insert, contains, contains-empty, from_list, from_list_push}
 use Rattle.thes_base.specs.declared.data.Resource.{Resource}
 use Rattle.thes_base.specs.declared.data.Link.{Link}
@@ -15,7 +15,7 @@ use Rattle.thes_base.specs.Resources.{numbered, is_outside, is_outside_kind}
 use Rattle.thes_base.specs.Links.{Links, HeldIn, link_cmp, norm, NoCycle, S27, S46, IsFirstBroken}
 use Rattle.thes_base.specs.Legal.{IsLegalLink}
 use Rattle.thes_base.proofs.LinkSets.{links_total, links_exact}
-use Rattle.thes_base.proofs.SetMembers.{same_test, inserted_cases, inserted_new, inserted_kept}
+use Rattle.thes_base.proofs.SetMembers.{inserted_cases, inserted_new, inserted_kept}
 use Rattle.thes_base.proofs.NumberedLemmas.{numbered_bound}
 use Rattle.thes_base.proofs.ResourceLemmas.{same_or_not}
 use Rattle.thes_graph.specs.Net.{Net, is_marked}

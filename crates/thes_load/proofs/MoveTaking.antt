@@ -1,7 +1,7 @@
 -- One more row of move.
 use Rattle.std.proofs.Common.{◌≡◌, ◌≢◌, ◌<◌, ℕ, zero, suc, ◌-◌, ◌+◌, length, List, [], ◌∷◌, ◌++◌, map, refl, sym, ap, ◌∙◌, subst, arith, inl, inr, Bool, true, false, cond, eqb, eqb-true, length-append, lit<, ◌^◌}
 use Rattle.std.proofs.lemmas.Bool.{cases_Bool, eq-eqb, eqb-false}
-use Rattle.std.proofs.lemmas.List.{append-nil}
+use Rattle.std.proofs.lemmas.List.{append-nil, length-map}
 use Rattle.std.proofs.lemmas.Option.{same_Some}
 use Rattle.std.specs.Prelude.{Some, slice_set}
 use Rattle.thes_base.specs.declared.data.Resource.{Resource}
@@ -20,7 +20,7 @@ use Rattle.thes_tables.proofs.Lists.{in_numbered, numbered_in, numbered_some, nu
 use Rattle.thes_tables.proofs.MoveRows.{hit_is, miss_is, row_of_move, all_of_in}
 use Rattle.thes_load.specs.Forms.{HasMoveForm}
 use Rattle.thes_load.specs.Taken.{AtPlaces, AreAt, HasMoves, IsNextMove}
-use Rattle.thes_load.proofs.Pushing.{length_map, numbered_next, in_next, each_push, order_push, few_push}
+use Rattle.thes_load.proofs.Pushing.{numbered_next, in_next, each_push, order_push, few_push}
 
 -- The moves of a posting, of more rows.
 
@@ -158,5 +158,5 @@ moves_none rs ps few order = record {
     well_formed = λ p h. tt;
   };
   count = refl;
-  at = record { fit = length_map (λ (p : PostingRow). p.first) ps; at = λ n p e. map_numbered (λ (q : PostingRow). q.first) ps n p e };
+  at = record { fit = length-map ps (λ (p : PostingRow). p.first); at = λ n p e. map_numbered (λ (q : PostingRow). q.first) ps n p e };
 }

@@ -16,13 +16,13 @@ use Rattle.thes_rows.specs.Tables.{IsIn, Ascends}
 use Rattle.thes_rows.proofs.Sets.{append_left, absent}
 use Rattle.thes_tables.specs.Rules.{EachRow, OutsideRule, LabelRule, iris_of, labels_of}
 use Rattle.thes_tables.proofs.Lists.{iri_row, row_of, in_set}
+use Rattle.thes_tables.proofs.Holding.{row_iri}
 use Rattle.thes_vocab.specs.Vocabulary.{Vocabulary, with_labels}
 use Rattle.thes_vocab.specs.Loading.{AreIrisSoFar, FitsIri, TakesIri, HaveIris, FitsLabel, TakesLabel, with_iri}
 use Rattle.thes_load.specs.Forms.{HasOutsideForm, HasLabelForm}
 use Rattle.thes_load.specs.Taken.{Takes}
 use Rattle.thes_load.specs.Naming.{HasOutside, HasLabels, vocabulary_of}
 use Rattle.thes_load.proofs.Pushing.{in_next, each_push, once_push, once_twice}
-use Rattle.thes_load.proofs.RowForms.{found}
 
 abbrev Row : Type 0
 Row = ℕ × List ℕ
@@ -63,13 +63,13 @@ module _ (base : List ℕ) (rs : List Resource) (old new : Vocabulary) (last : �
   fits_all more rule =
       let after = after_rows 0 rows x more rule.ascends in
       let all = rows ++ x ∷ more in
-      let here : dict.get (iris_of all) x.0 ≡ Some x.1 = found 0 all x rule.ascends (in_next rows x more) in
+      let here : dict.get (iris_of all) x.0 ≡ Some x.1 = row_iri 0 all x rule.ascends (in_next rows x more) in
       record {
         outside = rule.legal.only x.0 x.1 here;
         number = none (dict.get (iris_of rows) x.0) refl after.1;
         free = λ m e.
             let h = iri_row rows m x.1 e in
-            let there = found 0 all (m, x.1) rule.ascends (append_left (m, x.1) rows (x ∷ more) h) in
+            let there = row_iri 0 all (m, x.1) rule.ascends (append_left (m, x.1) rows (x ∷ more) h) in
             let same = rule.legal.distinct m x.0 x.1 there here in
             let lt = after.1 (m, x.1) h in
             omega (arith, same, lt);

@@ -1,7 +1,7 @@
 -- One more row of posting.
 use Rattle.std.proofs.Common.{subst, ◌≡◌, ◌⊎◌, ◌<◌, ◌^◌, lit<, ℕ, ◌+◌, length, List, [], ◌∷◌, ◌++◌, map, refl, sym, ap, ◌∙◌, arith, inl, inr, Bool, true, false, cond, ◌||◌, not}
 use Rattle.std.specs.Prelude.{Some}
-use Rattle.std.proofs.lemmas.List.{map-append}
+use Rattle.std.proofs.lemmas.List.{map-append, length-map}
 use Rattle.std.proofs.lemmas.Cmp.{nat_list_cmp_total}
 use Rattle.std.specs.Ordering.{nat_cmp, eq_by_cmp}
 use Rattle.std.specs.Cmp.{eq_by_cmp_equiv}
@@ -11,6 +11,7 @@ use Rattle.thes_base.specs.declared.data.Resource.{Resource}
 use Rattle.thes_base.specs.Resources.{numbered, IsConcept, is_live_concept}
 use Rattle.thes_base.specs.Texts.{IsPostingForm}
 use Rattle.thes_base.proofs.NumberedLemmas.{push_cases, numbered_bound}
+use Rattle.thes_base.proofs.SetMembers.{or_swap}
 use Rattle.thes_rows.specs.declared.rows.PostingRow.{PostingRow}
 use Rattle.thes_rows.proofs.Sets.{clash, in_any, any_in}
 use Rattle.thes_tables.specs.Rules.{PostingRule}
@@ -20,7 +21,7 @@ use Rattle.thes_post.specs.Sums.{Sums, IsTold}
 use Rattle.thes_load.specs.Counted.{AreSumsOf}
 use Rattle.thes_load.specs.Taken.{has_key, HasPostings, IsNextPosting}
 use Rattle.thes_load.proofs.Summing.{sums_push}
-use Rattle.thes_load.proofs.Pushing.{numbered_next, in_next, numbered_still, each_push, order_push, few_push, length_map}
+use Rattle.thes_load.proofs.Pushing.{numbered_next, in_next, numbered_still, each_push, order_push, few_push}
 
 abbrev key_of : PostingRow → List ℕ
 key_of row = row.key
@@ -30,13 +31,7 @@ keys_exact = set.slice_cmp-IsAntisymmetric set.nat_cmp-IsAntisymmetric
 
 any_append : (q key : List ℕ) (keys : List (List ℕ)) → has_key (keys ++ key ∷ []) q ≡ (eq_by_cmp (slice_cmp nat_cmp) q key || has_key keys q)
 any_append q key [] = refl
-any_append q key (k ∷ keys) = ap (λ b. eq_by_cmp (slice_cmp nat_cmp) q k || b) (any_append q key keys) ∙ swap (eq_by_cmp (slice_cmp nat_cmp) q k) (eq_by_cmp (slice_cmp nat_cmp) q key) (has_key keys q)
-  where
-    swap : (a b c : Bool) → (a || (b || c)) ≡ (b || (a || c))
-    swap true true c = refl
-    swap true false c = refl
-    swap false true c = refl
-    swap false false c = refl
+any_append q key (k ∷ keys) = ap (λ b. eq_by_cmp (slice_cmp nat_cmp) q k || b) (any_append q key keys) ∙ or_swap (eq_by_cmp (slice_cmp nat_cmp) q k) (eq_by_cmp (slice_cmp nat_cmp) q key) (has_key keys q)
 
 either : (a b : Bool) → cond a true b ≡ (a || b)
 either true b = refl
@@ -44,7 +39,7 @@ either false b = refl
 
 module _ (rs : List Resource) (keys : List (List ℕ)) (firsts ats : List ℕ) (sums : Sums) (rows : List PostingRow) (p : PostingRow) (has : HasPostings rs keys firsts ats sums rows) where
   count : length firsts ≡ length rows
-  count = ap length has.firsts_are ∙ length_map (λ (x : PostingRow). x.first) rows
+  count = ap length has.firsts_are ∙ length-map rows (λ (x : PostingRow). x.first)
 
   pub not_next : (IsNextPosting rs (length firsts) p → ⊥) → (more : List PostingRow) → PostingRule rs (rows ++ p ∷ more) → ⊥
   not_next none more all =

@@ -1,5 +1,5 @@
 -- One more row, and more after it.
-use Rattle.std.proofs.Common.{◌≡◌, ◌⊎◌, ◌<◌, ◌^◌, ℕ, zero, suc, ◌+◌, length, List, [], ◌∷◌, ◌++◌, map, refl, sym, ap, ◌∙◌, subst, arith, inl, inr, length-append}
+use Rattle.std.proofs.Common.{◌≡◌, ◌⊎◌, ◌<◌, ◌^◌, ℕ, zero, suc, ◌+◌, length, List, [], ◌∷◌, ◌++◌, refl, sym, ap, ◌∙◌, subst, arith, inl, inr, length-append}
 use Rattle.std.specs.Prelude.{Some}
 use Rattle.thes_base.specs.Forms.{IsNumber}
 use Rattle.thes_base.specs.Resources.{numbered}
@@ -50,7 +50,3 @@ module _ {A : Type 0} where
   -- with a number that may be, the rows are still few
   pub few_push : (number : A → ℕ) (rows : List A) (x : A) → number x ≡ length rows + 1 → IsNumber (number x) → length (rows ++ x ∷ []) < 2 ^ 32
   few_push number rows x last form = let l = length-append rows (x ∷ []) in let f = form.1 in omega (arith, l, last, f)
-
-pub length_map : {A B : Type 0} (f : A → B) (xs : List A) → length (map f xs) ≡ length xs
-length_map f [] = refl
-length_map f (x ∷ xs) = ap suc (length_map f xs)

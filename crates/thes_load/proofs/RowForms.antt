@@ -1,12 +1,7 @@
 -- Rows that meet their rules have their forms.
-use Rattle.std.proofs.Common.{◌≡◌, ◌<◌, ◌^◌, ℕ, length, List, [], ◌∷◌, refl, sym, ap, ◌∙◌, subst, arith, inl, inr, true, cond, ◌≢◌}
-use Rattle.std.proofs.lemmas.Bool.{cases_Bool}
-use Rattle.std.proofs.lemmas.Map.Lookups.{exact_unsigned}
+use Rattle.std.proofs.Common.{◌≡◌, ◌<◌, ◌^◌, ℕ, length, List, [], refl, sym, ap, ◌∙◌, subst, arith, inl, inr, ◌≢◌}
 use Rattle.std.specs.Prelude.{Option, None, Some}
 use Rattle.std.proofs.lemmas.Option.{same_Some}
-use Rattle.std.specs.Ordering.{nat_cmp, eq_by_cmp, is_eq}
-use Rattle.std.specs.Cmp.{nat_cmp_total, tied_itself, Equal-is}
-use Rattle.std.specs.FinMap as dict
 use Rattle.thes_base.specs.declared.data.Resource.{Resource}
 use Rattle.thes_base.specs.declared.data.ResourceKind.{ResourceKind}
 use Rattle.thes_base.specs.declared.data.ResourceKind.TheVariants.{Scheme, Concept, Collection, Outside}
@@ -22,51 +17,23 @@ use Rattle.thes_base.proofs.ResourceLemmas.{owner_exists}
 use Rattle.thes_rows.specs.declared.rows.HierRow.{HierRow}
 use Rattle.thes_rows.specs.declared.rows.PostingRow.{PostingRow}
 use Rattle.thes_rows.specs.declared.rows.MoveRow.{MoveRow}
-use Rattle.thes_rows.specs.Tables.{IsIn, Ascends, hier_link, step_of}
+use Rattle.thes_rows.specs.Tables.{IsIn, hier_link, step_of}
 use Rattle.thes_rows.proofs.MoveRows.{in_all}
-use Rattle.thes_tables.specs.Rules.{ResourceRule, OutsideRule, LabelRule, LinkRule, HierRule, PostingRule, MoveRule, iris_of, moves_of}
+use Rattle.thes_tables.specs.Rules.{ResourceRule, OutsideRule, LabelRule, LinkRule, HierRule, PostingRule, MoveRule, moves_of}
 use Rattle.thes_tables.proofs.Lists.{in_numbered, numbered_in, in_set}
 use Rattle.thes_tables.proofs.LinkTables.{hier_held}
 use Rattle.thes_tables.proofs.MoveRows.{row_of_move, move_of_row, all_of_in}
 use Rattle.thes_tables.proofs.Telling.{sources}
+use Rattle.thes_tables.proofs.Holding.{row_iri}
 use Rattle.thes_load.specs.Forms.{IsNumberOrNone, HasResourceForm, HasOutsideForm, HasLabelForm, HasLinkForm, HasHierForm, HasPostingForm, HasMoveForm}
 
 number_of : {A : Type 0} (rows : List A) (n : ℕ) (x : A) → length rows < 2 ^ 32 → numbered rows n ≡ Some x → IsNumber n
 number_of rows n x few e = let b = numbered_bound rows n x e in (b.0, (let c = b.1 in omega (arith, c, few)))
 
--- Rows of outside rise, so the IRI of each is found by its number.
-
-pub above_all : (above : ℕ) (rows : List (ℕ × List ℕ)) (x : ℕ × List ℕ) → Ascends above rows → IsIn x rows → above < x.0
-above_all above [] x up h = absurd h
-above_all above (r ∷ rows) x up (inl e) = subst (λ (y : ℕ × List ℕ). above < y.0) (sym e) up.0
-above_all above (r ∷ rows) x up (inr h) = let a = up.0 in let b = above_all r.0 rows x up.1 h in omega (arith, a, b)
-
-found_cases : (rows : List (ℕ × List ℕ)) (y x : ℕ × List ℕ) → (IsIn x rows → (y.0 < x.0) × (dict.get (iris_of rows) x.0 ≡ Some x.1)) → IsIn x (y ∷ rows) → dict.get (iris_of (y ∷ rows)) x.0 ≡ Some x.1
-found_cases rows y x later h = go h
-  where
-    is : dict.get (iris_of (y ∷ rows)) x.0 ≡ cond (eq_by_cmp nat_cmp x.0 y.0) (Some y.1) (dict.get (iris_of rows) x.0)
-    is = dict.get-insert nat_cmp_total (iris_of rows) y.0 y.1 x.0
-
-    go : IsIn x (y ∷ rows) → dict.get (iris_of (y ∷ rows)) x.0 ≡ Some x.1
-    go (inl e) =
-        let hit : eq_by_cmp nat_cmp x.0 y.0 ≡ true = ap (λ (z : ℕ × List ℕ). eq_by_cmp nat_cmp z.0 y.0) e ∙ ap is_eq (tied_itself nat_cmp_total y.0) in
-        is ∙ ap (λ b. cond b (Some y.1) (dict.get (iris_of rows) x.0)) hit ∙ ap (λ (z : ℕ × List ℕ). Some z.1) (sym e)
-    go (inr there) = elim (cases_Bool (eq_by_cmp nat_cmp x.0 y.0)) [
-      | inl hit ↦
-          let same : x.0 ≡ y.0 = exact_unsigned x.0 y.0 ((Equal-is (nat_cmp x.0 y.0)).0 hit) in
-          let lt = (later there).0 in
-          absurd (omega (arith, same, lt))
-      | inr miss ↦ is ∙ ap (λ b. cond b (Some y.1) (dict.get (iris_of rows) x.0)) miss ∙ (later there).1
-    ]
-
-pub found : (above : ℕ) (rows : List (ℕ × List ℕ)) (x : ℕ × List ℕ) → Ascends above rows → IsIn x rows → dict.get (iris_of rows) x.0 ≡ Some x.1
-found above [] x up h = absurd h
-found above (y ∷ rows) x up h = found_cases rows y x (λ later. (above_all y.0 rows x up.1 later, found y.0 rows x up.1 later)) h
-
 module _ (rs : List Resource) (few : length rs < 2 ^ 32) where
   pub outside_form : (base : List ℕ) (rows : List (ℕ × List ℕ)) (x : ℕ × List ℕ) → OutsideRule base rs rows → IsIn x rows → HasOutsideForm x
   outside_form base rows x rule h =
-      let at = rule.legal.only x.0 x.1 (found 0 rows x rule.ascends h) in
+      let at = rule.legal.only x.0 x.1 (row_iri 0 rows x rule.ascends h) in
       (number_of rs x.0 at.0 few at.1, rule.forms x h)
 
   pub label_form : (rows : List Label) (l : Label) → LabelRule rs rows → IsIn l rows → HasLabelForm l

@@ -2,16 +2,17 @@
 use Rattle.std.proofs.Common.{◌≡◌, ℕ, ◌+◌, length, List, [], ◌∷◌, ◌++◌, map, refl, sym, ap, ◌∙◌, inl, inr, arith, Bool, cond, not, ◌&&◌, eqb, length-append}
 use Rattle.std.specs.Prelude.{count_by}
 use Rattle.std.proofs.lemmas.List.Sums.{sum_by_push, sum_by-cons}
+use Rattle.std.proofs.lemmas.List.{length-map}
 use Rattle.thes_base.specs.declared.data.Resource.{Resource}
 use Rattle.thes_base.specs.declared.data.History.{History}
 use Rattle.thes_base.specs.Postings.{stands_at}
 use Rattle.thes_rows.specs.declared.rows.PostingRow.{PostingRow}
 use Rattle.thes_rows.specs.declared.rows.MoveRow.{MoveRow}
+use Rattle.thes_rows.specs.Tables.{is_standing}
 use Rattle.thes_post.specs.Sums.{Sums, AreSums, IsTold}
 use Rattle.thes_tables.specs.Rules.{EachRow, PostingRule, MoveRule, history_of}
 use Rattle.thes_tables.proofs.Telling.{told_count}
-use Rattle.thes_load.specs.Counted.{AreSumsOf, row_stands_at}
-use Rattle.thes_load.proofs.Pushing.{length_map}
+use Rattle.thes_load.specs.Counted.{AreSumsOf}
 
 abbrev number_of : Bool → ℕ
 number_of b = cond b 1 0
@@ -19,7 +20,7 @@ number_of b = cond b 1 0
 -- one more row
 pub sums_push : (rows : List PostingRow) (p : PostingRow) (old new : Sums) → AreSumsOf rows old → IsTold p.place p.withdrawn old new → AreSumsOf (rows ++ p ∷ []) new
 sums_push rows p old new are told = record {
-  standing = λ n. told.standing n ∙ ap (λ k. k + number_of (row_stands_at n p)) (are.standing n) ∙ sym (sum_by_push (λ (x : PostingRow). number_of (row_stands_at n x)) rows p);
+  standing = λ n. told.standing n ∙ ap (λ k. k + number_of (is_standing n p)) (are.standing n) ∙ sym (sum_by_push (λ (x : PostingRow). number_of (is_standing n x)) rows p);
   accepted = (let a = told.accepted in let b = are.accepted in let l = length-append rows (p ∷ []) in omega (arith, a, b, l));
   withdrawn = told.withdrawn ∙ ap (λ k. k + number_of p.withdrawn) are.withdrawn ∙ sym (sum_by_push (λ (x : PostingRow). number_of x.withdrawn) rows p);
   moves = told.moves ∙ are.moves;
@@ -42,8 +43,8 @@ module _ (rs : List Resource) (postings : List PostingRow) (moves : List MoveRow
 
   pub sums_told : (sums : Sums) (taken : ℕ) → AreSumsOf postings sums → length moves ≡ taken → AreSums hs (record sums { moves = taken })
   sums_told sums taken are count = record {
-    standing = λ n. are.standing n ∙ sym (same_count (stands_at n) (row_stands_at n) (history_of moves) postings (λ row h. ap (λ k. not row.withdrawn && eqb k n) (all.places row h)));
-    accepted = are.accepted ∙ sym (length_map (history_of moves) postings);
+    standing = λ n. are.standing n ∙ sym (same_count (stands_at n) (is_standing n) (history_of moves) postings (λ row h. ap (λ k. not row.withdrawn && eqb k n) (all.places row h)));
+    accepted = are.accepted ∙ sym (length-map postings (history_of moves));
     withdrawn = are.withdrawn ∙ sym (same_count (λ h. h.withdrawn) (λ row. row.withdrawn) (history_of moves) postings (λ row h. refl));
     moves = sym count ∙ told_count rs postings moves rule all;
   }

@@ -47,7 +47,10 @@ fn follow(places: &mut [ResNo], resources: &[Resource], taken: u64, step: &MoveR
     requires room { taken < u64.MAX }
     requires form { HasMoveForm step.now }
     ensures number { IsTrue result → step.now.number ≡ taken + 1 }
-    ensures takes { (postings : List PostingRow) (rows : List MoveRow) → HasMoves resources.now postings taken places.old rows → Takes (HasMoves resources.now postings (taken + 1) places.new) (MoveRule resources.now postings) rows step.now result }
+    ensures takes { (postings : List PostingRow) (rows : List MoveRow)
+        → HasMoves resources.now postings taken places.old rows
+        → Takes (HasMoves resources.now postings (taken + 1) places.new)
+        (MoveRule resources.now postings) rows step.now result }
 {
     if is_next(places, resources, taken, step) {
         places[step.posting.get() as usize - 1] = step.target;
@@ -62,7 +65,10 @@ fn follow_in(places: &mut Vec<ResNo>, resources: &[Resource], taken: u64, step: 
     requires room { taken < u64.MAX }
     requires form { HasMoveForm step.now }
     ensures number { IsTrue result → step.now.number ≡ taken + 1 }
-    ensures takes { (postings : List PostingRow) (rows : List MoveRow) → HasMoves resources.now postings taken places.old.items rows → Takes (HasMoves resources.now postings (taken + 1) places.new.items) (MoveRule resources.now postings) rows step.now result }
+    ensures takes { (postings : List PostingRow) (rows : List MoveRow)
+        → HasMoves resources.now postings taken places.old.items rows
+        → Takes (HasMoves resources.now postings (taken + 1) places.new.items)
+        (MoveRule resources.now postings) rows step.now result }
 {
     follow(places.as_mut_slice(), resources, taken, step)
 }
@@ -71,7 +77,10 @@ impl MoveLoad {
     /// Takes the next row, or answers false if it breaks the rule.
     pub fn take(&mut self, resources: &[Resource], step: &MoveRow) -> bool
         requires { HasMoveForm step.now }
-        ensures { (postings : List PostingRow) (rows : List MoveRow) → HasMoves resources.now postings self.old.taken self.old.places.items rows → Takes (HasMoves resources.now postings self.new.taken self.new.places.items) (MoveRule resources.now postings) rows step.now result }
+        ensures { (postings : List PostingRow) (rows : List MoveRow)
+            → HasMoves resources.now postings self.old.taken self.old.places.items rows
+            → Takes (HasMoves resources.now postings self.new.taken self.new.places.items)
+            (MoveRule resources.now postings) rows step.now result }
     {
         if follow_in(&mut self.places, resources, self.taken, step) {
             self.taken += 1;
@@ -97,7 +106,10 @@ impl MoveLoad {
 
     /// Checks whether each posting stands at the end where its row has it.
     pub fn close(&self, ats: &[ResNo]) -> bool
-        ensures { (resources : List Resource) (postings : List PostingRow) (rows : List MoveRow) → HasMoves resources postings self.now.taken self.now.places.items rows → ats.now ≡ map (λ (p : PostingRow). p.place) postings → IsTrue result ↔ MoveRule resources postings rows }
+        ensures { (resources : List Resource) (postings : List PostingRow) (rows : List MoveRow)
+            → HasMoves resources postings self.now.taken self.now.places.items rows
+            → ats.now ≡ map (λ (p : PostingRow). p.place) postings
+            → IsTrue result ↔ MoveRule resources postings rows }
     {
         are_at(self.places.as_slice(), ats)
     }

@@ -61,7 +61,8 @@ fn take_key(keys: &mut BTreeSet<Key>, key: Key) -> Result<bool, AllocError>
 impl PostingLoad {
     /// Starts with no row.
     pub fn new(alloc: Global) -> PostingLoad
-        ensures { (resources : List Resource) → HasPostings resources result.keys.keys result.firsts.items result.ats.items result.tally [] }
+        ensures { (resources : List Resource)
+            → HasPostings resources result.keys.keys result.firsts.items result.ats.items result.tally [] }
     {
         PostingLoad {
             keys: BTreeSet::new(alloc),

@@ -11,7 +11,7 @@ use Rattle.thes_base.specs.Postings.{place, moved, moved_those, withdraw, stands
 use Rattle.thes_base.specs.Changes.{new_history, histories_posted, histories_withdrawn}
 use Rattle.thes_base.proofs.Forwarding.{along_led, count_posted}
 use Rattle.thes_base.proofs.MoveLemmas.{place_moved, length_moved, count_moved}
-use Rattle.thes_base.proofs.PostingsKept.{count_set_numbered}
+use Rattle.thes_base.proofs.PostingsKept.{count_set_numbered, length_set}
 use Rattle.thes_base.proofs.ResourceLemmas.{same_or_not}
 use Rattle.thes_post.specs.Sums.{Sums, count_of, AreSums, OneMore, OneLess, SomeMoved}
 
@@ -44,11 +44,6 @@ count_set test (x ∷ hs) (suc i) h new e =
     let b = sum_by-cons (λ y. cond (test y) 1 0) x hs in
     let ih = count_set test hs i h new e in
     omega (arith, a, b, ih)
-
-length_set : (hs : List History) (i : ℕ) (new : History) → length (slice_set hs i new) ≡ length hs
-length_set [] i new = refl
-length_set (x ∷ hs) zero new = refl
-length_set (x ∷ hs) (suc i) new = ap suc (length_set hs i new)
 
 -- One more history.
 module _ (hs : List History) (key rec : List ℕ) (first : ℕ) (way : List ℕ) where

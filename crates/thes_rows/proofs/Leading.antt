@@ -40,10 +40,11 @@ use Rattle.thes_rows.specs.Leads.{Leads}
 use Rattle.std.proofs.lemmas.List.{append-nil}
 use Rattle.std.proofs.lemmas.Bool.{cases_Bool}
 use Rattle.thes_base.proofs.SetMembers.{inserted_cases, removed_cases}
+use Rattle.thes_base.proofs.ListedLemmas.{NumberedFrom, numbered_from}
 use Rattle.thes_rows.proofs.Sets.{in_append, clash, absent, inserted, inserted_union, coming_same, coming_absent, Absent, row_new, listed_push, listed_drop, listed_all}
 use Rattle.thes_rows.proofs.Steps.{all_append, fit_append}
 use Rattle.thes_rows.proofs.LinkRows.{LinkRows, links_of, relinked, added_only, dropped_only, link_in, link_out, link_fits, drop_fits, turning, turning_only, turning_rows, turning_fit, comes, comes_absent, comes_same}
-use Rattle.thes_rows.proofs.MoveRows.{bounded, rises_new, rises_along, moves_more, moves_posted, moves_set, map_set, map_numbered, with_at, rows_moved, placed_all, NumberedFrom, numbered_from, rows_placed}
+use Rattle.thes_rows.proofs.MoveRows.{bounded, rises_new, rises_along, moves_more, moves_posted, moves_set, map_set, map_numbered, with_at, rows_moved, placed_all, rows_placed}
 
 -- Rows of outside.
 

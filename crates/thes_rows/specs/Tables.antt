@@ -1,5 +1,5 @@
 -- The tables in which a state is kept.
-use Rattle.std.specs.Prelude.{◌≡◌, ◌⊎◌, ◌<◌, ℕ, List, [], ◌∷◌, Option, None, Some, map, true}
+use Rattle.std.specs.Prelude.{◌≡◌, ◌⊎◌, ◌<◌, ℕ, List, [], ◌∷◌, Option, None, Some, map, true, ◌==◌, ◌&&◌, Bool, not}
 use Rattle.std.specs.FinSet as set
 use Rattle.std.specs.FinMap as dict
 use Rattle.thes_base.specs.declared.data.Resource.{Resource}
@@ -95,6 +95,10 @@ posting_row h = record { number = h.number; key = h.key; rec = h.rec; first = h.
 
 abbrev pub step_of : MoveRow → Move
 step_of row = record { number = row.number; source = row.source; target = row.target }
+
+-- the posting isn't withdrawn, and stands at the concept
+abbrev pub is_standing : ℕ → PostingRow → Bool
+is_standing concept row = not row.withdrawn && row.place == concept
 
 -- the row tells a move of the posting that it names
 abbrev pub IsMoveOf : List History → MoveRow → Type 0

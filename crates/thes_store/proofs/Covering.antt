@@ -4,6 +4,7 @@ use Rattle.std.specs.Prelude.{Option, None, Some, Result, slice_get, slice_set, 
 use Rattle.std.specs.declared.alloc.AllocError.{AllocError}
 use Rattle.std.proofs.lemmas.Bool.{cases_eq, cases_lt}
 use Rattle.std.proofs.lemmas.Option.{same_Some}
+use Rattle.std.proofs.lemmas.List.{take_all}
 use Rattle.thes_base.specs.Resources.{numbered, set_numbered}
 use Rattle.thes_base.proofs.NumberedLemmas.{push_cases, set_cases, numbered_bound}
 use Rattle.thes_rows.specs.declared.change.Change.{Change}
@@ -14,7 +15,7 @@ use Rattle.thes_rows.specs.Tables.{Tables, IsIn}
 use Rattle.thes_rows.specs.Rows.{changed, all_changed, with_posting, withdrawn_row, placed_row, moved_row, Fits, FitAll}
 use Rattle.thes_rows.proofs.Sets.{append_left, map_in}
 use Rattle.thes_rows.proofs.Steps.{all_append}
-use Rattle.thes_store.proofs.Places.{take_one, take_whole}
+use Rattle.thes_store.proofs.Places.{take_one}
 use Rattle.thes_store.specs.declared.indexes.Indexes.{Indexes}
 use Rattle.thes_store.specs.Index.{IsAt}
 use Rattle.thes_store.specs.Keys.{LeadsTo}
@@ -274,12 +275,12 @@ goes_on old new changes i c t step next lt is fits so_far grows reaches next_is 
 
 pub ends : (x : Indexes) (changes : List Change) (i : ℕ) (t : Tables) (step : ℕ) → length changes ≤ i → SoFar x changes i t step → CoversAll x changes t
 ends x changes i t step all so_far =
-    let same = take_whole changes i all in
+    let same = take_all i changes all in
     record {
       last = subst (λ (l : List Change). Covers x (all_changed l t)) same so_far.last;
       standing = λ k. elim (cases_lt i k) [
         | inr least ↦ so_far.standing k least
-        | inl past ↦ subst (λ (l : List Change). AreStanding x.standing (all_changed l t).posting) (same ∙ sym (take_whole changes k (omega (arith, all, past)))) so_far.last.standing
+        | inl past ↦ subst (λ (l : List Change). AreStanding x.standing (all_changed l t).posting) (same ∙ sym (take_all k changes (omega (arith, all, past)))) so_far.last.standing
       ];
     }
 

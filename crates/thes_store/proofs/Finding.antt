@@ -7,14 +7,14 @@ use Rattle.std.specs.BTreeMap.{get}
 use Rattle.std.specs.Cmp.Lexicographic.{slice_cmp}
 use Rattle.std.specs.Ordering.{nat_cmp}
 use Rattle.thes_rows.specs.declared.rows.PostingRow.{PostingRow}
-use Rattle.thes_rows.specs.Tables.{Tables, IsIn}
+use Rattle.thes_rows.specs.Tables.{Tables, IsIn, is_standing}
 use Rattle.thes_store.specs.declared.indexes.Indexes.{Indexes}
 use Rattle.thes_store.specs.declared.keys.Keys.{Keys}
 use Rattle.thes_store.specs.Index.{IsAt, ArePlaces}
 use Rattle.thes_store.specs.Covers.{Covers}
 use Rattle.thes_store.specs.Keys.{LeadsTo, digest_of}
 use Rattle.thes_store.specs.Picked.{is_move_of, picked}
-use Rattle.thes_store.specs.Reading.{IsFound, is_standing, standing_rows}
+use Rattle.thes_store.specs.Reading.{IsFound, standing_rows}
 use Rattle.thes_store.proofs.Places.{picked_all}
 
 in_get : (xs : List PostingRow) (row : PostingRow) → IsIn row xs → (i : ℕ) × (slice_get xs i ≡ Some row)

@@ -54,10 +54,6 @@ module _ {S A : Type 0} (gives : S → A → Result (Unit {0}) Fault → S → T
         go (y ∷ xs) zero old lt is t = some_more (f y ∷ []) (map f xs) fault old new (subst (λ m. TakesSome gives fault m (f y ∷ []) new) t (subst (λ z. TakesSome gives fault mid (f z ∷ []) new) is u))
         go (y ∷ xs) (suc i) old lt is t = inr (inr (t.0, t.1, go xs i t.0 (omega arith) is t.2))
 
-pub map_twice : {A B C : Type 0} (f : B → C) (g : A → B) (xs : List A) → map f (map g xs) ≡ map (λ x. f (g x)) xs
-map_twice f g [] = refl
-map_twice f g (x ∷ xs) = ap (λ l. f (g x) ∷ l) (map_twice f g xs)
-
 -- Rows with gaps.
 
 abbrev pub handed_slots : {R : Type 0} → Table → (R → List Cell) → List (Option R) → List (Table × Option (List Cell))

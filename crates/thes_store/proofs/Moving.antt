@@ -6,7 +6,6 @@ use Rattle.std.specs.Ordering.{nat_cmp}
 use Rattle.std.specs.BTreeMap.{get}
 use Rattle.std.specs.BTreeSet.{BTreeSet, contains}
 use Rattle.std.proofs.lemmas.Option.{same_Some}
-use Rattle.thes_base.proofs.NumberedLemmas.{set_cases}
 use Rattle.thes_rows.specs.declared.rows.PostingRow.{PostingRow}
 use Rattle.thes_rows.specs.Tables.{IsIn}
 use Rattle.thes_rows.specs.Rows.{placed_row, moved_row}
@@ -14,14 +13,9 @@ use Rattle.thes_store.proofs.Places.{in_keys}
 use Rattle.thes_store.specs.declared.index.Index.{Index}
 use Rattle.thes_store.specs.Covers.{AreStanding}
 use Rattle.thes_store.specs.Picked.{with_row, changed_at}
+use Rattle.thes_base.proofs.NumberedLemmas.{slice_set_cases}
 
 -- Rows at places.
-
-pub set_at : {A : Type 0} (rows : List A) (x y : A) (i j : ℕ) → slice_get (slice_set rows i x) j ≡ Some y → ((j ≡ i) × (y ≡ x)) ⊎ ((j ≢ i) × (slice_get rows j ≡ Some y))
-set_at rows x y i j e = elim (set_cases rows x y (suc i) (suc j) (omega arith) (ap (λ k. slice_get (slice_set rows k x) j) (let q : suc i - 1 ≡ i = omega arith in q) ∙ e)) [
-  | inl here ↦ inl ((let h = here.0 in omega (arith, h)), here.1)
-  | inr other ↦ inr ((λ same. other.0 (ap suc same)), other.1)
-]
 
 module _ {A : Type 0} (f : A → A) where
   pub changed_append : (places more : List ℕ) (rows : List A) → changed_at f (places ++ more) rows ≡ changed_at f more (changed_at f places rows)
@@ -63,7 +57,7 @@ module _ {A : Type 0} (f : A → A) where
 
         go : (o : Option A) → slice_get rows i ≡ o → StayBut places (elim o [ None ↦ rows | Some row ↦ slice_set rows i (f row) ])
         go None e j row at = left j row (λ same. let no = sym e ∙ ap (slice_get rows) (sym same) ∙ at in absurd (cc)) (stay j row at)
-        go (Some old) e j row at = elim (set_at rows (f old) row i j at) [
+        go (Some old) e j row at = elim (slice_set_cases rows (f old) row i j at) [
           | inl here ↦ inl (ap f here.1 ∙ again old ∙ sym here.1)
           | inr other ↦ left j row other.0 (stay j row other.1)
         ]

@@ -82,12 +82,6 @@ split_at [] i x lt e = absurd (omega arith)
 split_at (y ∷ xs) zero x lt e = (xs, ap (λ z. z ∷ xs) (sym e))
 split_at (y ∷ xs) (suc i) x lt e = let h = split_at xs i x (omega arith) e in (h.0, ap (λ l. y ∷ l) h.1)
 
-pub take_whole : {A : Type 0} (xs : List A) (i : ℕ) → length xs ≤ i → take i xs ≡ xs
-take_whole [] zero h = refl
-take_whole [] (suc i) h = refl
-take_whole (x ∷ xs) zero h = absurd (omega arith)
-take_whole (x ∷ xs) (suc i) h = ap (λ l. x ∷ l) (take_whole xs i (omega arith))
-
 -- Rows at such places.
 
 module _ {A : Type 0} (p : A → Bool) where

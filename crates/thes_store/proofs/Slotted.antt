@@ -11,9 +11,8 @@ use Rattle.std.specs.Option.{IsSomeAnd}
 use Rattle.std.specs.Ordering.{nat_cmp}
 use Rattle.std.specs.BTreeMap.{get}
 use Rattle.std.specs.BTreeSet.{BTreeSet, contains}
-use Rattle.thes_base.proofs.NumberedLemmas.{push_cases}
+use Rattle.thes_base.proofs.NumberedLemmas.{push_cases, slice_set_cases}
 use Rattle.thes_rows.specs.Tables.{IsIn}
-use Rattle.thes_store.proofs.Moving.{set_at}
 use Rattle.thes_store.proofs.Places.{in_keys}
 use Rattle.thes_store.specs.declared.slots.Slots.{Slots}
 use Rattle.thes_store.specs.Index.{IsAt, KeepsPlaces, KeepsOthers}
@@ -60,7 +59,7 @@ module _ {A : Type 0} where
 
         go : (o : Option (Option A)) → slice_get old.rows.items i ≡ o → slice_get (elim o [ None ↦ old.rows.items | Some slot ↦ slice_set old.rows.items i None ]) j ≡ Some (Some row) → IsAt new.places (number row) j
         go None none at = other (λ same. let no = sym none ∙ ap (slice_get old.rows.items) (sym same) ∙ at in absurd (cc)) at
-        go (Some slot) there at = elim (set_at old.rows.items None (Some row) i j at) [
+        go (Some slot) there at = elim (slice_set_cases old.rows.items None (Some row) i j at) [
           | inl here ↦ let no = here.1 in absurd (cc)
           | inr apart ↦ other apart.0 apart.1
         ]

@@ -2,10 +2,10 @@
 ghost use Rattle.std.specs.Prelude.{◌≡◌, ◌≢◌, ◌++◌, ℕ, map, slice_get, option_copied, Some, IfSome, IfNone, IfOk, IfErr, OnOk};
 ghost use Rattle.thes_base.specs.declared.fault.Fault.{Fault};
 ghost use Rattle.thes_rows.specs.declared.rows.PostingRow.{PostingRow};
-ghost use Rattle.thes_rows.specs.Tables.{IsIn, no_rows, step_of};
+ghost use Rattle.thes_rows.specs.Tables.{IsIn, is_standing, no_rows, step_of};
 ghost use Rattle.thes_store.specs.Keys.{LeadsTo};
 ghost use Rattle.thes_store.specs.Picked.{is_move_of, passing, picked};
-ghost use Rattle.thes_store.specs.Reading.{IsFound, is_standing};
+ghost use Rattle.thes_store.specs.Reading.{IsFound};
 ghost use Rattle.thes_store.specs.Handing.{Hands};
 
 use crate::handing::hand_all;

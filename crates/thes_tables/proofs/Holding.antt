@@ -7,6 +7,7 @@ use Rattle.std.specs.Prelude.{Some, Ok, true, false}
 use Rattle.std.specs.Ordering.{nat_cmp, eq_by_cmp, is_eq}
 use Rattle.std.specs.Cmp.{nat_cmp_total, tied_itself, Equal-is}
 use Rattle.std.specs.FinMap as dict
+use Rattle.std.proofs.lemmas.List.{length-map}
 use Rattle.thes_base.specs.declared.data.History.{History}
 use Rattle.thes_base.specs.Resources.{numbered, IsConcept, is_live_concept}
 use Rattle.thes_base.specs.Postings.{place}
@@ -26,7 +27,6 @@ use Rattle.thes_tables.specs.Loads.{Loads}
 use Rattle.thes_tables.proofs.Lists.{in_numbered, numbered_unmap, set_of_lists}
 use Rattle.thes_tables.proofs.LinkTables.{same_links}
 use Rattle.thes_tables.proofs.MoveOrders.{own_moves, in_order, as_many}
-use Rattle.thes_tables.proofs.Telling.{length_map}
 use Rattle.thes_tables.proofs.Opening.{IsOpen, loads_open}
 
 -- The state that the rows tell is the one whose rows they are.
@@ -49,12 +49,12 @@ module _ (base : List ℕ) (s : State) (t : Tables) (legal : Legal base s) (are 
 
 -- A row of outside gives its IRI.
 
-ascended : (above : ℕ) (rows : List (ℕ × List ℕ)) (row : ℕ × List ℕ) → Ascends above rows → IsIn row rows → above < row.0
+pub ascended : (above : ℕ) (rows : List (ℕ × List ℕ)) (row : ℕ × List ℕ) → Ascends above rows → IsIn row rows → above < row.0
 ascended above [] row ascends h = absurd h
 ascended above (x ∷ rows) row ascends (inl e) = let n = ap (λ (y : ℕ × List ℕ). y.0) e in let r = ascends.0 in omega (arith, n, r)
 ascended above (x ∷ rows) row ascends (inr h) = let q = ascended x.0 rows row ascends.1 h in let r = ascends.0 in omega (arith, q, r)
 
-row_iri : (above : ℕ) (rows : List (ℕ × List ℕ)) (row : ℕ × List ℕ) → Ascends above rows → IsIn row rows → dict.get (iris_of rows) row.0 ≡ Some row.1
+pub row_iri : (above : ℕ) (rows : List (ℕ × List ℕ)) (row : ℕ × List ℕ) → Ascends above rows → IsIn row rows → dict.get (iris_of rows) row.0 ≡ Some row.1
 row_iri above [] row ascends h = absurd h
 row_iri above (x ∷ rows) row ascends (inl e) =
     subst (λ (y : ℕ × List ℕ). dict.get (iris_of (x ∷ rows)) y.0 ≡ Some y.1) (sym e)
@@ -97,7 +97,7 @@ module _ (t : Tables) (legal : Legal t.base (state_of t)) (are : IsRowsOf t.base
 
   held_postings : PostingRule t.resource t.posting
   held_postings = record {
-    few = (let l = length_map (history_of t.move) t.posting in let f = legal.postings.few in omega (arith, l, f));
+    few = (let l = length-map t.posting (history_of t.move) in let f = legal.postings.few in omega (arith, l, f));
     numbers = λ n p e. (sound_at n p e).number;
     forms = λ p h. let at = in_numbered t.posting p h in forms.postings at.0 (history_of t.move p) (history_at at.0 p at.1);
     keys = λ m n x y ex ey same. legal.postings.keys m n (history_of t.move x) (history_of t.move y) (history_at m x ex) (history_at n y ey) same;

@@ -8,9 +8,9 @@ use Rattle.thes_base.specs.declared.data.Move.{Move}
 use Rattle.thes_base.specs.Resources.{numbered}
 use Rattle.thes_base.specs.Postings.{move_count}
 use Rattle.thes_base.specs.Legal.{AllMoves, HasMove}
+use Rattle.thes_base.proofs.ListedLemmas.{NumberedFrom, numbered_from}
 use Rattle.thes_rows.specs.declared.rows.MoveRow.{MoveRow}
 use Rattle.thes_rows.specs.Tables.{IsIn, step_of}
-use Rattle.thes_rows.proofs.MoveRows.{NumberedFrom, numbered_from}
 use Rattle.thes_tables.specs.Rules.{EachRow, moves_of}
 
 -- the first row is the posting's, or another's

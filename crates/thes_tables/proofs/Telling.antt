@@ -1,7 +1,8 @@
 -- What tables that meet their rules tell is a legal state, and they are its rows.
-use Rattle.std.proofs.Common.{◌≡◌, ◌≢◌, ◌≤◌, ℕ, suc, length, List, [], ◌∷◌, map, refl, sym, ap, ◌∙◌, subst, arith, inl, inr}
+use Rattle.std.proofs.Common.{◌≡◌, ◌≢◌, ◌≤◌, ℕ, length, List, [], ◌∷◌, map, refl, sym, ap, ◌∙◌, subst, arith, inl, inr}
 use Rattle.std.proofs.lemmas.Option.{same_Some}
 use Rattle.std.specs.Prelude.{Some, Ok}
+use Rattle.std.proofs.lemmas.List.{length-map}
 use Rattle.thes_base.specs.declared.data.Resource.{Resource}
 use Rattle.thes_base.specs.declared.data.History.{History}
 use Rattle.thes_base.specs.declared.data.Move.{Move}
@@ -24,10 +25,6 @@ use Rattle.thes_tables.proofs.LinkTables.{link_lists, hier_lists}
 use Rattle.thes_tables.proofs.MoveRows.{row_of_move, move_of_row, has_of_in, in_of_has, all_of_in, counted}
 use Rattle.thes_tables.proofs.MoveOrders.{rises_of_order}
 use Rattle.thes_tables.proofs.Opening.{IsOpen, open_of, open_listed}
-
-pub length_map : {A B : Type 0} (f : A → B) (xs : List A) → length (map f xs) ≡ length xs
-length_map f [] = refl
-length_map f (x ∷ xs) = ap suc (length_map f xs)
 
 -- rows of move that are the same
 row_one : (x y : MoveRow) → x.posting ≡ y.posting → step_of x ≡ step_of y → x ≡ y
@@ -54,7 +51,7 @@ module _ (rs : List Resource) (P : List PostingRow) (M : List MoveRow) (posting 
 
   -- there are as many rows of move as moves
   pub told_count : length M ≡ move_count hs
-  told_count = counted M hs told_number (λ row h. let p = move.known row h in let b = numbered_bound P row.posting p.0 p.1 in let l = length_map (history_of M) P in (b.0, (let q = b.1 in omega (arith, q, l)))) told_own
+  told_count = counted M hs told_number (λ row h. let p = move.known row h in let b = numbered_bound P row.posting p.0 p.1 in let l = length-map P (history_of M) in (b.0, (let q = b.1 in omega (arith, q, l)))) told_own
 
   -- the number of a row of move is its place
   move_at : (row : MoveRow) → IsIn row M → numbered M row.number ≡ Some row
@@ -109,7 +106,7 @@ module _ (rs : List Resource) (P : List PostingRow) (M : List MoveRow) (posting 
 
   told_postings : LegalPostings rs hs
   told_postings = record {
-    few = (let l = length_map (history_of M) P in let f = posting.few in omega (arith, l, f));
+    few = (let l = length-map P (history_of M) in let f = posting.few in omega (arith, l, f));
     few_moves = (let c = told_count in let f = move.few in omega (arith, c, f));
     sound = told_sound;
     keys = λ m n g h eg eh same.

@@ -26,6 +26,3 @@ in_front P Q (Some b) h = h
 pub matched : (b : Bool) (Bad Good : Type 0) → (b ≡ true → Bad) → (b ≡ false → Good) → MatchBool b Bad Good
 matched true Bad Good f g = f refl
 matched false Bad Good f g = g refl
-
-pub never : (b : Bool) → b ≡ true → b ≡ false → ⊥
-never b e f = cc

@@ -31,7 +31,7 @@ use Rattle.thes_base.proofs.ResourcesKept.{resources_push, resources_push_outsid
 use Rattle.thes_base.proofs.Uniqueness.{made_unique, taken_breaks, live_before}
 use Rattle.thes_base.proofs.MachineLemmas.{sound_empty}
 use Rattle.thes_base.proofs.NumberedLemmas.{none_at, numbered_bound}
-use Rattle.thes_base.proofs.ResourceLemmas.{same_or_not, one_resource, concept_of_live, live_of_live}
+use Rattle.thes_base.proofs.ResourceLemmas.{same_or_not, one_resource, concept_of_live, live_of_live, scheme_at}
 use Rattle.thes_base.proofs.MergedLabels.{labels_merged, preferred_before}
 use Rattle.thes_base.specs.Listing.{IsListing}
 use Rattle.std.proofs.lemmas.Option.{same_Some}
@@ -46,7 +46,7 @@ use Rattle.thes_vocab.specs.Listed.{IsAdded, IsRemoved}
 use Rattle.thes_vocab.specs.Requests.{IsNamed, IsFree}
 use Rattle.thes_vocab.specs.Kept.{IsConsistent}
 use Rattle.thes_vocab.proofs.NameLemmas.{same_or_not as same_key}
-use Rattle.thes_vocab.proofs.ListedLemmas.{scheme_at, concept_cases, listed_made, listed_dead}
+use Rattle.thes_vocab.proofs.ListedLemmas.{concept_cases, listed_made, listed_dead}
 use Rattle.thes_vocab.proofs.TableLemmas.{put_back}
 use Rattle.thes_vocab.proofs.JudgingLemmas.{owners_bound, relabelled_is, renamed_breaks_s13}
 

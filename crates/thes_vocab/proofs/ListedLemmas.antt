@@ -1,6 +1,6 @@
 -- The index of live concepts after a resource is made, and after one dies.
-use Rattle.std.proofs.Common.{◌≡◌, ◌≢◌, ◌⊎◌, inl, inr, ℕ, ◌+◌, length, List, [], ◌∷◌, ◌++◌, refl, sym, ap, ◌∙◌, subst}
-use Rattle.std.specs.Prelude.{Option, None, Some, option_and_then}
+use Rattle.std.proofs.Common.{◌≡◌, ◌≢◌, ◌⊎◌, inl, inr, ℕ, ◌+◌, length, List, [], ◌∷◌, ◌++◌, refl, sym, ◌∙◌, subst}
+use Rattle.std.specs.Prelude.{Option, None, Some}
 use Rattle.std.specs.Option.{MatchOption}
 use Rattle.std.specs.Ordering.{nat_cmp}
 use Rattle.std.proofs.lemmas.Cmp.{nat_cmp_total}
@@ -11,15 +11,13 @@ use Rattle.thes_base.specs.Resources.{numbered, set_numbered, scheme_of}
 use Rattle.thes_base.specs.Changes.{dead}
 use Rattle.thes_base.proofs.Uniqueness.{live_before}
 use Rattle.thes_base.proofs.NumberedLemmas.{push_old, push_new, push_cases, numbered_bound, set_other}
+use Rattle.thes_base.proofs.ResourceLemmas.{scheme_at}
 use Rattle.thes_lists.specs.declared.lists.Lists.{Lists}
 use Rattle.thes_lists.specs.Lists.{AreListings}
 use Rattle.thes_lists.proofs.ListingLemmas.{listings_same, listings_insert, listings_remove}
 use Rattle.std.proofs.lemmas.Option.{same_Some}
 use Rattle.thes_vocab.specs.Vocabulary.{IsConceptIn, IsConceptOf}
 use Rattle.thes_vocab.specs.Listed.{IsAdded, IsRemoved}
-
-pub scheme_at : (rs : List Resource) (n : ℕ) (r : Resource) → numbered rs n ≡ Some r → scheme_of rs n ≡ r.scheme
-scheme_at rs n r e = ap (option_and_then (λ (x : Resource). x.scheme)) e
 
 -- a concept of a scheme is the new resource, or was one
 pub concept_cases : (rs : List Resource) (r : Resource) (scheme n : ℕ) → IsConceptOf (rs ++ r ∷ []) scheme n → IsConceptOf rs scheme n ⊎ ((n ≡ length rs + 1) × IsConceptIn scheme r)

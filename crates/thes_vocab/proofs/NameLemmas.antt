@@ -11,6 +11,7 @@ use Rattle.std.specs.Option.{IsSome}
 use Rattle.std.specs.Map.{lookup}
 use Rattle.std.proofs.lemmas.Cmp.{nat_list_cmp_total}
 use Rattle.std.proofs.lemmas.Map.Lookups.{exact_unsigned, exact_bytes}
+use Rattle.std.proofs.lemmas.Bool.{both_ways}
 use Rattle.thes_vocab.specs.Named.{ByText, ByTag, text_holder, tag_holder, IsPut, AreSameNames, IsTagPut, AreSameTags}
 
 module _ {K : Type 0} (R : K → K → Ordering) (o : IsTotalOrder R) (exact : (x y : K) → R x y ≡ Equal → x ≡ y) where
@@ -24,12 +25,9 @@ module _ {K : Type 0} (R : K → K → Ordering) (o : IsTotalOrder R) (exact : (
   pub same_or_not : (k key : K) → (k ≡ key) ⊎ (k ≡ key → ⊥)
   same_or_not k key = go (is_at (R key) k) refl
     where
-      never : (b : Bool) → b ≡ true → b ≡ false → ⊥
-      never b e f = cc
-
       go : (b : Bool) → is_at (R key) k ≡ b → (k ≡ key) ⊎ (k ≡ key → ⊥)
       go true e = inl (sym (exact key k ((Equal-is (R key k)).0 e)))
-      go false e = inr (λ same. never (is_at (R key) k) (ap (λ x. is_at (R key) x) same ∙ ap is_eq (tied_itself o key)) e)
+      go false e = inr (λ same. both_ways (is_at (R key) k) e (ap (λ x. is_at (R key) x) same ∙ ap is_eq (tied_itself o key)))
 
 -- At one level: the map has this at the key, and at other keys what it had.
 pub record IsSet {K X : Type 0} (R : K → K → Ordering) (old new : BTreeMap K X) (key : K) (value : Option X) : Type 0 where

@@ -20,6 +20,7 @@ use Rattle.thes_base.specs.Machine.{owned}
 use Rattle.thes_base.proofs.LabelSets.{labels_total, labels_exact}
 use Rattle.thes_base.proofs.MergedLabels.{name_of}
 use Rattle.thes_base.proofs.ResourceLemmas.{left_true, right_true}
+use Rattle.thes_base.proofs.SetMembers.{or_swap}
 use Rattle.std.proofs.lemmas.Bool.{cases_Bool, not-true}
 use Rattle.thes_vocab.specs.LabelData.{data_cmp, own_label, has_own, AreLabelsOf}
 use Rattle.thes_vocab.specs.Taken.{takes, takes_own, taken, gives}
@@ -42,17 +43,17 @@ any_more p (y ∷ xs) (suc i) x b e = ap (λ c. p y || c) (any_more p xs i x (om
 pub gives_more : (source target : List LabelData) (i : ℕ) (l q : LabelData) → i < length source → l ≡ get_or source i l → gives (take (i + 1) source) target q ≡ (gives (take i source) target q || (takes_own target l && eq_by_cmp data_cmp q (taken l)))
 gives_more source target i l q b e = ap (λ k. gives (take k source) target q) (let s : i + 1 ≡ suc i = omega arith in s) ∙ any_more (λ x. takes_own target x && eq_by_cmp data_cmp q (taken x)) source i l b e
 
-or_swap : (a b c : Bool) → (a || (b || c)) ≡ (b || (c || a))
-or_swap true true c = refl
-or_swap true false true = refl
-or_swap true false false = refl
-or_swap false b c = ap (λ d. b || d) (sym (or_false c))
+or_turn : (a b c : Bool) → (a || (b || c)) ≡ (b || (c || a))
+or_turn true true c = refl
+or_turn true false true = refl
+or_turn true false false = refl
+or_turn false b c = ap (λ d. b || d) (sym (or_false c))
 
 -- the row with the label taken
 pub gives_taken : (source target row now : List LabelData) (i : ℕ) (l q : LabelData) → i < length source → l ≡ get_or source i l → has_own row q ≡ (has_own target q || gives (take i source) target q) → takes_own target l ≡ true → has_own now q ≡ (eq_by_cmp data_cmp q (taken l) || has_own row q)
     → has_own now q ≡ (has_own target q || gives (take (i + 1) source) target q)
 gives_taken source target row now i l q b e before picks after =
-    after ∙ ap (λ c. eq_by_cmp data_cmp q (taken l) || c) before ∙ or_swap (eq_by_cmp data_cmp q (taken l)) (has_own target q) (gives (take i source) target q)
+    after ∙ ap (λ c. eq_by_cmp data_cmp q (taken l) || c) before ∙ or_turn (eq_by_cmp data_cmp q (taken l)) (has_own target q) (gives (take i source) target q)
     ∙ ap (λ c. has_own target q || c) (ap (λ y. gives (take i source) target q || (y && eq_by_cmp data_cmp q (taken l))) (sym picks) ∙ sym (gives_more source target i l q b e))
 
 pub gives_left : (source target row : List LabelData) (i : ℕ) (l q : LabelData) → i < length source → l ≡ get_or source i l → has_own row q ≡ (has_own target q || gives (take i source) target q) → takes_own target l ≡ false → has_own row q ≡ (has_own target q || gives (take (i + 1) source) target q)
@@ -177,15 +178,10 @@ module _ (labels : Labels) (source target : ℕ) (s13 : S13 labels) where
   empty_union : set.union labels (set.empty {R = label_cmp}) ≡ labels
   empty_union = set.same_set labels_total labels_exact _ _ (λ q. set.contains-union labels_total labels set.empty q ∙ ap (λ b. set.contains labels q || b) (set.contains-empty label_cmp q) ∙ or_false (set.contains labels q))
 
-  or_push : (a b c : Bool) → (a || (b || c)) ≡ (b || (a || c))
-  or_push true true c = refl
-  or_push true false c = refl
-  or_push false b c = refl
-
   union_insert : (more : Labels) (g : Label) → set.union labels (set.insert more g) ≡ set.insert (set.union labels more) g
   union_insert more g = set.same_set labels_total labels_exact _ _ (λ q.
       set.contains-union labels_total labels (set.insert more g) q ∙ ap (λ b. set.contains labels q || b) (set.contains-insert labels_total more g q)
-      ∙ or_push (set.contains labels q) (eq_by_cmp label_cmp q g) (set.contains more q)
+      ∙ or_swap (set.contains labels q) (eq_by_cmp label_cmp q g) (set.contains more q)
       ∙ sym (set.contains-insert labels_total (set.union labels more) g q ∙ ap (λ b. eq_by_cmp label_cmp q g || b) (set.contains-union labels_total labels more q)))
 
   -- one of those that were picked

@@ -1,4 +1,4 @@
-use Rattle.std.proofs.Common.{◌≡◌, ◌+◌, ◌≤◌, ◌<◌, ℕ, List, get_or, take, length, below_more, arith, ap, sym, subst, ◌∙◌, Contains, sum_by, false}
+use Rattle.std.proofs.Common.{◌≡◌, ◌+◌, ◌≤◌, ℕ, get_or, take, length, below_more, arith, ap, sym, subst, ◌∙◌, Contains, sum_by, false}
 use Rattle.std.proofs.lemmas.List.{get_or_default, take_more}
 use Rattle.std.proofs.lemmas.List.Elements.{Contains-get_or}
 use Rattle.std.proofs.lemmas.List.Sums.{sum_by_push, sum_by_more_le}
@@ -8,39 +8,36 @@ use Rattle.thes_graph.specs.Sight.{WouldBe, CoversAt}
 use Rattle.thes_graph.specs.Steps.{Steps}
 use Rattle.thes_graph.specs.Trail.{Finds, weight}
 use Rattle.thes_graph.proofs.between.are_tied.Goals as goal
+use Rattle.thes_graph.proofs.TrailLemmas.{item_at}
 
 pub returns-then-branch-clause-count : goal.returns-then-branch-clause-count
 returns-then-branch-clause-count g c ns covers =
-    let inside : c.loop-x.x-index < length c.args.xs.now = omega (arith, c.loop-x-test.true, ap length c.as_slice-x-items.ensures) in
-    let at : c.x-item.result ≡ get_or c.args.xs.now c.loop-x.x-index 0 =
-    c.x-item.is ∙ ap (λ (xs : List ℕ). get_or xs c.loop-x.x-index c.x-item.result) c.as_slice-x-items.ensures ∙ get_or_default c.args.xs.now c.loop-x.x-index c.x-item.result 0 inside in
+    let item = item_at _ c.args.xs.now c.loop-x.x-index c.x-item.result c.as_slice-x-items.ensures c.loop-x-test.true c.x-item.is in
     let w : ℕ → ℕ = λ n. sum_by (weight c.args.sight.now n Beside) ns in
     let P : ℕ → Type 0 = λ n. CoversAt c.args.sight.now (g.L.Links.held c.args.links.now) n ns in
-    let here : P c.x-item.result = subst P (sym at) (covers (get_or c.args.xs.now c.loop-x.x-index 0) (Contains-get_or c.args.xs.now c.loop-x.x-index 0 inside)) in
+    let here : P c.x-item.result = subst P (sym item.1) (covers (get_or c.args.xs.now c.loop-x.x-index 0) (Contains-get_or c.args.xs.now c.loop-x.x-index 0 item.0)) in
     let now : g.L.Links.count c.follow_on.new.links ≤ g.L.Links.count c.loop-x.links + w c.x-item.result = c.in_ok-follow_on.ensures.count ns (rw c.loop-x.invariant.held here) in
-    omega (arith, now, ap w at, c.loop-x.invariant.count ns covers, sum_by_more_le w c.args.xs.now c.loop-x.x-index 0 inside)
+    omega (arith, now, ap w item.1, c.loop-x.invariant.count ns covers, sum_by_more_le w c.args.xs.now c.loop-x.x-index 0 item.0)
 
 pub loop-x-preserved : goal.loop-x-preserved
 loop-x-preserved g c =
     let S : ℕ → ℕ → Type 0 = Steps Related (WouldBe c.args.sight.now (g.L.Links.held c.args.links.now)) in
-    let inside : c.loop-x.x-index < length c.args.xs.now = omega (arith, c.loop-x-test.true, ap length c.as_slice-x-items.ensures) in
-    let at : c.x-item.result ≡ get_or c.args.xs.now c.loop-x.x-index 0 =
-    c.x-item.is ∙ ap (λ (xs : List ℕ). get_or xs c.loop-x.x-index c.x-item.result) c.as_slice-x-items.ensures ∙ get_or_default c.args.xs.now c.loop-x.x-index c.x-item.result 0 inside in
+    let item = item_at _ c.args.xs.now c.loop-x.x-index c.x-item.result c.as_slice-x-items.ensures c.loop-x-test.true c.x-item.is in
     let finds : Finds false c.loop-x.met c.follow_on.new.nodes c.args.ys.now (S c.x-item.result) = rw (c.if-branch.false, c.loop-x.invariant.held) at c.in_ok-follow_on.ensures.finds in
     record {
       held = c.in_ok-follow_on.ensures.held ∙ c.loop-x.invariant.held;
       outside = c.in_ok-follow_on.ensures.outside ∙ c.loop-x.invariant.outside;
       rows = c.in_ok-follow_on.ensures.rows ∙ c.loop-x.invariant.rows;
       none = below_more (λ k. (y : ℕ) → Contains c.args.ys.now y → S (get_or c.args.xs.now k 0) y → ⊥) c.loop-x.x-index c.loop-x.invariant.none
-          (λ y has steps. finds.1 y has (let P : ℕ → Type 0 = λ w. S w y in subst P (sym at) steps));
+          (λ y has steps. finds.1 y has (let P : ℕ → Type 0 = λ w. S w y in subst P (sym item.1) steps));
       count = λ ns covers.
           let w : ℕ → ℕ = λ n. sum_by (weight c.args.sight.now n Beside) ns in
           let P : ℕ → Type 0 = λ n. CoversAt c.args.sight.now (g.L.Links.held c.args.links.now) n ns in
-          let here : P c.x-item.result = subst P (sym at) (covers (get_or c.args.xs.now c.loop-x.x-index 0) (Contains-get_or c.args.xs.now c.loop-x.x-index 0 inside)) in
+          let here : P c.x-item.result = subst P (sym item.1) (covers (get_or c.args.xs.now c.loop-x.x-index 0) (Contains-get_or c.args.xs.now c.loop-x.x-index 0 item.0)) in
           let now : g.L.Links.count c.follow_on.new.links ≤ g.L.Links.count c.loop-x.links + w c.x-item.result = c.in_ok-follow_on.ensures.count ns (rw c.loop-x.invariant.held here) in
           let sum : sum_by w (take (c.loop-x.x-index + 1) c.args.xs.now) ≡ sum_by w (take c.loop-x.x-index c.args.xs.now) + w (get_or c.args.xs.now c.loop-x.x-index 0) =
-          ap (sum_by w) (take_more c.args.xs.now c.loop-x.x-index 0 inside) ∙ sum_by_push w (take c.loop-x.x-index c.args.xs.now) (get_or c.args.xs.now c.loop-x.x-index 0) in
-          omega (arith, now, ap w at, c.loop-x.invariant.count ns covers, sum);
+          ap (sum_by w) (take_more c.args.xs.now c.loop-x.x-index 0 item.0) ∙ sum_by_push w (take c.loop-x.x-index c.args.xs.now) (get_or c.args.xs.now c.loop-x.x-index 0) in
+          omega (arith, now, ap w item.1, c.loop-x.invariant.count ns covers, sum);
     }
 
 pub returns-clause-tied : goal.returns-clause-tied

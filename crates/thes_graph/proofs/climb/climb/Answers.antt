@@ -1,9 +1,10 @@
 use Rattle.std.proofs.Common.{[], ◌∷◌, ℕ, List, sym, subst, ◌∙◌}
+use Rattle.std.proofs.lemmas.List.{nil_from_length}
 use Rattle.thes_base.specs.Links.{HeldIn}
 use Rattle.thes_base.proofs.ListMembers.{Contains-head}
 use Rattle.thes_graph.specs.Climb.{IsClimb}
 use Rattle.thes_graph.specs.declared.climb.Stop.{Stop}
-use Rattle.thes_graph.proofs.ClimbLemmas.{IsClimb-start, IsClimb-end, no_stops}
+use Rattle.thes_graph.proofs.ClimbLemmas.{IsClimb-start, IsClimb-end}
 use Rattle.thes_graph.proofs.climb.climb.Goals as goal
 
 pub loop-last-init : goal.loop-last-init
@@ -21,5 +22,5 @@ pub returns-clause-found : goal.returns-clause-found
 returns-clause-found g c =
     IsClimb-end (HeldIn (g.L.Links.held c.args.links.now)) c.loop-last.met c.loop-last.done
     (subst (λ (way : List Stop). IsClimb (HeldIn (g.L.Links.held c.args.links.now)) c.loop-last.met c.loop-last.done way)
-    (no_stops c.loop-last.way.items (sym c.loop-last.way.ok.0 ∙ c.in_default.ensures.cases.0)) c.loop-last.invariant.climbs)
+    (nil_from_length c.loop-last.way.items (sym c.loop-last.way.ok.0 ∙ c.in_default.ensures.cases.0)) c.loop-last.invariant.climbs)
     c.args.start c.loop-last.invariant.start

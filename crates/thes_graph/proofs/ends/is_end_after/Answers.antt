@@ -1,5 +1,6 @@
-use Rattle.std.proofs.Common.{sym, ◌≡◌, ◌∙◌, Bool, true, false}
+use Rattle.std.proofs.Common.{sym, ◌∙◌, false}
 use Rattle.std.proofs.lemmas.Bool.Decides.{Decides-eqb}
+use Rattle.std.proofs.lemmas.Bool.{both_ways}
 use Rattle.thes_graph.proofs.TrailLemmas.{Steps-with_none, Steps-merged_none}
 use Rattle.thes_graph.proofs.ends.is_end_after.Goals as goal
 use Rattle.thes_graph.proofs.ends.is_end_after.Goals.{else-eq-via-then-eq+else-not-is_end, else-eq-via-else-eq}
@@ -16,8 +17,5 @@ returns-else-eq-clause-end g c = rw c.in-Merged.is (λ on.
     (c.is_end-in-Merged.ensures.end on)
     (λ same. elim c.else-eq.branch [
       | else-eq-via-then-eq+else-not-is_end w ↦ w.is_end-then-eq.ensures.end w.if-not-is_end.false
-      | else-eq-via-else-eq w ↦ absurd (both ((Decides-eqb c.args.x c.in-Merged.target).1 same) (sym c.eq.ensures ∙ w.if-eq.false))
+      | else-eq-via-else-eq w ↦ absurd (both_ways _ (sym c.eq.ensures ∙ w.if-eq.false) ((Decides-eqb c.args.x c.in-Merged.target).1 same))
     ]))
-  where
-    both : {b : Bool} → b ≡ true → b ≡ false → ⊥
-    both on off = cc

@@ -1,10 +1,10 @@
 use Rattle.std.proofs.Common.{◌≡◌, ◌∙◌, List, [], ◌∷◌, map, ap, sym, subst, refl, arith}
 use Rattle.std.specs.Prelude.{Result}
+use Rattle.std.proofs.lemmas.List.{take_all}
 use Rattle.thes_base.specs.declared.fault.Fault.{Fault}
 use Rattle.thes_rows.specs.declared.rows.PostingRow.{PostingRow}
 use Rattle.thes_rows.specs.Cells.{posting_cells}
 use Rattle.thes_store.specs.Handing.{Takes, Hands}
-use Rattle.thes_store.proofs.Places.{take_whole}
 use Rattle.thes_store.proofs.Handed.{part_taken, part_refused}
 use Rattle.thes_sqlite.proofs.LookedUp.{row_at, same_length}
 use Rattle.thes_sqlite.proofs.handing.hand_postings.Goals as goal
@@ -30,4 +30,4 @@ returns-clause-hands g c = λ xs is.
     let ended = c.loop-row-test.false in
     let same = same_length posting_cells xs c.args.rows.now is in
     subst (λ (l : List PostingRow). Takes g.P.PostingSink.gives c.args.sink.now l c.loop-row.sink)
-    (take_whole xs c.loop-row.row-index (omega (arith, ended, same))) (c.loop-row.invariant xs is)
+    (take_all c.loop-row.row-index xs (omega (arith, ended, same))) (c.loop-row.invariant xs is)

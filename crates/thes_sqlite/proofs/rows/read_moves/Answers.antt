@@ -1,8 +1,8 @@
 use Rattle.std.proofs.Common.{◌≡◌, ◌∙◌, ◌++◌, ◌∷◌, [], List, map, ap, sym, subst, arith, rules}
+use Rattle.std.proofs.lemmas.List.{take_all}
 use Rattle.thes_rows.specs.declared.rows.MoveRow.{MoveRow}
 use Rattle.thes_rows.specs.Cells.{move_cells}
 use Rattle.thes_rows.specs.Tables.{step_of}
-use Rattle.thes_store.proofs.Places.{take_whole}
 use Rattle.thes_sqlite.proofs.LookedUp.{one_step, same_length}
 use Rattle.thes_sqlite.proofs.rows.read_moves.Goals as goal
 
@@ -15,4 +15,4 @@ pub returns : goal.returns
 returns c = λ steps is.
     let ended = c.loop-row-test.false in
     let same = same_length move_cells steps c.args.rows.now is in
-    c.loop-row.invariant steps is ∙ ap (map step_of) (take_whole steps c.loop-row.row-index (omega (arith, ended, same)))
+    c.loop-row.invariant steps is ∙ ap (map step_of) (take_all c.loop-row.row-index steps (omega (arith, ended, same)))

@@ -1,11 +1,12 @@
 use Rattle.std.proofs.Common.{◌∙◌, List, [], ◌∷◌, map, ap, sym, subst}
 use Rattle.std.specs.Prelude.{Option, Some, Result}
+use Rattle.std.proofs.lemmas.List.{take_all}
+use Rattle.std.proofs.lemmas.Simd.{map-map}
 use Rattle.thes_base.specs.declared.fault.Fault.{Fault}
 use Rattle.thes_base.specs.declared.fault.Table.{Table}
 use Rattle.thes_rows.specs.declared.cells.Cell.{Cell}
 use Rattle.thes_store.specs.Handing.{Takes, TakesSome, Hands}
-use Rattle.thes_store.proofs.Places.{take_whole}
-use Rattle.thes_store.proofs.Handed.{takes_next, some_next, map_twice}
+use Rattle.thes_store.proofs.Handed.{takes_next, some_next}
 use Rattle.thes_store.proofs.handing.hand_rows.Goals as goal
 
 pub loop-row-preserved : goal.loop-row-preserved
@@ -18,11 +19,11 @@ pub returns-in-Err-clause-hands : goal.returns-in-Err-clause-hands
 returns-in-Err-clause-hands g c =
     let f : g.row.R.Denot → Table × Option (List Cell) = λ row. (c.args.name, Some (g.R.AsCells.cells_of row)) in
     let refused = subst (λ (r : Result (Unit {0}) Fault). Hands g.S.RowSink.gives c.loop-row.sink (f c.row-item.result ∷ []) r c.hand.new.sink) c.in-Err.is c.hand.ensures.hands in
-    subst (λ (l : List (Table × Option (List Cell))). TakesSome g.S.RowSink.gives c.in-Err.fault c.args.sink.now l c.hand.new.sink) (sym (map_twice (λ (row : List Cell). (c.args.name, Some row)) g.R.AsCells.cells_of c.args.rows.now))
+    subst (λ (l : List (Table × Option (List Cell))). TakesSome g.S.RowSink.gives c.in-Err.fault c.args.sink.now l c.hand.new.sink) (sym (map-map (λ (row : List Cell). (c.args.name, Some row)) g.R.AsCells.cells_of c.args.rows.now))
     (some_next g.S.RowSink.gives f c.args.rows.now c.loop-row.row-index c.row-item.result c.in-Err.fault c.args.sink.now c.loop-row.sink c.hand.new.sink c.loop-row-test.true c.row-item.is c.loop-row.invariant refused)
 
 pub returns-clause-hands : goal.returns-clause-hands
 returns-clause-hands g c =
     let f : g.row.R.Denot → Table × Option (List Cell) = λ row. (c.args.name, Some (g.R.AsCells.cells_of row)) in
-    let all = ap (map f) (take_whole c.args.rows.now c.loop-row.row-index c.loop-row-test.false) ∙ sym (map_twice (λ (row : List Cell). (c.args.name, Some row)) g.R.AsCells.cells_of c.args.rows.now) in
+    let all = ap (map f) (take_all c.loop-row.row-index c.args.rows.now c.loop-row-test.false) ∙ sym (map-map (λ (row : List Cell). (c.args.name, Some row)) g.R.AsCells.cells_of c.args.rows.now) in
     subst (λ (l : List (Table × Option (List Cell))). Takes g.S.RowSink.gives c.args.sink.now l c.loop-row.sink) all c.loop-row.invariant

@@ -1,7 +1,7 @@
 use Rattle.std.proofs.Common.{◌∙◌, List, subst}
 use Rattle.std.specs.Prelude.{Option}
+use Rattle.std.proofs.lemmas.List.{take_all}
 use Rattle.thes_store.specs.Handing.{Takes, TakesSome}
-use Rattle.thes_store.proofs.Places.{take_whole}
 use Rattle.thes_store.proofs.Handed.{handed_slots, slots_append, part_taken, part_refused}
 use Rattle.thes_store.proofs.handing.hand_slots.Goals as goal
 
@@ -17,4 +17,4 @@ returns-in-Err-clause-hands g c =
 pub returns-clause-hands : goal.returns-clause-hands
 returns-clause-hands g c =
     subst (λ (l : List (Option g.row.R.Denot)). Takes g.S.RowSink.gives c.args.sink.now (handed_slots c.args.name g.R.AsCells.cells_of l) c.loop-slot.sink)
-    (take_whole c.as_slice-slots.result.now c.loop-slot.slot-index c.loop-slot-test.false ∙ c.as_slice-slots.ensures) c.loop-slot.invariant
+    (take_all c.loop-slot.slot-index c.as_slice-slots.result.now c.loop-slot-test.false ∙ c.as_slice-slots.ensures) c.loop-slot.invariant

@@ -1,5 +1,6 @@
 use Rattle.std.proofs.Common.{List, get_or, ap, sym, subst, append-nil, rules}
 use Rattle.std.specs.Prelude.{Option}
+use Rattle.std.proofs.lemmas.List.{take_all}
 use Rattle.thes_base.specs.declared.fault.Table.{Table}
 use Rattle.thes_base.specs.declared.fault.Table.TheVariants as table
 use Rattle.thes_rows.specs.declared.cells.Cell.{Cell}
@@ -7,7 +8,6 @@ use Rattle.thes_rows.specs.Cells.{listed}
 use Rattle.thes_store.specs.Handing.{Takes, Hands}
 use Rattle.thes_store.specs.Loading.{handed_tables}
 use Rattle.thes_store.specs.Room.{tables_of}
-use Rattle.thes_store.proofs.Places.{take_whole}
 use Rattle.thes_store.proofs.Handed.{tables_append, part_taken, part_refused}
 use Rattle.thes_store.proofs.handing.hand_tables.Goals as goal
 
@@ -28,5 +28,5 @@ returns-in-Err-clause-hands g c =
 pub returns-clause-hands : goal.returns-clause-hands
 returns-clause-hands g c =
     let raw = listed (tables_of c.args.tables.now) in
-    let all = ap (handed_tables raw) (take_whole c.args.names.now c.loop-name.name-index c.loop-name-test.false) in
+    let all = ap (handed_tables raw) (take_all c.loop-name.name-index c.args.names.now c.loop-name-test.false) in
     subst (λ (l : List (Table × Option (List Cell))). Takes g.S.RowSink.gives c.args.sink.now l c.loop-name.sink) all c.loop-name.invariant

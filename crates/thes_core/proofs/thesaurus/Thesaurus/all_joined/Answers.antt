@@ -1,9 +1,9 @@
 use Rattle.std.proofs.Common.{sym, ◌∙◌, take, arith, ap, ◌++◌, ◌∷◌, []}
 use Rattle.std.specs.Prelude.{Option}
-use Rattle.std.proofs.lemmas.List.{take_more}
+use Rattle.std.proofs.lemmas.List.{take_more, take_all}
 use Rattle.thes_base.specs.declared.data.Link.{Link}
 use Rattle.thes_core.specs.Deltas.{joined_link}
-use Rattle.thes_core.proofs.SeenLemmas.{made_none, made_some, take_past, listed_made}
+use Rattle.thes_core.proofs.SeenLemmas.{made_none, made_some, listed_made}
 use Rattle.thes_core.proofs.thesaurus.Thesaurus.all_joined.Goals as goal
 use Rattle.thes_core.proofs.thesaurus.Thesaurus.all_joined.Goals.{in-Some+in_ok-push_unseen, in_default}
 
@@ -29,5 +29,5 @@ returns c =
     let make : Link → Option Link = joined_link c.args.self.now.graph c.args.source c.args.target in
     let past = c.loop-link-test.false in
     let i = c.loop-link.invariant in
-    let whole = take_past c.args.links.now c.loop-link.link-index (omega (arith, past)) in
+    let whole = take_all c.loop-link.link-index c.args.links.now (omega (arith, past)) in
     rw (← whole) (listed_made make c.loop-link.seen (take c.loop-link.link-index c.args.links.now) c.loop-link.joined.items i.seen i.made)

@@ -1,9 +1,9 @@
 use Rattle.std.proofs.Common.{◌∙◌, List, get_or, ap, subst, refl, rules}
+use Rattle.std.proofs.lemmas.List.{take_all}
 use Rattle.thes_base.specs.declared.fault.Table.{Table}
 use Rattle.thes_base.specs.declared.fault.Table.TheVariants as table
 use Rattle.thes_store.specs.Handing.{Takes}
 use Rattle.thes_store.specs.Loading.{handed_tables}
-use Rattle.thes_store.proofs.Places.{take_whole}
 use Rattle.thes_sqlite.specs.Kept.{raw_of_keeper}
 use Rattle.thes_sqlite.proofs.Loaded.{passes_more, stops}
 use Rattle.thes_sqlite.proofs.keeper.SqlKeeper.hand_tables.Goals as goal
@@ -51,4 +51,4 @@ returns-clause-first g c = c.loop-name.invariant.first
 pub returns-clause-hands : goal.returns-clause-hands
 returns-clause-hands g c = λ up.
     subst (λ (l : List Table). Takes g.R.RowSink.gives c.args.sink.now (handed_tables (raw_of_keeper g.S.Store c.args.self.now) l) c.loop-name.sink)
-    (take_whole c.args.names.now c.loop-name.name-index c.loop-name-test.false) (c.loop-name.invariant.taken up)
+    (take_all c.loop-name.name-index c.args.names.now c.loop-name-test.false) (c.loop-name.invariant.taken up)

@@ -1,12 +1,12 @@
 use Rattle.std.proofs.Common.{◌≡◌, ◌∙◌, ap, subst, List}
 use Rattle.thes_rows.specs.declared.rows.PostingRow.{PostingRow}
-use Rattle.thes_rows.specs.Tables.{Tables}
+use Rattle.thes_rows.specs.Tables.{Tables, is_standing}
 use Rattle.thes_rows.proofs.Listing.{listed_one}
 use Rattle.thes_store.specs.Index.{ArePlaces}
 use Rattle.thes_store.specs.Covers.{Covers}
 use Rattle.thes_store.specs.Handing.{Hands}
 use Rattle.thes_store.specs.Picked.{picked}
-use Rattle.thes_store.specs.Reading.{is_standing, standing_rows}
+use Rattle.thes_store.specs.Reading.{standing_rows}
 use Rattle.thes_store.proofs.Handed.{none_handed}
 use Rattle.thes_store.proofs.Finding.{standing_all}
 use Rattle.thes_store.proofs.mem.MemKeeperKeeper.standing.Goals as goal

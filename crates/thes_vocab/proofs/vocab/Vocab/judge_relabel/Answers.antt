@@ -1,11 +1,11 @@
 use Rattle.std.proofs.Common.{sym, subst, List, ℕ}
+use Rattle.std.proofs.lemmas.Bool.{both_ways}
 use Rattle.thes_base.specs.declared.data.LabelKind.TheVariants.{Pref}
 use Rattle.thes_base.specs.Labels.{HasLabel}
 use Rattle.thes_base.specs.Legal.{LegalLabels}
 use Rattle.thes_base.specs.Changes.{labels_relabelled}
 use Rattle.thes_vocab.specs.Vocabulary.{Vocabulary}
 use Rattle.thes_vocab.specs.Rivals.{Clashes}
-use Rattle.thes_vocab.proofs.AnswerLemmas.{never}
 use Rattle.thes_vocab.proofs.JudgingLemmas.{row_without_name, row_clashing, row_with_rival, row_renamed}
 use Rattle.thes_vocab.proofs.vocab.Vocab.judge_relabel.Goals as goal
 
@@ -28,7 +28,7 @@ returns-then-has_rival c =
     let v = c.args.self.now in
     let legal = subst (λ (v : Vocabulary). LegalLabels v.resources v.labels) c.self.view_is c.self.invariant.named in
     let has = subst (λ (v : Vocabulary). HasLabel v.labels c.args.owner Pref c.args.tag.now c.in-Some.old.now) c.self.view_is c.in-Some.ensures in
-    let free = λ (clash : Clashes v.labels c.args.owner c.args.tag.now c.args.text.now c.in-Some.old.now c.args.keep). let yes = c.clashes.ensures.1 (subst (λ (v : Vocabulary). Clashes v.labels c.args.owner c.args.tag.now c.args.text.now c.in-Some.old.now c.args.keep) (sym c.self.view_is) clash) in never c.clashes.result yes c.if-clashes.false in
+    let free = λ (clash : Clashes v.labels c.args.owner c.args.tag.now c.args.text.now c.in-Some.old.now c.args.keep). let yes = c.clashes.ensures.1 (subst (λ (v : Vocabulary). Clashes v.labels c.args.owner c.args.tag.now c.args.text.now c.in-Some.old.now c.args.keep) (sym c.self.view_is) clash) in both_ways c.clashes.result c.if-clashes.false yes in
     row_with_rival v.resources v.labels c.args.owner c.args.tag.now c.args.text.now c.in-Some.old.now c.args.keep legal has free (c.has_rival.ensures.0 c.if-has_rival.true)
 
 pub returns : goal.returns
@@ -36,5 +36,5 @@ returns c =
     let v = c.args.self.now in
     let legal = subst (λ (v : Vocabulary). LegalLabels v.resources v.labels) c.self.view_is c.self.invariant.named in
     let has = subst (λ (v : Vocabulary). HasLabel v.labels c.args.owner Pref c.args.tag.now c.in-Some.old.now) c.self.view_is c.in-Some.ensures in
-    let free = λ (clash : Clashes v.labels c.args.owner c.args.tag.now c.args.text.now c.in-Some.old.now c.args.keep). let yes = c.clashes.ensures.1 (subst (λ (v : Vocabulary). Clashes v.labels c.args.owner c.args.tag.now c.args.text.now c.in-Some.old.now c.args.keep) (sym c.self.view_is) clash) in never c.clashes.result yes c.if-clashes.false in
-    row_renamed v.resources v.labels c.args.owner c.args.tag.now c.args.text.now c.in-Some.old.now c.args.keep legal has free (λ rival. never c.has_rival.result (c.has_rival.ensures.1 rival) c.if-has_rival.false)
+    let free = λ (clash : Clashes v.labels c.args.owner c.args.tag.now c.args.text.now c.in-Some.old.now c.args.keep). let yes = c.clashes.ensures.1 (subst (λ (v : Vocabulary). Clashes v.labels c.args.owner c.args.tag.now c.args.text.now c.in-Some.old.now c.args.keep) (sym c.self.view_is) clash) in both_ways c.clashes.result c.if-clashes.false yes in
+    row_renamed v.resources v.labels c.args.owner c.args.tag.now c.args.text.now c.in-Some.old.now c.args.keep legal has free (λ rival. both_ways c.has_rival.result c.if-has_rival.false (c.has_rival.ensures.1 rival))

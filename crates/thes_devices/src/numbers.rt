@@ -1,0 +1,16 @@
+//! Numbers for tests and benches that look like chance and are the same in each run.
+
+/// A generator, by what it stands at.
+#[derive(Drop)]
+pub struct Numbers(pub u64);
+
+impl Numbers {
+    /// The next number, below n.
+    pub fn below(&mut self, n: u32) -> u32 {
+        self.0 = self
+            .0
+            .wrapping_mul(6364136223846793005)
+            .wrapping_add(1442695040888963407);
+        ((self.0 >> 33) % u64::from(n.max(1))) as u32
+    }
+}
