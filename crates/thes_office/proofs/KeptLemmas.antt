@@ -1,5 +1,5 @@
 -- What an office keeps after each of its calls.
-use Rattle.std.proofs.Common.{◌≡◌, ◌⊎◌, ◌++◌, ◌∷◌, [], ℕ, List, Bool, true, false, refl, sym, ap, subst, ◌∙◌, inl, inr, append_assoc, append-nil, take, drop, take-append-drop}
+use Rattle.std.proofs.Common.{◌≡◌, ◌⊎◌, ◌++◌, ◌∷◌, [], ℕ, List, Bool, true, false, refl, sym, ap, subst, ◌∙◌, inl, inr, append_assoc, append-nil, take, drop, take-append-drop, length, length-drop, arith, ◌<◌}
 use Rattle.std.specs.Prelude.{Result, Ok, Err}
 use Rattle.std.specs.Borrow.{Bor}
 use Rattle.thes_base.specs.declared.data.Limits.{Limits}
@@ -176,12 +176,13 @@ module _ {K : Type 0} (rows : K → Raw) (is_up : K → Type 0) (failed : K → 
   }
 
   -- it stops before a request
-  pub ran_some : (old now last : Kept K) (commands : List Command) (n : ℕ) (before after told : List Answer) → Running old now (take n commands) before after → (is_up last.keeper → is_up now.keeper) → (is_up last.keeper → rows last.keeper ≡ rows now.keeper) → told ≡ after → RanPart rows is_up old commands before told last
-  ran_some old now last commands n before after told r was same is = record {
+  pub ran_some : (old now last : Kept K) (commands : List Command) (n : ℕ) (before after told : List Answer) → n < length commands → Running old now (take n commands) before after → (is_up last.keeper → is_up now.keeper) → (is_up last.keeper → rows last.keeper ≡ rows now.keeper) → told ≡ after → RanPart rows is_up old commands before told last
+  ran_some old now last commands n before after told more r was same is = record {
     done = take n commands;
     left = drop n commands;
     answers = r.given;
     all = sym (take-append-drop n commands);
+    some = omega (arith, length-drop n commands, more);
     kept = is ∙ r.kept;
     goes_on = λ up. subst (λ (l : Raw). GoesOn old.limits (rows old.keeper) (take n commands) r.given l) (sym (same up)) (r.goes_on (was up));
   }
