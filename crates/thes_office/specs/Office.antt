@@ -42,12 +42,14 @@ pub record IsCopy (raw : Raw) (limits : Limits) (copy : core.Kept) : Type 0 wher
   pub holds : Holds copy state
   pub shows : Shows raw copy.setting.base state
 
--- The tables show a state, and the copy is that state unless it is stale.
-pub record IsConsistent {K : Type 0} (rows : K → Raw) (is_up : K → Type 0) (keeper : K) (copy : core.Kept) (limits : Limits) (stale : Bool) : Type 0 where
+-- The tables show a state, and the copy is that state unless it is stale. It is stale only where memory for it ran out, or
+-- once the keeper has failed.
+pub record IsConsistent {K : Type 0} (rows : K → Raw) (is_up : K → Type 0) (failed : K → ℕ) (keeper : K) (copy : core.Kept) (limits : Limits) (stale : Bool) : Type 0 where
   pub few : AreLimits limits
   pub shows : is_up keeper → (base : List ℕ) × (s : State) × Shows (rows keeper) base s
   pub unspent : stale ≡ false → copy.spent ≡ false
   pub copies : stale ≡ false → is_up keeper → IsCopy (rows keeper) limits copy
+  pub why : stale ≡ true → (copy.spent ≡ true) ⊎ (0 < failed keeper)
 
 -- What each call keeps. A fault is OutOfMemory, or Store: then the count of failures rose, or stood at its
 -- greatest value, and the copy is stale.
