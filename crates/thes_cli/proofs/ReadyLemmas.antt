@@ -22,7 +22,8 @@ use Rattle.thes_display.specs.Shown as display
 use Rattle.thes_display.specs.declared.shown.Shown.{Shown}
 use Rattle.thes_http.specs.declared.service.Display.{Display}
 use Rattle.thes_cli.specs.Checking.{sizes_of, FindsSizes}
-use Rattle.thes_cli.specs.Displaying.{IsDisplay, ShowsDisplay}
+use Rattle.thes_cli.specs.Displaying.{ShowsDisplay}
+use Rattle.thes_service.specs.Service.{IsDisplay}
 use Rattle.thes_cli.specs.Exporting.{WritesExport}
 use Rattle.thes_cli.specs.Opening.{InStore}
 

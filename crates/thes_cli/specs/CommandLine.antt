@@ -89,13 +89,13 @@ LacksForm words BadTag =
 LacksForm words _ = ⊥
 
 -- the command is that of a display
-abbrev pub IsDisplay : Text → Type 0
-IsDisplay name = (display : displays.Display) × (name ≡ display_name display)
+abbrev pub NamesDisplay : Text → Type 0
+NamesDisplay name = (display : displays.Display) × (name ≡ display_name display)
 
 -- the task that a command and the words after it ask for, or why they ask for none
 abbrev pub PlansTask : Text → List Row → Result Task Parting → Type 0
 PlansTask name words (Ok task) = (name ≡ command_of task) × Tells words task
-PlansTask name words (Err (BadForm fault)) = IsDisplay name × LacksForm words fault
+PlansTask name words (Err (BadForm fault)) = NamesDisplay name × LacksForm words fault
 PlansTask name words (Err OutOfMemory) = Unit {0}
 PlansTask name words (Err (Help text)) = ⊥
 PlansTask name words (Err (Usage text)) = ⊥
@@ -115,7 +115,7 @@ pub record IsJob (options : List Row) (command : Option (Text × List Row)) (job
 abbrev pub HasFault : List Row → Option (Text × List Row) → FormFault → Type 0
 HasFault options command fault =
     ((fault ≡ BadIri) × ¬ IsBase (base_in options))
-    ⊎ (IsBase (base_in options) × IsSomeAnd command (λ c. IsDisplay c.0 × LacksForm c.1 fault))
+    ⊎ (IsBase (base_in options) × IsSomeAnd command (λ c. NamesDisplay c.0 × LacksForm c.1 fault))
 
 -- A value that has no form is told, the first of them, or that there is no memory.
 abbrev pub PlansBy : List Row → Option (Text × List Row) → Result Job Parting → Type 0

@@ -10,20 +10,13 @@ use Rattle.thes_base.specs.declared.pipe.Pipe.{Pipe}
 use Rattle.thes_base.specs.Pipe.{KeepsCalls}
 use Rattle.thes_rows.specs.Cells.{Raw}
 use Rattle.thes_office.specs.Office.{Goes, Kept, Same}
-use Rattle.thes_display.specs.Alphabetical.{IsAlphabetical}
-use Rattle.thes_display.specs.Hierarchical.{IsHierarchical}
 use Rattle.thes_display.specs.Shown.{IsShown, IsStopped}
 use Rattle.thes_display.specs.declared.shown.Shown.{Shown}
 use Rattle.thes_display.specs.declared.shown.Shown.TheVariants.{Written, No}
 use Rattle.thes_http.specs.declared.service.Display.{Display}
-use Rattle.thes_http.specs.declared.service.Display.TheVariants.{Alphabetical, Hierarchical}
+use Rattle.thes_service.specs.Service.{IsDisplay}
 use Rattle.thes_cli.specs.Ending.{fault_line, Prints}
 use Rattle.thes_cli.specs.Opening.{InStore}
-
--- the text of a display of a scheme in a language
-abbrev pub IsDisplay : Display → ℕ → List ℕ → State → List ℕ → Type 0
-IsDisplay Alphabetical scheme tag s text = IsAlphabetical s scheme tag text
-IsDisplay Hierarchical scheme tag s text = IsHierarchical s scheme tag text
 
 -- the line of a refusal
 abbrev pub refusal_line : Refusal → List ℕ

@@ -4,7 +4,8 @@ ghost use Rattle.thes_base.specs.Pipe.{IsFresh, KeepsCalls};
 ghost use Rattle.thes_base.specs.State.{State};
 ghost use Rattle.thes_core.specs.Kept.{Holds};
 ghost use Rattle.thes_display.specs.Shown.{IsShown, IsStopped};
-ghost use Rattle.thes_cli.specs.Displaying.{DisplaysStore, EndsShown, IsDisplay, ShowsDisplay};
+ghost use Rattle.thes_service.specs.Service.{IsDisplay};
+ghost use Rattle.thes_cli.specs.Displaying.{DisplaysStore, EndsShown, ShowsDisplay};
 
 use crate::ending::{print_error, refusal_line, tell};
 use std::alloc::Global;

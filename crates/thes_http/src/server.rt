@@ -1,5 +1,5 @@
 //! Connections, one after another.
-ghost use Rattle.std.specs.Prelude.{◌≡◌, true};
+ghost use Rattle.std.specs.Prelude.{◌≡◌, true, OnOk};
 ghost use Rattle.thes_http.specs.Server.{LeadsBy};
 ghost use Rattle.thes_http.specs.Serving.{doing};
 
@@ -89,7 +89,8 @@ fn next_stream<N: Net>(
 /// Serves as many connections, one after another.
 ///
 /// A client that goes away costs nothing but its own answer. An error is that of accepting a
-/// connection, or OutOfMemory where that has closed the service.
+/// connection, or OutOfMemory where that has closed the service: one that was closed is never told
+/// as done.
 pub fn serve<N: Net, S: Service>(
     alloc: Global,
     listener: &N::Listener,
@@ -97,8 +98,9 @@ pub fn serve<N: Net, S: Service>(
     service: &mut S,
 ) -> io::Result<()>
     requires { S.is_open service.old ≡ true }
-    ensures { LeadsBy (doing S.performs S.shows S.imports S.exports S.displays) count
+    ensures leads { LeadsBy (doing S.performs S.shows S.imports S.exports S.displays) count
         service.old service.new }
+    ensures open { OnOk result (S.is_open service.new ≡ true) }
 {
     for _ in 0..count {
         let Some(stream) = next_stream::<N>(listener)? else {

@@ -1,5 +1,5 @@
 -- Rows that are performed one after another.
-use Rattle.std.proofs.Common.{◌≡◌, ◌⊎◌, ◌∙◌, ◌+◌, ◌<◌, ◌++◌, ◌∷◌, [], ℕ, List, refl, sym, ap, subst, length, take, drop, take-append-drop, append-nil, arith}
+use Rattle.std.proofs.Common.{◌≡◌, ◌⊎◌, ◌∙◌, ◌+◌, ◌<◌, ◌++◌, ◌∷◌, [], ℕ, List, refl, sym, ap, subst, length, take, drop, take-append-drop, append-nil, arith, length-drop}
 use Rattle.std.specs.Prelude.{Result, Ok, Err, filter_map}
 use Rattle.std.specs.List.{AllByRecursion, AllZip}
 use Rattle.std.proofs.lemmas.List.Elements.{filter_map-append}
@@ -119,11 +119,12 @@ module _ {K : Type 0} (tables : K → Raw) (is_up : K → Type 0) (failed : K �
 
   -- a fault at the row that follows
   pub halted_at : (old mid new : Kept K) (rows done : List Row) (report report' : Report) (one : Row) (fault : Fault) → Importing old mid done report → Goes tables is_up failed mid new (let x : Result (Unit {0}) Fault = Err fault in x) → TellsRow tables is_up mid one report (Err fault) report' new
-      → done ≡ take (length done) rows → ImportsSome tables is_up old rows report' new
-  halted_at old mid new rows done report report' one fault so_far goes told first = record {
+      → done ≡ take (length done) rows → length done < length rows → ImportsSome tables is_up old rows report' new
+  halted_at old mid new rows done report report' one fault so_far goes told first more = record {
     done = done;
     left = drop (length done) rows;
     all = sym (take-append-drop (length done) rows) ∙ ap (λ (l : List Row). l ++ drop (length done) rows) (sym first);
+    some = omega (arith, length-drop (length done) rows, more);
     imports = record {
       outcomes = so_far.imports.outcomes;
       each = so_far.imports.each;

@@ -1,5 +1,5 @@
 -- What an import does to the tables of an office's keeper, and what it tells.
-use Rattle.std.specs.Prelude.{◌≡◌, ◌⊎◌, ◌++◌, ℕ, List, [], ◌∷◌, Result, Ok, Err}
+use Rattle.std.specs.Prelude.{◌≡◌, ◌⊎◌, ◌<◌, ◌++◌, ℕ, List, [], ◌∷◌, length, Result, Ok, Err}
 use Rattle.std.specs.List.{AllByRecursion, AllZip}
 use Rattle.thes_base.specs.declared.data.Limits.{Limits}
 use Rattle.thes_base.specs.declared.fault.Fault.{Fault}
@@ -52,11 +52,12 @@ module _ {K : Type 0} (tables : K → Raw) (is_up : K → Type 0) where
     pub tells : Tells outcomes report
     pub performs : is_up new.keeper → PerformsRows old.limits (tables old.keeper) rows outcomes (tables new.keeper)
 
-  -- Some first rows of these were.
+  -- Some first rows of these were, but not all.
   pub record ImportsSome (old : Kept K) (rows : List Row) (report : Report) (new : Kept K) : Type 0 where
     pub done : List Row
     pub left : List Row
     pub all : rows ≡ done ++ left
+    pub some : 0 < length left
     pub imports : ImportsRows old done report new
 
   -- A fault ends it after some rows. Where memory runs out before the first one, nothing is told.

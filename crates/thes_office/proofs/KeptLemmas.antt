@@ -1,5 +1,5 @@
 -- What an office keeps after each of its calls.
-use Rattle.std.proofs.Common.{◌≡◌, ◌⊎◌, ◌++◌, ◌∷◌, [], ℕ, List, Bool, true, false, refl, sym, ap, subst, ◌∙◌, inl, inr, append_assoc, append-nil, take, drop, take-append-drop}
+use Rattle.std.proofs.Common.{◌≡◌, ◌⊎◌, ◌++◌, ◌∷◌, [], ℕ, List, Bool, true, false, refl, sym, ap, subst, ◌∙◌, inl, inr, append_assoc, append-nil, take, drop, take-append-drop, length, length-drop, arith, ◌<◌, ◌≤◌}
 use Rattle.std.specs.Prelude.{Result, Ok, Err}
 use Rattle.std.specs.Borrow.{Bor}
 use Rattle.thes_base.specs.declared.data.Limits.{Limits}
@@ -14,6 +14,7 @@ use Rattle.thes_base.specs.State.{State}
 use Rattle.thes_base.proofs.MachineLemmas.{legal_is_in_order}
 use Rattle.thes_rows.specs.Cells.{Raw}
 use Rattle.thes_core.specs.Kept as core
+use Rattle.thes_store.specs.Causes.{HasCause, most}
 use Rattle.thes_tables.specs.Loads.{Loads}
 use Rattle.thes_office.specs.Asks.{IsRead}
 use Rattle.thes_office.specs.Office.{AreLimits, Goes, GoesOn, IsConsistent, IsCopy, Kept, Performed, RanAll, RanPart, Readied, Same, Steps, setting}
@@ -33,43 +34,65 @@ goes_on_none limits raw base s shows in_order = record {
   in_order = in_order;
 }
 
-module _ {K : Type 0} (rows : K → Raw) (is_up : K → Type 0) where
+-- The count of failures never falls, whatever a call answers.
+pub never_falls : {T : Type 0} (before now : ℕ) (result : Result T Fault) → HasCause before now result → before ≤ now
+never_falls before now (Ok x) cause = omega (arith, cause)
+never_falls before now (Err fault) cause = cause.0
+
+-- a fault of the store is counted
+pub has_failed : (before now : ℕ) (fault : Fault) → (before ≤ now) × ((fault ≡ faults.OutOfMemory) ⊎ ((fault ≡ faults.Store) × ((before < now) ⊎ (before ≡ most)))) → fault ≡ faults.Store → 0 < now
+has_failed before now fault (later, inl memory) is = absurd (cc)
+has_failed before now fault (later, inr (e, inl more)) is = omega (arith, more)
+has_failed before now fault (later, inr (e, inr at_most)) is = omega (arith, later, at_most)
+
+module _ {K : Type 0} (rows : K → Raw) (is_up : K → Type 0) (failed : K → ℕ) where
   -- after a load
-  pub kept_loaded : (old new : K) (copy : core.Kept) (limits : Limits) → AreLimits limits → copy.spent ≡ false → (is_up new → IsCopy (rows old) limits copy) → (is_up new → rows new ≡ rows old) → IsConsistent rows is_up new copy limits false
+  pub kept_loaded : (old new : K) (copy : core.Kept) (limits : Limits) → AreLimits limits → copy.spent ≡ false → (is_up new → IsCopy (rows old) limits copy) → (is_up new → rows new ≡ rows old) → IsConsistent rows is_up failed new copy limits false
   kept_loaded old new copy limits few unspent copies same = record {
     few = few;
     shows = λ up. let is = here up in (copy.setting.base, is.state, is.shows);
     unspent = λ e. unspent;
     copies = λ e. here;
+    why = λ e. absurd (cc);
   }
     where
       here : is_up new → IsCopy (rows new) limits copy
       here up = copies_over (rows old) (rows new) limits copy (same up) (copies up)
 
   -- after a call that leaves the tables and the copy
-  pub kept_over : (old new : K) (copy : core.Kept) (limits : Limits) (stale stale' : Bool) → IsConsistent rows is_up old copy limits stale → (stale' ≡ false → stale ≡ false) → (is_up new → is_up old) → (is_up new → rows new ≡ rows old) → IsConsistent rows is_up new copy limits stale'
-  kept_over old new copy limits stale stale' kept fresh was same = record {
+  pub kept_over : (old new : K) (copy : core.Kept) (limits : Limits) (stale stale' : Bool) → IsConsistent rows is_up failed old copy limits stale → failed old ≤ failed new → (stale' ≡ true → (stale ≡ true) ⊎ (0 < failed new)) → (stale' ≡ false → stale ≡ false) → (is_up new → is_up old) → (is_up new → rows new ≡ rows old) → IsConsistent rows is_up failed new copy limits stale'
+  kept_over old new copy limits stale stale' kept later cause fresh was same = record {
     few = kept.few;
     shows = λ up. let x = kept.shows (was up) in (x.0, x.1, shows_same (rows old) (rows new) x.0 x.1 (same up) x.2);
     unspent = λ e. kept.unspent (fresh e);
     copies = λ e up. copies_over (rows old) (rows new) limits copy (same up) (kept.copies (fresh e) (was up));
+    why = λ e. so (cause e);
   }
+    where
+      still : (copy.spent ≡ true) ⊎ (0 < failed old) → (copy.spent ≡ true) ⊎ (0 < failed new)
+      still (inl spent) = inl spent
+      still (inr once) = inr (omega (arith, once, later))
+
+      so : (stale ≡ true) ⊎ (0 < failed new) → (copy.spent ≡ true) ⊎ (0 < failed new)
+      so (inl e) = still (kept.why e)
+      so (inr once) = inr once
 
   -- after a request that was answered
   pub kept_served : (new : K) (copy copy' : core.Kept) (limits : Limits) (stale : Bool) (old : Raw) (command : Command) (answer : Answer) → AreLimits limits → (is_up new → copy.setting.limits ≡ limits) → stale ≡ copy'.spent
-      → (is_up new → Steps copy.setting.limits old command answer (rows new)) → (is_up new → copy'.spent ≡ false → IsCopy (rows new) copy.setting.limits copy') → IsConsistent rows is_up new copy' limits stale
+      → (is_up new → Steps copy.setting.limits old command answer (rows new)) → (is_up new → copy'.spent ≡ false → IsCopy (rows new) copy.setting.limits copy') → IsConsistent rows is_up failed new copy' limits stale
   kept_served new copy copy' limits stale old command answer few set is steps copies = record {
     few = few;
     shows = λ up. let x = steps up in (x.base, x.after, x.shows);
     unspent = λ e. sym is ∙ e;
     copies = λ e up. subst (λ (l : Limits). IsCopy (rows new) l copy') (set up) (copies up (sym is ∙ e));
+    why = λ e. inl (sym is ∙ e);
   }
 
   -- a load that a fault ends, in a store that shows a state
-  pub goes_unread : (failed : K → ℕ) (old new : K) (copy : core.Kept) (limits : Limits) (stale : Bool) (fault : Fault) (desk : Kept K) → IsRead rows is_up failed old new (let x : Result core.Kept Fault = Err fault in x)
-      → (is_up new → (fault ≡ faults.OutOfMemory) ⊎ ((fault ≡ faults.Store) ⊎ Loads (rows old) (Err fault))) → IsConsistent rows is_up old copy limits stale → stale ≡ true → record { keeper = old; limits = limits; stale = stale } ≡ desk
+  pub goes_unread : (old new : K) (copy : core.Kept) (limits : Limits) (stale : Bool) (fault : Fault) (desk : Kept K) → IsRead rows is_up failed old new (let x : Result core.Kept Fault = Err fault in x)
+      → (is_up new → (fault ≡ faults.OutOfMemory) ⊎ ((fault ≡ faults.Store) ⊎ Loads (rows old) (Err fault))) → IsConsistent rows is_up failed old copy limits stale → stale ≡ true → record { keeper = old; limits = limits; stale = stale } ≡ desk
       → Goes rows is_up failed desk (record { keeper = new; limits = limits; stale = stale }) (let x : Result (Unit {0}) Fault = Err fault in x)
-  goes_unread failed old new copy limits stale fault desk read none kept is same =
+  goes_unread old new copy limits stale fault desk read none kept is same =
       subst (λ (d : Kept K). Goes rows is_up failed d (record { keeper = new; limits = limits; stale = stale }) (let x : Result (Unit {0}) Fault = Err fault in x)) same
       record {
         limits = refl;
@@ -87,9 +110,9 @@ module _ {K : Type 0} (rows : K → Raw) (is_up : K → Type 0) where
       only up (inr (inr faulty)) = let x = kept.shows (read.was up) in absurd (faulty_shows_none (rows old) fault faulty x.0 x.1 x.2)
 
   -- a core that is handed out after it was made fresh
-  pub readied : (failed : K → ℕ) (old : Kept K) (keeper : K) (copy : core.Kept) (limits : Limits) (stale : Bool) (desk : Kept K) (lent : Bor core.Kept) → IsConsistent rows is_up keeper copy limits stale → record { keeper = keeper; limits = limits; stale = stale } ≡ desk
+  pub readied : (old : Kept K) (keeper : K) (copy : core.Kept) (limits : Limits) (stale : Bool) (desk : Kept K) (lent : Bor core.Kept) → IsConsistent rows is_up failed keeper copy limits stale → record { keeper = keeper; limits = limits; stale = stale } ≡ desk
       → Goes rows is_up failed old desk (let x : Result (Unit {0}) Fault = Ok tt in x) → Same rows is_up old desk → desk.stale ≡ false → lent.now ≡ copy → Readied rows is_up failed old (Ok lent) (record { keeper = keeper; limits = limits; stale = stale })
-  readied failed old keeper copy limits stale desk lent kept is goes same fresh lends =
+  readied old keeper copy limits stale desk lent kept is goes same fresh lends =
       subst (Readied rows is_up failed old (Ok lent)) (sym is) record {
         goes = record { limits = goes.limits; was = goes.was; later = goes.later; count = goes.count; store = tt; stale = tt; fault = λ up. tt };
         same = same;
@@ -141,7 +164,7 @@ module _ {K : Type 0} (rows : K → Raw) (is_up : K → Type 0) (failed : K → 
     pub goes_on : is_up now.keeper → GoesOn old.limits (rows old.keeper) done given (rows now.keeper)
 
   -- it begins
-  pub starts : (keeper : K) (copy : core.Kept) (limits : Limits) (stale : Bool) (desk : Kept K) (before : List Answer) → IsConsistent rows is_up keeper copy limits stale → record { keeper = keeper; limits = limits; stale = stale } ≡ desk → Running desk desk [] before before
+  pub starts : (keeper : K) (copy : core.Kept) (limits : Limits) (stale : Bool) (desk : Kept K) (before : List Answer) → IsConsistent rows is_up failed keeper copy limits stale → record { keeper = keeper; limits = limits; stale = stale } ≡ desk → Running desk desk [] before before
   starts keeper copy limits stale desk before consistent is =
       subst (λ (d : Kept K). Running d d [] before before) is record {
         limits = refl;
@@ -176,12 +199,13 @@ module _ {K : Type 0} (rows : K → Raw) (is_up : K → Type 0) (failed : K → 
   }
 
   -- it stops before a request
-  pub ran_some : (old now last : Kept K) (commands : List Command) (n : ℕ) (before after told : List Answer) → Running old now (take n commands) before after → (is_up last.keeper → is_up now.keeper) → (is_up last.keeper → rows last.keeper ≡ rows now.keeper) → told ≡ after → RanPart rows is_up old commands before told last
-  ran_some old now last commands n before after told r was same is = record {
+  pub ran_some : (old now last : Kept K) (commands : List Command) (n : ℕ) (before after told : List Answer) → n < length commands → Running old now (take n commands) before after → (is_up last.keeper → is_up now.keeper) → (is_up last.keeper → rows last.keeper ≡ rows now.keeper) → told ≡ after → RanPart rows is_up old commands before told last
+  ran_some old now last commands n before after told more r was same is = record {
     done = take n commands;
     left = drop n commands;
     answers = r.given;
     all = sym (take-append-drop n commands);
+    some = omega (arith, length-drop n commands, more);
     kept = is ∙ r.kept;
     goes_on = λ up. subst (λ (l : Raw). GoesOn old.limits (rows old.keeper) (take n commands) r.given l) (sym (same up)) (r.goes_on (was up));
   }

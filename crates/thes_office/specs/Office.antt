@@ -1,5 +1,5 @@
 -- What an office keeps, and what its calls do to the tables of its keeper.
-use Rattle.std.specs.Prelude.{◌≡◌, ◌⊎◌, ◌<◌, ◌≤◌, ◌^◌, ◌++◌, ℕ, List, Bool, true, false, Result, Ok, Err, OnOk, IfOk, IfErr}
+use Rattle.std.specs.Prelude.{◌≡◌, ◌⊎◌, ◌<◌, ◌≤◌, ◌^◌, ◌++◌, ℕ, List, length, Bool, true, false, Result, Ok, Err, OnOk, IfOk, IfErr}
 use Rattle.std.specs.Borrow.{Bor}
 use Rattle.thes_base.specs.declared.data.Limits.{Limits}
 use Rattle.thes_base.specs.declared.fault.Fault.{Fault}
@@ -42,12 +42,14 @@ pub record IsCopy (raw : Raw) (limits : Limits) (copy : core.Kept) : Type 0 wher
   pub holds : Holds copy state
   pub shows : Shows raw copy.setting.base state
 
--- The tables show a state, and the copy is that state unless it is stale.
-pub record IsConsistent {K : Type 0} (rows : K → Raw) (is_up : K → Type 0) (keeper : K) (copy : core.Kept) (limits : Limits) (stale : Bool) : Type 0 where
+-- The tables show a state, and the copy is that state unless it is stale. It is stale only where memory for it ran out, or
+-- once the keeper has failed.
+pub record IsConsistent {K : Type 0} (rows : K → Raw) (is_up : K → Type 0) (failed : K → ℕ) (keeper : K) (copy : core.Kept) (limits : Limits) (stale : Bool) : Type 0 where
   pub few : AreLimits limits
   pub shows : is_up keeper → (base : List ℕ) × (s : State) × Shows (rows keeper) base s
   pub unspent : stale ≡ false → copy.spent ≡ false
   pub copies : stale ≡ false → is_up keeper → IsCopy (rows keeper) limits copy
+  pub why : stale ≡ true → (copy.spent ≡ true) ⊎ (0 < failed keeper)
 
 -- What each call keeps. A fault is OutOfMemory, or Store: then the count of failures rose, or stood at its
 -- greatest value, and the copy is stale.
@@ -97,12 +99,14 @@ Performed rows is_up old command (Ok answer) new =
     is_up new.keeper → Steps old.limits (rows old.keeper) command answer (rows new.keeper)
 Performed rows is_up old command (Err fault) new = Same rows is_up old new
 
--- Some of the requests were answered, and their answers stand after those before; the tables are those after just these.
+-- Some of the requests were answered, but not all, and their answers stand after those before; the tables are those after
+-- just these.
 pub record RanPart {K : Type 0} (rows : K → Raw) (is_up : K → Type 0) (old : Kept K) (commands : List Command) (before after : List Answer) (new : Kept K) : Type 0 where
   pub done : List Command
   pub left : List Command
   pub answers : List Answer
   pub all : commands ≡ done ++ left
+  pub some : 0 < length left
   pub kept : after ≡ before ++ answers
   pub goes_on : is_up new.keeper → GoesOn old.limits (rows old.keeper) done answers (rows new.keeper)
 

@@ -38,7 +38,7 @@ impl<K: Keeper> Model for Office<K> {
 
     ghost view = { λ a. record { keeper = a.keeper; limits = a.limits; stale = a.stale } };
 
-    ghost invariant = { λ a. IsConsistent K.rows K.is_up a.keeper a.core a.limits a.stale };
+    ghost invariant = { λ a. IsConsistent K.rows K.is_up K.failed a.keeper a.core a.limits a.stale };
 }
 
 impl<K: Keeper> Office<K> {

@@ -28,7 +28,7 @@ use Rattle.thes_exchange.specs.Viewing.{IsViewed}
 use Rattle.thes_exchange.specs.Listing.{entries}
 use Rattle.thes_exchange.specs.ViewTexts.{entry_data, line_text, listing_data, postings_data}
 use Rattle.thes_service.specs.Desk.{OfficeShows}
-use Rattle.thes_service.specs.Rows.{ListsRow}
+use Rattle.thes_service.specs.ListedRows.{ListsRow}
 use Rattle.thes_service.specs.Service.{TellsOfState}
 use Rattle.thes_service.specs.declared.rows.Rows.{Rows}
 

@@ -1,3 +1,3 @@
 pub mod Desk
-pub mod Rows
+pub mod ListedRows
 pub mod Service

@@ -25,15 +25,15 @@ use Rattle.thes_http.specs.declared.service.Imported.TheVariants as imported
 abbrev pub IsExportRead : List ℕ → State → List ℕ → Type 0
 IsExportRead base s text = IsExport base s text × IsReadAs base s text
 
--- the text of a display
-abbrev pub IsDisplay : Display → State → ℕ → List ℕ → List ℕ → Type 0
-IsDisplay which.Alphabetical s scheme tag text = IsAlphabetical s scheme tag text
-IsDisplay which.Hierarchical s scheme tag text = IsHierarchical s scheme tag text
+-- the text of a display of a scheme in a language
+abbrev pub IsDisplay : Display → ℕ → List ℕ → State → List ℕ → Type 0
+IsDisplay which.Alphabetical scheme tag s text = IsAlphabetical s scheme tag text
+IsDisplay which.Hierarchical scheme tag s text = IsHierarchical s scheme tag text
 
 -- the display of a scheme, or why there is no such scheme
 abbrev pub IsDisplayed : Display → ℕ → List ℕ → State → Displayed → Type 0
 IsDisplayed display scheme tag s (displayed.Lines page) =
-    IsScheme s.resources scheme × IsDisplay display s scheme tag page
+    IsScheme s.resources scheme × IsDisplay display scheme tag s page
 IsDisplayed display scheme tag s (displayed.No refusal) = IsNoScheme s.resources scheme refusal
 
 -- what is told of an import: the lines of all rows, or that the file is none, or the fault that ended it

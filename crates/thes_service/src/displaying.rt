@@ -26,7 +26,7 @@ fn display_text(
 ) -> Result<Vec<u8>, AllocError>
     requires { core.now.spent ≡ false }
     ensures { (s : State) → Holds core.now s →
-        IfOk result (λ text. IsDisplay display s scheme tag.now text.items) }
+        IfOk result (λ text. IsDisplay display scheme tag.now s text.items) }
 {
     match display {
         Display::Alphabetical => alphabetical_text(alloc, core, scheme, tag),

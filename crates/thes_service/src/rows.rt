@@ -37,7 +37,7 @@ impl Rows {
 }
 
 impl PostingSink for Rows {
-    ghost use Rattle.thes_service.specs.Rows.{ListsRow};
+    ghost use Rattle.thes_service.specs.ListedRows.{ListsRow};
 
     ghost gives = { ListsRow };
 

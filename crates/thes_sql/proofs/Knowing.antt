@@ -8,13 +8,13 @@ use Rattle.sqlite_tied.specs.Compute.{everything}
 use Rattle.thes_base.specs.declared.fault.Table.TheVariants as table
 use Rattle.thes_sql.specs.Schema.{store_schema}
 use Rattle.thes_sql.specs.Older.{old_schema, HasKnownSchema, IsUnderstood, links_text, hier_text}
-use Rattle.thes_sql.specs.Reads.{text_of}
+use Rattle.thes_sql.specs.Reads.{read_text}
 
-meta_now : is_ok (understood store_schema (text_of table.Meta)) ≡ true
+meta_now : is_ok (understood store_schema (read_text table.Meta)) ≡ true
 unfolding understood everything
 meta_now = refl
 
-meta_old : is_ok (understood old_schema (text_of table.Meta)) ≡ true
+meta_old : is_ok (understood old_schema (read_text table.Meta)) ≡ true
 unfolding understood everything
 meta_old = refl
 
@@ -30,11 +30,11 @@ hier_old : is_ok (understood old_schema hier_text) ≡ false
 unfolding understood listing_schema everything
 hier_old = refl
 
-pub knows_meta : (db : Database) → HasKnownSchema db → IsUnderstood db.schema (text_of table.Meta) false → ⊥
+pub knows_meta : (db : Database) → HasKnownSchema db → IsUnderstood db.schema (read_text table.Meta) false → ⊥
 knows_meta db (inl has) not_so =
-    let e = sym (ap is_ok not_so.1) ∙ ap (λ (s : Schema). is_ok (understood s (text_of table.Meta))) has ∙ meta_now in cc
+    let e = sym (ap is_ok not_so.1) ∙ ap (λ (s : Schema). is_ok (understood s (read_text table.Meta))) has ∙ meta_now in cc
 knows_meta db (inr has) not_so =
-    let e = sym (ap is_ok not_so.1) ∙ ap (λ (s : Schema). is_ok (understood s (text_of table.Meta))) has ∙ meta_old in cc
+    let e = sym (ap is_ok not_so.1) ∙ ap (λ (s : Schema). is_ok (understood s (read_text table.Meta))) has ∙ meta_old in cc
 
 pub knows_links : (db : Database) → HasKnownSchema db → IsUnderstood db.schema links_text false → ⊥
 knows_links db (inl has) not_so =

@@ -40,7 +40,7 @@ use Rattle.thes_sql.specs.Stored.{stored_resource, stored_outside, stored_postin
 use Rattle.thes_sql.specs.Older.{old_schema, HasVersion, stored_version, version_row}
 use Rattle.thes_rows.specs.declared.cells.Cell.TheVariants as cells
 use Rattle.thes_rows.specs.Cells.{number_cell}
-use Rattle.thes_sql.specs.Reads.{rows_of, text_of, keyed_as, numbered_as, standing_at, moves_of}
+use Rattle.thes_sql.specs.Reads.{rows_of, read_text, keyed_as, numbered_as, standing_at, moves_of}
 use Rattle.thes_sql.specs.Reads.{tree_of, places_of, shown_rows, IsReadable}
 use Rattle.thes_sql.proofs.Texts.{plain_query, whole, same}
 use Rattle.thes_sql.proofs.Keyed.{lower, rising_filter}
@@ -166,7 +166,7 @@ names_of table.Hier = codes "a" ∷ codes "b" ∷ codes "typ" ∷ []
 names_of table.Posting = posting_names
 names_of table.Move = move_names
 
-pub asks_table : (p : Table) → Asks (text_of p) (in_order (tree_of p) [] (columns_of p))
+pub asks_table : (p : Table) → Asks (read_text p) (in_order (tree_of p) [] (columns_of p))
 unfolding understood everything
 asks_table table.Meta = (names_of table.Meta, refl, refl, (refl, refl))
 asks_table table.Resource = (names_of table.Resource, refl, refl, (refl, refl))
@@ -178,28 +178,28 @@ asks_table table.Posting = (names_of table.Posting, refl, refl, (refl, refl))
 asks_table table.Move = (names_of table.Move, refl, refl, (refl, refl))
 
 pub table_shown : (p : Table) (old new : State) (t : Tables) (out : List Row) → Keeps old.now t
-    → Shown (text_of p) [] old new out → out ≡ map values (rows_of p t)
+    → Shown (read_text p) [] old new out → out ≡ map values (rows_of p t)
 table_shown table.Meta old new t out kept h = reads_all (λ (base : List ℕ). 1) stored_meta meta_cells 0
-    (columns_of table.Meta) (λ base. refl) (text_of table.Meta) (asks_table table.Meta) old new (t.base ∷ []) out
+    (columns_of table.Meta) (λ base. refl) (read_text table.Meta) (asks_table table.Meta) old new (t.base ∷ []) out
     kept.schema (record { rises = (lit< tt, tt); rows = kept.hold.meta }) h
 table_shown table.Resource old new t out kept h = reads_all (λ (row : ℕ × Resource). row.0) stored_resource
-    (λ row. resource_cells row.0 row.1) 1 (columns_of table.Resource) (λ row. refl) (text_of table.Resource)
+    (λ row. resource_cells row.0 row.1) 1 (columns_of table.Resource) (λ row. refl) (read_text table.Resource)
     (asks_table table.Resource) old new (numbered_from 1 t.resource) out kept.schema kept.hold.resource h
     ∙ ap (map values) (numbered_rows 1 t.resource)
 table_shown table.Outside old new t out kept h = reads_all (λ (row : ℕ × List ℕ). row.0) stored_outside outside_cells 2
-    (columns_of table.Outside) (λ row. refl) (text_of table.Outside) (asks_table table.Outside) old new t.outside out
+    (columns_of table.Outside) (λ row. refl) (read_text table.Outside) (asks_table table.Outside) old new t.outside out
     kept.schema kept.hold.outside h
 table_shown table.Label old new t out kept h = hidden_all label_cells 4 (columns_of table.Label) (λ row. refl)
-    (text_of table.Label) (asks_table table.Label) old new t.label out kept.schema kept.hold.label h
+    (read_text table.Label) (asks_table table.Label) old new t.label out kept.schema kept.hold.label h
 table_shown table.Link old new t out kept h = hidden_all link_cells 6 (columns_of table.Link) (λ row. refl)
-    (text_of table.Link) (asks_table table.Link) old new t.link out kept.schema kept.hold.link h
+    (read_text table.Link) (asks_table table.Link) old new t.link out kept.schema kept.hold.link h
 table_shown table.Hier old new t out kept h = hidden_all hier_cells 11 (columns_of table.Hier) (λ row. refl)
-    (text_of table.Hier) (asks_table table.Hier) old new t.hier out kept.schema kept.hold.hier h
+    (read_text table.Hier) (asks_table table.Hier) old new t.hier out kept.schema kept.hold.hier h
 table_shown table.Posting old new t out kept h = reads_all (λ (row : PostingRow). row.number) stored_posting
-    posting_cells 8 (columns_of table.Posting) (λ row. refl) (text_of table.Posting) (asks_table table.Posting) old new
+    posting_cells 8 (columns_of table.Posting) (λ row. refl) (read_text table.Posting) (asks_table table.Posting) old new
     t.posting out kept.schema kept.hold.posting h
 table_shown table.Move old new t out kept h = reads_all (λ (row : MoveRow). row.number) stored_move move_cells 10
-    (columns_of table.Move) (λ row. refl) (text_of table.Move) (asks_table table.Move) old new t.move out kept.schema
+    (columns_of table.Move) (λ row. refl) (read_text table.Move) (asks_table table.Move) old new t.move out kept.schema
     kept.hold.move h
 
 -- The same, whatever the table holds.
@@ -247,30 +247,30 @@ module _ (tree : ℕ) (project : List Term) (of : Row → Row)
       each (r ∷ rs) = ap (λ l. ([] ∷ r ∷ []) ∷ l) (each rs)
 
 pub whatever_shown : (p : Table) (old new : State) (out : List Row) → IsReadable old.now
-    → Shown (text_of p) [] old new out → out ≡ shown_rows p old.now.trees
+    → Shown (read_text p) [] old new out → out ≡ shown_rows p old.now.trees
 whatever_shown table.Meta old new out is h = rows_read 0 (columns_of table.Meta) (λ row. map (column row)
-    (places_of table.Meta)) (λ row. refl) (text_of table.Meta) (asks_table table.Meta) old new out is.schema
+    (places_of table.Meta)) (λ row. refl) (read_text table.Meta) (asks_table table.Meta) old new out is.schema
     (is.ordered table.Meta) h
 whatever_shown table.Resource old new out is h = rows_read 1 (columns_of table.Resource) (λ row. map (column row)
-    (places_of table.Resource)) (λ row. refl) (text_of table.Resource) (asks_table table.Resource) old new out
+    (places_of table.Resource)) (λ row. refl) (read_text table.Resource) (asks_table table.Resource) old new out
     is.schema (is.ordered table.Resource) h
 whatever_shown table.Outside old new out is h = rows_read 2 (columns_of table.Outside) (λ row. map (column row)
-    (places_of table.Outside)) (λ row. refl) (text_of table.Outside) (asks_table table.Outside) old new out is.schema
+    (places_of table.Outside)) (λ row. refl) (read_text table.Outside) (asks_table table.Outside) old new out is.schema
     (is.ordered table.Outside) h
 whatever_shown table.Label old new out is h = rows_read 4 (columns_of table.Label) (λ row. map (column row)
-    (places_of table.Label)) (λ row. refl) (text_of table.Label) (asks_table table.Label) old new out is.schema
+    (places_of table.Label)) (λ row. refl) (read_text table.Label) (asks_table table.Label) old new out is.schema
     (is.ordered table.Label) h
 whatever_shown table.Link old new out is h = rows_read 6 (columns_of table.Link) (λ row. map (column row)
-    (places_of table.Link)) (λ row. refl) (text_of table.Link) (asks_table table.Link) old new out is.schema
+    (places_of table.Link)) (λ row. refl) (read_text table.Link) (asks_table table.Link) old new out is.schema
     (is.ordered table.Link) h
 whatever_shown table.Hier old new out is h = rows_read 11 (columns_of table.Hier) (λ row. map (column row)
-    (places_of table.Hier)) (λ row. refl) (text_of table.Hier) (asks_table table.Hier) old new out is.schema
+    (places_of table.Hier)) (λ row. refl) (read_text table.Hier) (asks_table table.Hier) old new out is.schema
     (is.ordered table.Hier) h
 whatever_shown table.Posting old new out is h = rows_read 8 (columns_of table.Posting) (λ row. map (column row)
-    (places_of table.Posting)) (λ row. refl) (text_of table.Posting) (asks_table table.Posting) old new out is.schema
+    (places_of table.Posting)) (λ row. refl) (read_text table.Posting) (asks_table table.Posting) old new out is.schema
     (is.ordered table.Posting) h
 whatever_shown table.Move old new out is h = rows_read 10 (columns_of table.Move) (λ row. map (column row)
-    (places_of table.Move)) (λ row. refl) (text_of table.Move) (asks_table table.Move) old new out is.schema
+    (places_of table.Move)) (λ row. refl) (read_text table.Move) (asks_table table.Move) old new out is.schema
     (is.ordered table.Move) h
 
 -- Look-ups.
@@ -340,7 +340,7 @@ moving_shown n old new t out kept h = reads (λ (row : MoveRow). row.number) sto
 -- The row of meta in a store of this version or of version 1.
 
 abbrev pub meta_text : List ℕ
-meta_text = text_of table.Meta
+meta_text = read_text table.Meta
 
 abbrev version_cells : ℕ × List ℕ → List Cell
 version_cells x = number_cell 1 ∷ number_cell x.0 ∷ cells.Text x.1 ∷ []

@@ -67,15 +67,15 @@ rows_of table.Posting t = map posting_cells t.posting
 rows_of table.Move t = map move_cells t.move
 
 -- the text that reads them: rows with a number by their numbers, the others as they came
-abbrev pub text_of : Table → List ℕ
-text_of table.Meta = codes "SELECT one, version, base FROM meta ORDER BY one"
-text_of table.Resource = codes "SELECT num, kind, scheme, live, replaced FROM resource ORDER BY num"
-text_of table.Outside = codes "SELECT num, iri FROM outside ORDER BY num"
-text_of table.Label = codes "SELECT owner, kind, tag, text FROM label ORDER BY rowid"
-text_of table.Link = codes "SELECT kind, a, b FROM link ORDER BY rowid"
-text_of table.Hier = codes "SELECT a, b, typ FROM hier ORDER BY rowid"
-text_of table.Posting = codes "SELECT num, pkey, record, first_at, at, withdrawn FROM posting ORDER BY num"
-text_of table.Move = codes "SELECT num, posting, source, target FROM move ORDER BY num"
+abbrev pub read_text : Table → List ℕ
+read_text table.Meta = codes "SELECT one, version, base FROM meta ORDER BY one"
+read_text table.Resource = codes "SELECT num, kind, scheme, live, replaced FROM resource ORDER BY num"
+read_text table.Outside = codes "SELECT num, iri FROM outside ORDER BY num"
+read_text table.Label = codes "SELECT owner, kind, tag, text FROM label ORDER BY rowid"
+read_text table.Link = codes "SELECT kind, a, b FROM link ORDER BY rowid"
+read_text table.Hier = codes "SELECT a, b, typ FROM hier ORDER BY rowid"
+read_text table.Posting = codes "SELECT num, pkey, record, first_at, at, withdrawn FROM posting ORDER BY num"
+read_text table.Move = codes "SELECT num, posting, source, target FROM move ORDER BY num"
 
 -- the rows of posting with a key, with a number, and not withdrawn at a concept; the rows of move of a posting
 abbrev pub keyed_as : List ℕ → Tables → List (List Cell)

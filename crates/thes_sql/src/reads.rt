@@ -1,6 +1,6 @@
 //! What is read from the tables.
 ghost use Rattle.std.specs.Prelude.{◌≡◌};
-ghost use Rattle.thes_sql.specs.Reads.{rows_of, text_of, keyed_as, numbered_as, standing_at, moves_of};
+ghost use Rattle.thes_sql.specs.Reads.{rows_of, read_text, keyed_as, numbered_as, standing_at, moves_of};
 ghost use Rattle.thes_sql.specs.Reads.{Shows, ShowsTable, Understands, LeavesAlone};
 
 use sqlite::{Alter, Connection, Error, Row, params};
@@ -10,7 +10,7 @@ use thes_base::text::Key;
 
 // The text that reads a table.
 fn table_text(table: Table) -> &'static str
-    ensures { result.now ≡ text_of table }
+    ensures { result.now ≡ read_text table }
 {
     match table {
         Table::Meta => "SELECT one, version, base FROM meta ORDER BY one",

@@ -2,7 +2,7 @@
 ghost use Rattle.std.specs.Prelude.{◌≡◌, ◌∷◌, [], ℕ, List, IfOk, OnOk};
 ghost use Rattle.thes_base.specs.declared.fault.Table.TheVariants as table;
 ghost use Rattle.thes_sql.specs.Older.{HasVersion, version_row, Asks, links_text, hier_text, KeepsKnown, LeavesKnown};
-ghost use Rattle.thes_sql.specs.Reads.{text_of};
+ghost use Rattle.thes_sql.specs.Reads.{read_text};
 ghost use Rattle.sqlite.specs.State.{HasCleanDisk, Shown};
 ghost use Rattle.sqlite.specs.Held.{state};
 
@@ -11,7 +11,7 @@ use sqlite::{Alter, Connection, Error, Row};
 /// Reads the rows of meta: in a store of this version or of version 1 it is one.
 pub fn version_rows<S: Alter>(conn: &mut Connection<S>) -> Result<Vec<Row>, Error>
     ensures shown { HasCleanDisk (state S.Store conn.new) → IfOk result (λ rows.
-        Shown (text_of table.Meta) [] (state S.Store conn.old) (state S.Store conn.new) rows.items) }
+        Shown (read_text table.Meta) [] (state S.Store conn.old) (state S.Store conn.new) rows.items) }
     ensures shows { HasCleanDisk (state S.Store conn.new) → IfOk result (λ rows. (version : ℕ) (base : List ℕ)
         → HasVersion version base (state S.Store conn.old).now
         → rows.items ≡ version_row version base ∷ []) }
@@ -36,7 +36,7 @@ fn understands<S: Alter>(conn: &mut Connection<S>, sql: &str) -> Result<bool, Er
 
 /// Tells whether meta can be queried.
 pub fn has_meta<S: Alter>(conn: &mut Connection<S>) -> Result<bool, Error>
-    ensures tells { Asks S.Store (text_of table.Meta) conn.old conn.new result }
+    ensures tells { Asks S.Store (read_text table.Meta) conn.old conn.new result }
     ensures kept { OnOk result (KeepsKnown S.Store conn.old conn.new) }
     ensures leaves { LeavesKnown S.Store conn.old conn.new }
 {

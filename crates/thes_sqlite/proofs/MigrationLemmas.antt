@@ -25,7 +25,7 @@ use Rattle.thes_tables.proofs.Holding.{held_loads}
 use Rattle.thes_sql.specs.Stored.{Keeps, Hold}
 use Rattle.thes_sql.specs.Older.{KeepsOld, HasKnownSchema, HasVersion, KeepsKnown, LeavesKnown, version_row, old_schema, renewed}
 use Rattle.thes_sql.specs.OldRows.{IsOldRowsOf}
-use Rattle.thes_sql.specs.Reads.{text_of}
+use Rattle.thes_sql.specs.Reads.{read_text}
 use Rattle.thes_sql.proofs.OldRowLemmas.{renews}
 use Rattle.thes_sqlite.specs.Faults.{IsKeeperFault}
 use Rattle.thes_sqlite.specs.Kept.{raw_in}
@@ -75,7 +75,7 @@ known_of db t (inr now) = inl now.schema
 -- What was read of meta, after it was asked whether it can be.
 module _ {S : Type 0} (g : Ghosts S) (old mid new : Held S) (rows : List Row)
     (same : HasCleanDisk (state g new) → (state g mid).now ≡ (state g old).now)
-    (shown : HasCleanDisk (state g new) → Shown (text_of table.Meta) [] (state g mid) (state g new) rows)
+    (shown : HasCleanDisk (state g new) → Shown (read_text table.Meta) [] (state g mid) (state g new) rows)
     (shows : HasCleanDisk (state g new) → (version : ℕ) (base : List ℕ) → HasVersion version base (state g mid).now
     → rows ≡ version_row version base ∷ []) where
   meta_cause : (fault : Fault) → IsMetaFault rows fault → HasCleanDisk (state g new) → IsCause g old new fault

@@ -14,7 +14,7 @@ use Rattle.thes_rows.specs.declared.cells.Cell.{Cell}
 use Rattle.thes_rows.specs.Tables.{Tables}
 use Rattle.thes_rows.specs.Cells.{number_cell}
 use Rattle.thes_sql.specs.Stored.{Keeps, Hold}
-use Rattle.thes_sql.specs.Reads.{text_of}
+use Rattle.thes_sql.specs.Reads.{read_text}
 use Rattle.thes_sql.specs.Older.{KeepsOld, HasKnownSchema, IsUnderstood, links_text, hier_text, renewed}
 use Rattle.thes_sqlite.specs.Kept.{IsUp}
 use Rattle.thes_sqlite.specs.Faults.{IsKeeperFault}
@@ -44,7 +44,7 @@ IsMetaFault rows _ = ⊥
 -- the rows that a database shows of meta
 abbrev pub ShowsMeta : {S : Type 0} → Ghosts S → Held S → Held S → List Row → Type 0
 ShowsMeta {S} g old new rows =
-    (mid : Held S) × ((state g mid).now ≡ (state g old).now) × Shown (text_of table.Meta) [] (state g mid) (state g new) rows
+    (mid : Held S) × ((state g mid).now ≡ (state g old).now) × Shown (read_text table.Meta) [] (state g mid) (state g new) rows
 
 -- why there is nothing to migrate in this schema: links can't be queried, or there is a table hier already
 abbrev pub IsTableFault : Schema → Fault → Type 0
@@ -59,7 +59,7 @@ IsTableFault schema _ = ⊥
 abbrev pub IsCause : {S : Type 0} → Ghosts S → Held S → Held S → Fault → Type 0
 IsCause g old new NewerStore = (rows : List Row) × ShowsMeta g old new rows × IsMetaFault rows NewerStore
 IsCause g old new (BadStore table.Meta) =
-    IsUnderstood (state g new).now.schema (text_of table.Meta) false
+    IsUnderstood (state g new).now.schema (read_text table.Meta) false
     ⊎ ((rows : List Row) × ShowsMeta g old new rows × IsMetaFault rows (BadStore table.Meta))
 IsCause g old new fault = IsTableFault (state g new).now.schema fault
 

@@ -9,16 +9,16 @@ loop-init g c = record {
   stays_open = c.requires;
 }
 
-pub returns-in_err-stream : goal.returns-in_err-stream
-returns-in_err-stream g c =
+pub returns-in_err-stream-clause-leads : goal.returns-in_err-stream-clause-leads
+returns-in_err-stream-clause-leads g c =
     led_within (doing g.S.Desk.performs g.S.Desk.shows g.S.Service.imports g.S.Service.exports g.S.Service.displays) c.loop.counter c.args.count
     (omega (arith, c.loop.auto.counter-end)) c.loop.invariant.led
 
 pub serve_stream-requires : goal.serve_stream-requires
 serve_stream-requires g c = c.loop.invariant.stays_open
 
-pub returns-then-not-is_open : goal.returns-then-not-is_open
-returns-then-not-is_open g c =
+pub returns-then-not-is_open-clause-leads : goal.returns-then-not-is_open-clause-leads
+returns-then-not-is_open-clause-leads g c =
     let d = doing g.S.Desk.performs g.S.Desk.shows g.S.Service.imports g.S.Service.exports g.S.Service.displays in
     led_within d (c.loop.counter + 1) c.args.count (search rules) (led_on d c.loop.counter 1 c.loop.invariant.led c.serve_stream.ensures)
 
@@ -28,7 +28,7 @@ loop-preserved g c = record {
   stays_open = search rules;
 }
 
-pub returns : goal.returns
-returns g c =
+pub returns-clause-leads : goal.returns-clause-leads
+returns-clause-leads g c =
     led_within (doing g.S.Desk.performs g.S.Desk.shows g.S.Service.imports g.S.Service.exports g.S.Service.displays) c.loop.counter c.args.count
     (omega (arith, c.loop.auto.counter-end)) c.loop.invariant.led

@@ -32,4 +32,6 @@ pub returns-in-Err-clause-imports : goal.returns-in-Err-clause-imports
 returns-in-Err-clause-imports g c =
     let given = c.into_iter-row-iterator.ensures.into_iter_gives in
     let first = sym (map-id c.loop-row.yielded) ∙ YieldsList-so_far (YieldsList-from_vec {s = c.into_iter-row-iterator.result} c.args.rows.items given.0 (given.1 ∙ c.args.rows.ok.0)) c.loop-row.yielded c.loop-row.row-iterator c.loop-row.yielded_by in
-    inr (halted_at g.K.Keeper.rows g.K.Keeper.is_up g.K.Keeper.failed c.args.office.now c.loop-row.office c.answer_row.new.office c.args.rows.items c.loop-row.yielded c.loop-row.report c.answer_row.new.report c.in-Some.row c.in-Err.fault c.loop-row.invariant c.in-Err.ensures.goes c.in-Err.ensures.told first)
+    let t = YieldsList-turn (YieldsList-from_vec {s = c.into_iter-row-iterator.result} c.args.rows.items given.0 (given.1 ∙ c.args.rows.ok.0)) c.loop-row.yielded c.loop-row.row-iterator c.loop-row.yielded_by c.next.result c.next.new.self c.in-Some.row c.in-Some.is c.next.ensures.steps in
+    inr (halted_at g.K.Keeper.rows g.K.Keeper.is_up g.K.Keeper.failed c.args.office.now c.loop-row.office c.answer_row.new.office c.args.rows.items c.loop-row.yielded c.loop-row.report c.answer_row.new.report c.in-Some.row c.in-Err.fault c.loop-row.invariant c.in-Err.ensures.goes c.in-Err.ensures.told first
+    (omega (arith, t.0)))

@@ -10,4 +10,4 @@ pub returns-clause-led : goal.returns-clause-led
 returns-clause-led g c =
     connections_lead g.K.Keeper.rows g.K.Keeper.is_up g.K.Keeper.failed c.args.count c.args.desk.now c.serve.new.service
     (subst (λ (d : Kept _). g.K.Keeper.is_up d.keeper → (base : List ℕ) × (s : State) × Shows (g.K.Keeper.rows d.keeper) base s × IsInOrder base s) c.desk.view_is c.is_stale.ensures.shows)
-    c.serve.ensures
+    c.serve.ensures.leads

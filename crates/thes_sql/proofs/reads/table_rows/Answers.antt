@@ -1,5 +1,5 @@
 use Rattle.std.proofs.Common.{[]}
-use Rattle.thes_sql.specs.Reads.{text_of}
+use Rattle.thes_sql.specs.Reads.{read_text}
 use Rattle.thes_sql.proofs.Reading.{table_shown, whatever_shown, asks_table}
 use Rattle.sqlite.specs.Held.{state}
 use Rattle.thes_sql.proofs.Leaving.{leaves_alone, is_understood, if_failed, if_shown}
@@ -18,12 +18,12 @@ returns-clause-whatever g c clean is = if_shown c.query_all.result
 pub returns-clause-understood : goal.returns-clause-understood
 returns-clause-understood g c clean has =
     let asks = asks_table c.args.table in
-    if_failed c.query_all.result (λ e fails fault. is_understood (text_of c.args.table) [] (state g.S.Store c.args.conn.now)
+    if_failed c.query_all.result (λ e fails fault. is_understood (read_text c.args.table) [] (state g.S.Store c.args.conn.now)
     (state g.S.Store c.query_all.new.self) _ asks.0 has asks.1 asks.3 e fault fails)
     (rw c.table_text.ensures at (c.query_all.ensures.err clean))
 
 pub returns-clause-leaves : goal.returns-clause-leaves
-returns-clause-leaves g c = leaves_alone g.S.Store (text_of c.args.table) [] c.args.conn.now c.query_all.new.self
+returns-clause-leaves g c = leaves_alone g.S.Store (read_text c.args.table) [] c.args.conn.now c.query_all.new.self
     c.query_all.result (λ rows. rows.items) (asks_table c.args.table).3 c.query_all.ensures.mode
     (rw c.table_text.ensures at c.query_all.ensures.ok)
     (rw c.table_text.ensures at c.query_all.ensures.err)

@@ -1,9 +1,10 @@
-use Rattle.std.proofs.Common.{ap, sym, ◌∙◌}
+use Rattle.std.proofs.Common.{◌≡◌, ap, sym, ◌∙◌, inl, inr, rules}
+use Rattle.thes_base.specs.declared.fault.Fault.TheVariants as faults
 use Rattle.thes_office.specs.Listing.{rows_at}
 use Rattle.thes_office.specs.Office.{Kept}
 use Rattle.thes_office.proofs.ShowLemmas.{shows_same}
 use Rattle.thes_office.proofs.StepLemmas.{copies_own}
-use Rattle.thes_office.proofs.KeptLemmas.{kept_over}
+use Rattle.thes_office.proofs.KeptLemmas.{has_failed, kept_over, never_falls}
 use Rattle.thes_office.proofs.ListLemmas.{some_none}
 use Rattle.thes_office.proofs.office.Office.postings.Goals as goal
 
@@ -17,13 +18,14 @@ list-requires-clause-copies g c up =
 
 pub invariant_of-self : goal.invariant_of-self
 invariant_of-self g c =
-    kept_over g.K.Keeper.rows g.K.Keeper.is_up c.self.inside.keeper c.list.new.keeper c.self.inside.core c.self.inside.limits c.self.inside.stale c.self.inside.stale
-    c.self.invariant (λ e. e) c.list.ensures.asks.was c.list.ensures.asks.same
+    kept_over g.K.Keeper.rows g.K.Keeper.is_up g.K.Keeper.failed c.self.inside.keeper c.list.new.keeper c.self.inside.core c.self.inside.limits c.self.inside.stale c.self.inside.stale
+    c.self.invariant (never_falls _ _ _ c.list.ensures.asks.cause) (λ e. inl e) (λ e. e) c.list.ensures.asks.was c.list.ensures.asks.same
 
 pub invariant_of-self-in-Err-list : goal.invariant_of-self-in-Err-list
 invariant_of-self-in-Err-list g c =
-    kept_over g.K.Keeper.rows g.K.Keeper.is_up c.self.inside.keeper c.list.new.keeper c.self.inside.core c.self.inside.limits c.self.inside.stale c.eq-self-inside.result
-    c.self.invariant (λ e. ap (λ (d : Kept _). d.stale) c.self.view_is ∙ c.in_default.ensures.fresh) c.list.ensures.asks.was c.list.ensures.asks.same
+    kept_over g.K.Keeper.rows g.K.Keeper.is_up g.K.Keeper.failed c.self.inside.keeper c.list.new.keeper c.self.inside.core c.self.inside.limits c.self.inside.stale c.eq-self-inside.result
+    c.self.invariant (never_falls _ _ _ c.list.ensures.asks.cause)
+    (λ e. let is : c.in-Err-list.fault ≡ faults.Store = search rules in inr (has_failed _ _ _ c.in-Err-list.ensures.asks.cause is)) (λ e. ap (λ (d : Kept _). d.stale) c.self.view_is ∙ c.in_default.ensures.fresh) c.list.ensures.asks.was c.list.ensures.asks.same
 
 pub returns-in-Err-list-clause-lists : goal.returns-in-Err-list-clause-lists
 returns-in-Err-list-clause-lists g c up base s x =

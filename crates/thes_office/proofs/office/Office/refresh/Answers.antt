@@ -1,10 +1,10 @@
-use Rattle.std.proofs.Common.{rules}
+use Rattle.std.proofs.Common.{rules, inl}
 use Rattle.thes_office.proofs.KeptLemmas.{kept_loaded, kept_over, goes_unread}
 use Rattle.thes_office.proofs.office.Office.refresh.Goals as goal
 
 pub invariant_of-self : goal.invariant_of-self
 invariant_of-self g c =
-    kept_over g.K.Keeper.rows g.K.Keeper.is_up c.self.inside.keeper c.load.new.keeper c.self.inside.core c.self.inside.limits c.self.inside.stale c.self.inside.stale c.self.invariant (λ e. e) c.load.ensures.reads.was c.load.ensures.reads.same
+    kept_over g.K.Keeper.rows g.K.Keeper.is_up g.K.Keeper.failed c.self.inside.keeper c.load.new.keeper c.self.inside.core c.self.inside.limits c.self.inside.stale c.self.inside.stale c.self.invariant c.load.ensures.reads.later (λ e. inl e) (λ e. e) c.load.ensures.reads.was c.load.ensures.reads.same
 
 pub returns-in-Err-clause-goes : goal.returns-in-Err-clause-goes
 returns-in-Err-clause-goes g c =
@@ -13,5 +13,5 @@ returns-in-Err-clause-goes g c =
 
 pub invariant_of-self-2 : goal.invariant_of-self-2
 invariant_of-self-2 g c =
-    kept_loaded g.K.Keeper.rows g.K.Keeper.is_up c.self.inside.keeper c.load.new.keeper c.in-Ok.core c.self.inside.limits c.self.invariant.few
+    kept_loaded g.K.Keeper.rows g.K.Keeper.is_up g.K.Keeper.failed c.self.inside.keeper c.load.new.keeper c.in-Ok.core c.self.inside.limits c.self.invariant.few
     c.in-Ok.ensures.unspent c.in-Ok.ensures.copies c.in-Ok.ensures.reads.same

@@ -11,12 +11,12 @@ loop-command-init g c =
 pub returns-then-is_err-clause-ran : goal.returns-then-is_err-clause-ran
 returns-then-is_err-clause-ran g c =
     let reserved : c.try_reserve.new.self.items ≡ c.loop-command.answers.items = search rules in
-    ran_some g.K.Keeper.rows g.K.Keeper.is_up g.K.Keeper.failed c.args.self.now c.loop-command.self c.loop-command.self c.args.commands.now c.loop-command.command-index c.args.answers.now.items c.loop-command.answers.items c.try_reserve.new.self.items c.loop-command.invariant (λ up. up) (λ up. refl) reserved
+    ran_some g.K.Keeper.rows g.K.Keeper.is_up g.K.Keeper.failed c.args.self.now c.loop-command.self c.loop-command.self c.args.commands.now c.loop-command.command-index c.args.answers.now.items c.loop-command.answers.items c.try_reserve.new.self.items (omega arith) c.loop-command.invariant (λ up. up) (λ up. refl) reserved
 
 pub returns-in-Err-clause-ran : goal.returns-in-Err-clause-ran
 returns-in-Err-clause-ran g c =
     let reserved : c.try_reserve.new.self.items ≡ c.loop-command.answers.items = search rules in
-    ran_some g.K.Keeper.rows g.K.Keeper.is_up g.K.Keeper.failed c.args.self.now c.loop-command.self c.perform.new.self c.args.commands.now c.loop-command.command-index c.args.answers.now.items c.loop-command.answers.items c.try_reserve.new.self.items c.loop-command.invariant c.perform.ensures.goes.was c.in-Err.ensures.performed reserved
+    ran_some g.K.Keeper.rows g.K.Keeper.is_up g.K.Keeper.failed c.args.self.now c.loop-command.self c.perform.new.self c.args.commands.now c.loop-command.command-index c.args.answers.now.items c.loop-command.answers.items c.try_reserve.new.self.items (omega arith) c.loop-command.invariant c.perform.ensures.goes.was c.in-Err.ensures.performed reserved
 
 pub loop-command-preserved : goal.loop-command-preserved
 loop-command-preserved g c =

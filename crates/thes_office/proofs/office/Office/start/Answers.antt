@@ -5,7 +5,7 @@ use Rattle.thes_office.proofs.office.Office.start.Goals as goal
 
 pub invariant_of-result : goal.invariant_of-result
 invariant_of-result g c =
-    kept_loaded g.K.Keeper.rows g.K.Keeper.is_up c.args.keeper c.load.new.keeper c.in-Ok.core c.args.limits
+    kept_loaded g.K.Keeper.rows g.K.Keeper.is_up g.K.Keeper.failed c.args.keeper c.load.new.keeper c.in-Ok.core c.args.limits
     record { resources = omega arith; labels = omega arith; links = omega arith; postings = omega arith; moves = omega arith }
     c.in-Ok.ensures.unspent c.in-Ok.ensures.copies c.in-Ok.ensures.reads.same
 
