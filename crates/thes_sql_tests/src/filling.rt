@@ -5,12 +5,11 @@ use std::alloc::{AllocError, Global};
 use thes_base::data::{Label, LabelValue, Link, LinkKind, Resource, ResourceKind};
 use thes_base::fault::ReadStop;
 use thes_base::number::{MoveNo, PostNo, ResNo};
-use thes_base::text::{Base, Iri, Key, RecordName, Tag, Text};
+use thes_base::text::{Iri, Key, RecordName, Tag, Text};
 use thes_rows::change::Change;
 use thes_rows::delta::Delta;
 use thes_rows::rows::{HierRow, HierType, LabelRow, MoveRow, PostingRow};
 use thes_sql::commit::commit_all;
-use thes_sql::create::create_tables;
 
 /// The reason why the store isn't filled.
 #[derive(Debug, Drop)]
@@ -187,12 +186,8 @@ fn commit<S: Alter>(conn: &mut Connection<S>, delta: &Delta) -> Result<(), Failu
     }
 }
 
-/// Makes the tables, and in three commits changes of each kind.
+/// Makes in three commits changes of each kind.
 pub fn fill<S: Alter>(alloc: Global, conn: &mut Connection<S>) -> Result<(), Failure> {
-    let base = Base::read(alloc, "https://thesaurus.example/id/")?;
-    if !create_tables(conn, &base)? {
-        return Err(Failure::Busy);
-    }
     let mut made = Delta::new(alloc);
     make_resources(alloc, &mut made)?;
     make_links(&mut made)?;

@@ -10,8 +10,10 @@ use crate::filling::fill;
 use crate::lines::Lines;
 use crate::showing::{load, look_up};
 use sqlite::{Alter, Connection};
+use std::alloc::Global;
 use std::rt::HostRuntime;
 use std::{env, io};
+use thes_base::text::Base;
 use thes_sqlite::keeper::SqlKeeper;
 
 // Takes over a database, and tells what is read there; with the look-ups, if they are wanted.
@@ -31,11 +33,26 @@ fn read<S: Alter>(
     keeper.into_connection()
 }
 
+// Makes the tables of a new store.
+fn created<S: Alter>(alloc: Global, conn: Connection<S>, base: &Base) -> Connection<S> {
+    if !conn.is_autocommit() {
+        return conn;
+    }
+    match SqlKeeper::create(alloc, conn, base) {
+        Ok(keeper) => keeper.into_connection(),
+        Err((_, conn)) => conn,
+    }
+}
+
 // Makes a store, and prints what is read in it.
 fn make(rt: &HostRuntime, path: &str) -> io::Result<()> {
-    let Ok(mut conn) = Connection::open(rt, path) else {
+    let Ok(base) = Base::read(rt.alloc(), "https://thesaurus.example/id/") else {
+        return println!(rt; "no base");
+    };
+    let Ok(conn) = Connection::open(rt, path) else {
         return println!(rt; "not opened");
     };
+    let mut conn = created(rt.alloc(), conn, &base);
     let filled = fill(rt.alloc(), &mut conn);
     let mut lines = Lines::new(rt.alloc());
     let closed = read(rt, conn, true, &mut lines).close().is_ok();

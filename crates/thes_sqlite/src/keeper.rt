@@ -57,17 +57,18 @@ impl<S: Alter> Model for SqlKeeper<S> {
 }
 
 impl<S: Alter> SqlKeeper<S> {
-    /// Makes the tables of a new store, in a database without tables. After a fault the database is as it was.
+    /// Makes the tables of a new store in a database without tables, and serves them. After a fault the database is as it
+    /// was.
     pub fn create(
         alloc: Global,
         mut conn: Connection<S>,
         base: &Base,
     ) -> Result<SqlKeeper<S>, (Fault, Connection<S>)>
         requires idle { conn.in_transaction ≡ false }
-        requires none { IsEmpty schema_0 (state S.Store conn).now }
-        ensures made { IfOk result (λ k. IsUp (state S.Store k.conn)
+        ensures made { IsEmpty schema_0 (state S.Store conn).now → IfOk result (λ k. IsUp (state S.Store k.conn)
             → raw_of_keeper S.Store k ≡ listed (no_rows base.now)) }
-        ensures serves { IfOk result (λ k. (k.failures ≡ 0) × IsStore (state S.Store k.first)) }
+        ensures serves { IsEmpty schema_0 (state S.Store conn).now
+            → IfOk result (λ k. (k.failures ≡ 0) × IsStore (state S.Store k.first)) }
         ensures back { IfErr result (λ e. IsUp (state S.Store e.1)
             → (state S.Store e.1).now ≡ (state S.Store conn).now) }
         ensures cause { IfErr result (λ e. (e.0 ≡ Fault.OutOfMemory) ⊎ (e.0 ≡ Fault.Store)) }
