@@ -7,6 +7,7 @@
 //! cores of them, and prints how many; or `rows` and the same, and it makes the rows alone, and prints how many.
 #![tactic(auto)]
 
+ghost use Rattle.std.specs.Prelude.{◌≡◌, false};
 ghost use Rattle.thes_keeping.specs.Posted.{AwaitsPosting};
 
 mod database;
@@ -146,16 +147,39 @@ fn time_database(rt: &HostRuntime, posts: u32, path: &str) -> Result<(), Failure
     timed
 }
 
+// Times the look-ups and a load of a store, and hands its connection back.
+fn time_store<R: Clock + Print + Alloc<A = Global>, S: Alter>(
+    rt: &R,
+    conn: Connection<S>,
+    posts: u32,
+    looks: u32,
+) -> (Result<(), Failure>, Connection<S>)
+    requires { conn.in_transaction ≡ false }
+{
+    let mut keeper = SqlKeeper::adopt(rt.alloc(), conn);
+    let timed = time_reads(rt, &mut keeper, posts, looks);
+    (timed, keeper.into_connection())
+}
+
+// Times the look-ups and a load of a store, if no transaction is open.
+fn time_idle<R: Clock + Print + Alloc<A = Global>, S: Alter>(
+    rt: &R,
+    conn: Connection<S>,
+    posts: u32,
+    looks: u32,
+) -> (Result<(), Failure>, Connection<S>) {
+    if conn.is_autocommit() {
+        time_store(rt, conn, posts, looks)
+    } else {
+        (Err(Failure::Busy), conn)
+    }
+}
+
 // Times the look-ups and a load of a store in a file.
 fn time_file(rt: &HostRuntime, posts: u32, looks: u32, path: &str) -> Result<(), Failure> {
     let conn = Connection::open(rt, path)?;
-    if !conn.is_autocommit() {
-        drop(conn);
-        return Err(Failure::Busy);
-    }
-    let mut keeper = SqlKeeper::adopt(rt.alloc(), conn);
-    let timed = time_reads(rt, &mut keeper, posts, looks);
-    drop(keeper.into_connection());
+    let (timed, conn) = time_idle(rt, conn, posts, looks);
+    drop(conn);
     timed
 }
 
