@@ -1,0 +1,32 @@
+//! Runs examples over stores in databases: once in memory, where each request is to be answered as is stored, and then on disks that
+//! fail: the log or the database file is passed so many calls and then stands still, for each number of calls up to the one with which
+//! no call fails. The files are then opened again as after a kill and as after a power cut: the store must be as a first part of the
+//! requests leaves it that has each one that was answered. The arguments name the files of the examples; how one is written stands in
+//! docs/ARCHITECTURE.md, "Stored examples of stores that fail".
+#![tactic(auto)]
+
+mod disk;
+mod example;
+mod faltering;
+mod fate;
+mod faults;
+mod migration;
+mod requests;
+mod rows;
+mod stop;
+mod stores;
+mod told;
+mod trial;
+
+use crate::trial::try_file;
+use std::{env, fs, io};
+
+fn main(rt: HostRuntime) -> io::Result<()> {
+    for name in env::args(&rt)?.skip(1) {
+        let text = fs::read_to_string(&rt, name.as_str())?;
+        let mut page = String::new(rt.alloc());
+        try_file(rt.alloc(), name.as_str(), text.as_str(), &mut page)?;
+        print!(rt; "{}", page.as_str())?;
+    }
+    Ok(())
+}
