@@ -169,14 +169,8 @@ impl Tries {
         shown: &str,
     ) -> Result<(Fate, Next), Stop> {
         let (keeper, ran) = self.perform(alloc, keeper, stored);
-        let Faltering {
-            keeper,
-            before: _,
-            times: _,
-            failures,
-            first,
-        } = keeper;
-        let (keeper, showed) = show(alloc, keeper, &mut self.told.shown);
+        let (failures, first) = (keeper.failures, keeper.first);
+        let (keeper, showed) = show(alloc, keeper.keeper, &mut self.told.shown);
         drop(keeper);
         ran.and(showed)?;
         self.want(stored.outcomes)?;
