@@ -9,8 +9,8 @@ use std::alloc::{AllocError, Global};
 /// The two files of a store.
 pub type Disks = Files<Fuse<Memory>>;
 
-/// A store in such files.
-pub type Store = Connection<FileStore<Fuse<Memory>>>;
+/// A store in two files. What a proof knows of a file is long: so a function that has a store takes its files as any `D`.
+pub type Store<D> = Connection<FileStore<D>>;
 
 /// The file that stands still.
 #[derive(Clone, Copy)]
@@ -106,10 +106,7 @@ pub fn cut(mut files: Disks) -> Disks {
 }
 
 // Opens the store in files that may be used. Its log is copied into the database file when it has so many pages.
-fn open_usable<D: Disk + Drop>(
-    alloc: Global,
-    files: Files<D>,
-) -> Result<Connection<FileStore<D>>, Files<D>>
+fn open_usable<D: Disk + Drop>(alloc: Global, files: Files<D>) -> Result<Store<D>, Files<D>>
     requires log { IsTrue (D.Disk.is_usable files.log) }
     requires db { IsTrue (D.Disk.is_usable files.db) }
 {
@@ -123,10 +120,7 @@ fn open_usable<D: Disk + Drop>(
 }
 
 /// Opens the store in files, or gives the files back.
-pub fn open<D: Disk + Drop>(
-    alloc: Global,
-    files: Files<D>,
-) -> Result<Connection<FileStore<D>>, Files<D>> {
+pub fn open<D: Disk + Drop>(alloc: Global, files: Files<D>) -> Result<Store<D>, Files<D>> {
     if files.may_be_used() {
         open_usable(alloc, files)
     } else {
@@ -135,14 +129,23 @@ pub fn open<D: Disk + Drop>(
 }
 
 /// Ends the work on a store without a call to its files.
-pub fn abandon<D: Disk + Drop>(conn: Connection<FileStore<D>>) -> Files<D> {
+pub fn abandon<D: Disk + Drop>(conn: Store<D>) -> Files<D> {
     conn.into_store().close()
 }
 
 /// Ends the work on a store, and copies its log into the database file. Tells whether no call failed.
-pub fn close<D: Disk + Drop>(conn: Connection<FileStore<D>>) -> (Files<D>, bool) {
+pub fn close<D: Disk + Drop>(conn: Store<D>) -> (Files<D>, bool) {
     match conn.close_files() {
         Ok(files) => (files, true),
         Err((_, store)) => (store.close(), false),
+    }
+}
+
+/// Closes a store whose tables were made, and abandons another. Tells whether it is closed, and no call failed.
+pub fn end<D: Disk + Drop>(conn: Store<D>, is_made: bool) -> (Files<D>, bool) {
+    if is_made {
+        close(conn)
+    } else {
+        (abandon(conn), false)
     }
 }

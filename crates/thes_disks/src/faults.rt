@@ -142,9 +142,7 @@ impl Tries {
         for (place, line) in outcomes.lines().enumerate() {
             match line.split_once(",new,") {
                 Some((row, number)) if place < self.before => {
-                    self.wanted.push_str(row)?;
-                    self.wanted.push_str(",again,")?;
-                    push_line(&mut self.wanted, number)?;
+                    push_again(&mut self.wanted, row, number)?;
                 }
                 _ => push_line(&mut self.wanted, line)?,
             }
@@ -177,6 +175,13 @@ impl Tries {
         let is_kept = self.is_kept(stored, failures, shown);
         Ok((Fate::of(is_kept, failures == 0), first))
     }
+}
+
+// Adds the line of a posting that is there already.
+fn push_again(text: &mut String, row: &str, number: &str) -> Result<(), AllocError> {
+    text.push_str(row)?;
+    text.push_str(",again,")?;
+    push_line(text, number)
 }
 
 /// Tells what becomes of a store in memory of which so many calls fail behind the first ones, and which of them failed first. Each

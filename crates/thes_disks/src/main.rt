@@ -19,14 +19,20 @@ mod told;
 mod trial;
 
 use crate::trial::try_file;
+use std::alloc::Global;
 use std::{env, fs, io};
+
+// Tries the example of a file, and prints what is told of it.
+fn run_file<R: Print>(rt: &R, alloc: Global, name: &str, text: &str) -> io::Result<()> {
+    let mut page = String::new(alloc);
+    try_file(alloc, name, text, &mut page)?;
+    print!(rt; "{}", page.as_str())
+}
 
 fn main(rt: HostRuntime) -> io::Result<()> {
     for name in env::args(&rt)?.skip(1) {
         let text = fs::read_to_string(&rt, name.as_str())?;
-        let mut page = String::new(rt.alloc());
-        try_file(rt.alloc(), name.as_str(), text.as_str(), &mut page)?;
-        print!(rt; "{}", page.as_str())?;
+        run_file(&rt, rt.alloc(), name.as_str(), text.as_str())?;
     }
     Ok(())
 }

@@ -4,8 +4,10 @@ use crate::example::{Example, push_line};
 use crate::fate::Fate;
 use crate::rows::Rows;
 use crate::stop::Stop;
-use crate::stores::{After, make_tables, migrate_in, perform_in, show_files};
+use crate::stores::{After, execute, migrate_in, perform_new, show_files};
 use crate::told::{Told, base, tell_wanted};
+use sqlite::{Alter, Connection, Files};
+use sqlite_disk::Disk;
 use std::alloc::{AllocError, Global};
 use thes_base::fault::Fault;
 use thes_base::text::Base;
@@ -34,9 +36,14 @@ impl Migration {
             older: String::new(alloc),
             newer: Told::new(alloc),
         };
-        tell_wanted(alloc, example, &mut migration.newer)?;
-        migration.add_older()?;
+        migration.tell(alloc, example)?;
         Ok(migration)
+    }
+
+    fn tell(&mut self, alloc: Global, example: Example) -> Result<(), Stop> {
+        tell_wanted(alloc, example, &mut self.newer)?;
+        self.add_older()?;
+        Ok(())
     }
 
     // Adds what a store of version 1 shows that tells the same as one of this version.
@@ -55,16 +62,29 @@ impl Migration {
     /// Tells whether the store shows what one of version 1 shows.
     pub fn is_older(&self, alloc: Global) -> Result<bool, Stop> {
         let mut shown = Rows::new(alloc);
-        show_files(alloc, self.image.sound_files(alloc)?, &mut shown)?;
+        self.show(alloc, &mut shown)?;
         Ok(shown.text == self.older)
     }
 
+    fn show(&self, alloc: Global, shown: &mut Rows) -> Result<(), Stop> {
+        show_files(alloc, self.image.sound_files(alloc)?, shown)
+    }
+
     /// Tells what becomes of the store that is migrated while a file stands still after so many calls.
-    pub fn fate(&self, alloc: Global, failing: Failing, calls: u64) -> Result<Fate, Stop> {
+    pub fn fate_of(&self, alloc: Global, failing: Failing, calls: u64) -> Result<Fate, Stop> {
         let mut run = Run::new(alloc);
-        let files = self.image.files(alloc, failing, calls)?;
-        run.migrate(alloc, files)?;
-        Ok(Fate::of(self.is_kept(&run), run.is_whole))
+        self.fate_in(alloc, failing, calls, &mut run)
+    }
+
+    fn fate_in(
+        &self,
+        alloc: Global,
+        failing: Failing,
+        calls: u64,
+        run: &mut Run,
+    ) -> Result<Fate, Stop> {
+        run.migrate(alloc, self.image.files(alloc, failing, calls)?)?;
+        Ok(Fate::of(self.is_kept(run), run.is_whole))
     }
 
     // Tells whether the store shows what it should.
@@ -84,60 +104,69 @@ fn is_behind_links(line: &str) -> bool {
 // Adds the line that a store of version 1 shows in place of one that a store of this version shows.
 fn push_older(older: &mut String, line: &str) -> Result<(), AllocError> {
     if let Some(rest) = line.strip_prefix("meta 1 2 ") {
-        older.push_str("meta 1 1 ")?;
-        push_line(older, rest)
+        push_pair(older, "meta 1 1 ", rest)
     } else if let Some(rest) = line.strip_prefix("hier ") {
-        older.push_str("link 1 ")?;
-        push_line(older, rest.strip_suffix(" 0").unwrap_or(rest))
-    } else if line == "loads" {
-        push_line(older, "OlderStore")
+        push_pair(older, "link 1 ", rest.strip_suffix(" 0").unwrap_or(rest))
     } else {
-        push_line(older, line)
+        push_line(older, if line == "loads" { "OlderStore" } else { line })
     }
+}
+
+fn push_pair(text: &mut String, first: &str, rest: &str) -> Result<(), AllocError> {
+    text.push_str(first)?;
+    push_line(text, rest)
 }
 
 // The files of a store of version 1 that requests make.
 fn older_image(alloc: Global, example: Example) -> Result<Image, Stop> {
-    let base = base(alloc)?;
-    match open(alloc, Image::empty(alloc).sound_files(alloc)?) {
-        Ok(conn) => older_image_of(alloc, conn, &base, example),
-        Err(files) => {
-            drop(files);
-            Err(Stop)
-        }
-    }
-}
-
-fn older_image_of(
-    alloc: Global,
-    conn: Store,
-    base: &Base,
-    example: Example,
-) -> Result<Image, Stop> {
     let mut told = Told::new(alloc);
-    let (files, is_made) = make_older(alloc, conn, base, example, &mut told);
-    let image = Image::of(alloc, &files);
-    drop(files);
-    match image {
-        Ok(image) if is_made && !told.failed => Ok(image),
-        _ => Err(Stop),
+    let base = base(alloc)?;
+    let files = Image::empty(alloc).sound_files(alloc)?;
+    let (files, is_made) = make_older_over(alloc, files, &base, example, &mut told);
+    if is_made {
+        Ok(Image::of(alloc, &files)?)
+    } else {
+        Err(Stop)
     }
 }
 
-// Makes a store of version 1 in an empty database. Returns its files, and whether all was done.
-fn make_older(
+// Makes a store of version 1 in empty files. Returns them, and whether all was done.
+fn make_older_over<D: Disk + Drop>(
     alloc: Global,
-    conn: Store,
+    files: Files<D>,
     base: &Base,
     example: Example,
     told: &mut Told,
-) -> (Disks, bool) {
-    let mut conn = conn;
-    let is_made = make_tables(&mut conn, base);
-    let (mut conn, ran) = perform_in(alloc, conn, example, told);
-    let is_older = conn.execute_batch(OLDER).is_ok();
+) -> (Files<D>, bool) {
+    match open(alloc, files) {
+        Ok(conn) => make_older(alloc, conn, base, example, told),
+        Err(files) => (files, false),
+    }
+}
+
+fn make_older<D: Disk + Drop>(
+    alloc: Global,
+    conn: Store<D>,
+    base: &Base,
+    example: Example,
+    told: &mut Told,
+) -> (Files<D>, bool) {
+    let (conn, is_older) = make_older_in(alloc, conn, base, example, told);
     let (files, is_closed) = close(conn);
-    (files, is_made && ran.is_ok() && is_older && is_closed)
+    (files, is_older && is_closed)
+}
+
+// Makes a store, performs an example in it, and makes it one of version 1. Returns it, and whether all was done.
+fn make_older_in<S: Alter>(
+    alloc: Global,
+    conn: Connection<S>,
+    base: &Base,
+    example: Example,
+    told: &mut Told,
+) -> (Connection<S>, bool) {
+    let (mut conn, is_made, ran) = perform_new(alloc, conn, base, example, told);
+    let is_older = execute(&mut conn, OLDER);
+    (conn, is_made && ran.is_ok() && !told.failed && is_older)
 }
 
 // What a migration came to: whether it was answered, whether no call failed, the closing of the files among them, and what the store
@@ -166,15 +195,22 @@ impl Run {
     }
 
     // Migrates the store in the files. Returns the files as they are then.
-    fn migrate_over(&mut self, alloc: Global, files: Disks) -> (Disks, Result<(), Stop>) {
+    fn migrate_over<D: Disk + Drop>(
+        &mut self,
+        alloc: Global,
+        files: Files<D>,
+    ) -> (Files<D>, Result<(), Stop>) {
         match open(alloc, files) {
             Ok(conn) => self.migrate_store(alloc, conn),
             Err(files) => (files, Ok(())),
         }
     }
 
-    fn migrate_store(&mut self, alloc: Global, conn: Store) -> (Disks, Result<(), Stop>) {
-        let mut conn = conn;
+    fn migrate_store<D: Disk + Drop>(
+        &mut self,
+        alloc: Global,
+        mut conn: Store<D>,
+    ) -> (Files<D>, Result<(), Stop>) {
         let answer = migrate_in(alloc, &mut conn);
         let (files, is_closed) = close(conn);
         (files, self.note(answer, is_closed))

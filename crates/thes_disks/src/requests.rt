@@ -1,10 +1,12 @@
 //! Requests over a store of which a file stands still.
-use crate::disk::{Disks, Failing, Image, Store, abandon, close, open};
+use crate::disk::{Failing, Image, Store, end, open};
 use crate::example::{Example, Front, are_answers};
 use crate::fate::Fate;
 use crate::stop::Stop;
-use crate::stores::{After, make_tables, perform_in};
+use crate::stores::{After, perform_new};
 use crate::told::{Told, base, tell_wanted};
+use sqlite::Files;
+use sqlite_disk::Disk;
 use std::alloc::Global;
 use thes_base::text::Base;
 
@@ -39,19 +41,33 @@ impl<'a> Requests<'a> {
             base: base(alloc)?,
             empty: Told::new(alloc),
         };
+        requests.tell_empty(alloc)?;
+        Ok(requests)
+    }
+
+    fn tell_empty(&mut self, alloc: Global) -> Result<(), Stop> {
         let nothing = Example {
             requests: "",
             postings: "",
         };
-        tell_wanted(alloc, nothing, &mut requests.empty)?;
-        Ok(requests)
+        tell_wanted(alloc, nothing, &mut self.empty)
     }
 
     /// Tells what becomes of a store in which they are made while a file stands still after so many calls.
-    pub fn fate(&self, alloc: Global, failing: Failing, calls: u64) -> Result<Fate, Stop> {
+    pub fn fate_of(&self, alloc: Global, failing: Failing, calls: u64) -> Result<Fate, Stop> {
         let mut run = Run::new(alloc);
-        self.run(alloc, failing, calls, &mut run)?;
-        let is_right = self.is_right(alloc, &run)?;
+        self.fate_in(alloc, failing, calls, &mut run)
+    }
+
+    fn fate_in(
+        &self,
+        alloc: Global,
+        failing: Failing,
+        calls: u64,
+        run: &mut Run,
+    ) -> Result<Fate, Stop> {
+        self.run(alloc, failing, calls, run)?;
+        let is_right = self.is_right(alloc, run)?;
         Ok(Fate::of(is_right, run.is_whole && !run.told.failed))
     }
 
@@ -64,12 +80,12 @@ impl<'a> Requests<'a> {
     }
 
     // Makes a store in the files, and performs the example in it. Returns the files as they are then.
-    fn perform_over(
+    fn perform_over<D: Disk + Drop>(
         &self,
         alloc: Global,
-        files: Disks,
+        files: Files<D>,
         run: &mut Run,
-    ) -> (Disks, Result<(), Stop>) {
+    ) -> (Files<D>, Result<(), Stop>) {
         match open(alloc, files) {
             Ok(conn) => self.perform(alloc, conn, run),
             Err(files) => (files, Ok(())),
@@ -77,14 +93,16 @@ impl<'a> Requests<'a> {
     }
 
     // Makes a store in a database, and performs the example in it. Returns the files as they are then.
-    fn perform(&self, alloc: Global, conn: Store, run: &mut Run) -> (Disks, Result<(), Stop>) {
-        let mut conn = conn;
-        run.is_made = make_tables(&mut conn, &self.base);
-        if !run.is_made {
-            return (abandon(conn), Ok(()));
-        }
-        let (conn, ran) = perform_in(alloc, conn, self.example, &mut run.told);
-        let (files, is_closed) = close(conn);
+    fn perform<D: Disk + Drop>(
+        &self,
+        alloc: Global,
+        conn: Store<D>,
+        run: &mut Run,
+    ) -> (Files<D>, Result<(), Stop>) {
+        let told = &mut run.told;
+        let (conn, is_made, ran) = perform_new(alloc, conn, &self.base, self.example, told);
+        run.is_made = is_made;
+        let (files, is_closed) = end(conn, is_made);
         run.is_whole = is_closed;
         (files, ran)
     }
@@ -99,20 +117,16 @@ impl<'a> Requests<'a> {
         }
     }
 
-    // Tells whether a store whose tables were made told and shows what it should. Where a request or row wasn't answered, it may be done
-    // all the same.
+    // Tells whether a store whose tables were made told and shows what it should.
     fn is_kept(&self, alloc: Global, run: &Run) -> Result<bool, Stop> {
-        let told = &run.told;
-        let mut answered = Told::new(alloc);
-        let mut more = Told::new(alloc);
-        self.tell_front(alloc, told, 0, &mut answered)?;
-        self.tell_front(alloc, told, usize::from(told.failed), &mut more)?;
-        Ok(
-            is_told(told, &answered)
-                && run
-                    .after
-                    .is_either(answered.shown.text.as_str(), more.shown.text.as_str()),
-        )
+        let mut wanted = Wanted::new(alloc);
+        self.tell_fronts(alloc, &run.told, &mut wanted)?;
+        Ok(wanted.is_kept(run))
+    }
+
+    fn tell_fronts(&self, alloc: Global, told: &Told, wanted: &mut Wanted) -> Result<(), Stop> {
+        self.tell_front(alloc, told, 0, &mut wanted.answered)?;
+        self.tell_front(alloc, told, usize::from(told.failed), &mut wanted.more)
     }
 
     // Tells what is wanted of a store that told this, with so many more of the requests or rows than were answered.
@@ -156,7 +170,32 @@ impl Run {
     }
 }
 
-// Tells whether a store told what was wanted, as far as it answered.
-fn is_told(told: &Told, wanted: &Told) -> bool {
-    are_answers(told.answers.as_str(), wanted.answers.as_str()) && told.rows == wanted.rows
+// What is wanted of a store: after what was answered, and after one request or row more, where one wasn't answered: that one may be
+// done all the same.
+#[derive(Drop)]
+struct Wanted {
+    answered: Told,
+    more: Told,
+}
+
+impl Wanted {
+    fn new(alloc: Global) -> Wanted {
+        Wanted {
+            answered: Told::new(alloc),
+            more: Told::new(alloc),
+        }
+    }
+
+    // Tells whether a store told what is wanted, as far as it answered.
+    fn is_told(&self, told: &Told) -> bool {
+        are_answers(told.answers.as_str(), self.answered.answers.as_str())
+            && told.rows == self.answered.rows
+    }
+
+    // Tells whether a store told and shows what is wanted.
+    fn is_kept(&self, run: &Run) -> bool {
+        let answered = self.answered.shown.text.as_str();
+        let more = self.more.shown.text.as_str();
+        self.is_told(&run.told) && run.after.is_either(answered, more)
+    }
 }

@@ -4,7 +4,8 @@ use crate::example::Example;
 use crate::rows::Rows;
 use crate::stop::Stop;
 use crate::told::{Told, base, perform, show};
-use sqlite::{Alter, Connection};
+use sqlite::{Alter, Connection, Files};
+use sqlite_disk::Disk;
 use std::alloc::Global;
 use thes_base::fault::Fault;
 use thes_base::text::Base;
@@ -12,8 +13,8 @@ use thes_sql::create::create_tables;
 use thes_sqlite::keeper::SqlKeeper;
 use thes_sqlite::migrating::migrate;
 
-/// Makes the tables of a new store. Tells whether they are made.
-pub fn make_tables<S: Alter>(conn: &mut Connection<S>, base: &Base) -> bool {
+// Makes the tables of a new store. Tells whether they are made.
+fn make_tables<S: Alter>(conn: &mut Connection<S>, base: &Base) -> bool {
     create_tables(conn, base).unwrap_or(false)
 }
 
@@ -26,8 +27,8 @@ fn adopt<S: Alter>(alloc: Global, conn: Connection<S>) -> Result<SqlKeeper<S>, C
     }
 }
 
-/// Performs an example in a store whose tables are made. Returns the store.
-pub fn perform_in<S: Alter>(
+// Performs an example in a store whose tables are made. Returns the store.
+fn perform_in<S: Alter>(
     alloc: Global,
     conn: Connection<S>,
     example: Example,
@@ -43,6 +44,11 @@ pub fn perform_in<S: Alter>(
             (conn, Ok(()))
         }
     }
+}
+
+/// Runs statements in a store. Tells whether that is done.
+pub fn execute<S: Alter>(conn: &mut Connection<S>, sql: &str) -> bool {
+    conn.execute_batch(sql).is_ok()
 }
 
 /// Migrates a store. None if a transaction is open in it.
@@ -69,30 +75,60 @@ fn show_in<S: Alter>(
     }
 }
 
+/// Makes the tables of a new store, and performs an example in it. Returns the store, and whether its tables were made.
+pub fn perform_new<S: Alter>(
+    alloc: Global,
+    mut conn: Connection<S>,
+    base: &Base,
+    example: Example,
+    told: &mut Told,
+) -> (Connection<S>, bool, Result<(), Stop>) {
+    if make_tables(&mut conn, base) {
+        let (conn, ran) = perform_in(alloc, conn, example, told);
+        (conn, true, ran)
+    } else {
+        (conn, false, Ok(()))
+    }
+}
+
 /// Performs an example in a database in memory, which never fails.
 pub fn tell_in_memory(alloc: Global, example: Example, told: &mut Told) -> Result<(), Stop> {
     let base = base(alloc)?;
-    let mut conn = Connection::open_in_memory(alloc)?;
-    let is_made = make_tables(&mut conn, &base);
-    let (conn, ran) = perform_in(alloc, conn, example, told);
+    tell_new(alloc, &base, example, told)
+}
+
+fn tell_new(alloc: Global, base: &Base, example: Example, told: &mut Told) -> Result<(), Stop> {
+    let conn = Connection::open_in_memory(alloc)?;
+    let (conn, is_made, ran) = perform_new(alloc, conn, base, example, told);
     drop(conn);
     if is_made { ran } else { Err(Stop) }
 }
 
-/// Adds what the store in the files shows.
-pub fn show_files(alloc: Global, files: Disks, shown: &mut Rows) -> Result<(), Stop> {
+fn show_store<D: Disk + Drop>(
+    alloc: Global,
+    conn: Store<D>,
+    shown: &mut Rows,
+) -> (Files<D>, Result<(), Stop>) {
+    let (conn, showed) = show_in(alloc, conn, shown);
+    (abandon(conn), showed)
+}
+
+// Adds what the store in the files shows. Returns the files.
+fn show_over<D: Disk + Drop>(
+    alloc: Global,
+    files: Files<D>,
+    shown: &mut Rows,
+) -> (Files<D>, Result<(), Stop>) {
     match open(alloc, files) {
         Ok(conn) => show_store(alloc, conn, shown),
-        Err(files) => {
-            drop(files);
-            Err(Stop)
-        }
+        Err(files) => (files, Err(Stop)),
     }
 }
 
-fn show_store(alloc: Global, conn: Store, shown: &mut Rows) -> Result<(), Stop> {
-    let (conn, showed) = show_in(alloc, conn, shown);
-    drop(abandon(conn));
+/// Adds what the store in the files shows.
+pub fn show_files(alloc: Global, files: Disks, shown: &mut Rows) -> Result<(), Stop> {
+    let (files, showed) = show_over(alloc, files, shown);
+    drop(files);
     showed
 }
 

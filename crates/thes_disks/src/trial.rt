@@ -12,41 +12,47 @@ use std::alloc::{AllocError, Global};
 use std::fmt::Write;
 use thes_store::fail_once::Next;
 
-// What is done over the stores.
-#[derive(Drop)]
-enum Trial<'a> {
-    Requests(Requests<'a>),
-    Migration(Migration),
+// What is done over a store.
+trait Trial {
+    // What becomes of a store of which a file stands still after so many calls.
+    fn fate(&self, alloc: Global, failing: Failing, calls: u64) -> Result<Fate, Stop>;
 }
 
-impl<'a> Trial<'a> {
-    // What becomes of a store of which a file stands still after so many calls.
+impl<'a> Trial for Requests<'a> {
     fn fate(&self, alloc: Global, failing: Failing, calls: u64) -> Result<Fate, Stop> {
-        match self {
-            Trial::Requests(requests) => requests.fate(alloc, failing, calls),
-            Trial::Migration(migration) => migration.fate(alloc, failing, calls),
-        }
+        self.fate_of(alloc, failing, calls)
     }
+}
 
-    // How many calls the file passes on in the first run that isn't kept by a failure, and what became of its store.
-    fn last_fate(&self, alloc: Global, failing: Failing) -> Result<(u64, Fate), Stop> {
-        for calls in 0..u64::MAX {
-            match self.fate(alloc, failing, calls)? {
-                Fate::Kept => {}
-                fate => return Ok((calls, fate)),
-            }
-        }
-        Ok((u64::MAX, Fate::Wrong))
+impl Trial for Migration {
+    fn fate(&self, alloc: Global, failing: Failing, calls: u64) -> Result<Fate, Stop> {
+        self.fate_of(alloc, failing, calls)
     }
+}
 
-    // Tries each number of calls to each file.
-    fn try_files(&self, alloc: Global, name: &str, page: &mut String) -> Result<(), Stop> {
-        for failing in [Failing::Log, Failing::Database] {
-            let last = self.last_fate(alloc, failing)?;
-            tell_last(page, name, failing.name(), last)?;
+// How many calls the file passes on in the first run that isn't kept by a failure, and what became of its store.
+fn last_fate<T: Trial>(alloc: Global, trial: &T, failing: Failing) -> Result<(u64, Fate), Stop> {
+    for calls in 0..u64::MAX {
+        match trial.fate(alloc, failing, calls)? {
+            Fate::Kept => {}
+            fate => return Ok((calls, fate)),
         }
-        Ok(())
     }
+    Ok((u64::MAX, Fate::Wrong))
+}
+
+// Tries each number of calls to each file.
+fn try_files<T: Trial>(
+    alloc: Global,
+    name: &str,
+    trial: &T,
+    page: &mut String,
+) -> Result<(), Stop> {
+    for failing in [Failing::Log, Failing::Database] {
+        let last = last_fate(alloc, trial, failing)?;
+        tell_last(page, name, failing.name(), last)?;
+    }
+    Ok(())
 }
 
 fn tell_last(
@@ -108,10 +114,19 @@ fn try_calls(
     shown: &str,
     page: &mut String,
 ) -> Result<(), Stop> {
-    let often = if times == 1 { "once" } else { "twice" };
     let mut words = String::new(alloc);
     let fate = add_calls(alloc, stored, times, shown, &mut words)?;
-    let calls = words.as_str();
+    tell_calls(page, name, times, fate, words.as_str())
+}
+
+fn tell_calls(
+    page: &mut String,
+    name: &str,
+    times: u32,
+    fate: Fate,
+    calls: &str,
+) -> Result<(), Stop> {
+    let often = if times == 1 { "once" } else { "twice" };
     match fate {
         Fate::Whole => writeln!(page, "{name}, failed {often}, and then went on:{calls}")?,
         _ => writeln!(
@@ -123,16 +138,32 @@ fn try_calls(
 }
 
 // Tries an example over a keeper of which calls fail.
-fn try_stored(alloc: Global, name: &str, stored: &Stored, page: &mut String) -> Result<(), Stop> {
-    let mut wanted = Told::new(alloc);
-    tell_wanted(alloc, stored.example(), &mut wanted)?;
+fn try_keepers(
+    alloc: Global,
+    name: &str,
+    stored: &Stored,
+    shown: &str,
+    page: &mut String,
+) -> Result<(), Stop> {
     for times in [1, 2] {
-        try_calls(alloc, name, stored, times, wanted.shown.text.as_str(), page)?;
+        try_calls(alloc, name, stored, times, shown, page)?;
     }
     Ok(())
 }
 
-// Tells whether an example is answered as is stored, where nothing fails.
+// Tells whether an example was answered as is stored.
+fn is_as_stored(told: &Told, stored: &Stored) -> bool {
+    told.answers == stored.answers && told.rows.as_str() == stored.outcomes && !told.failed
+}
+
+fn tell_answered(page: &mut String, name: &str, is_as_stored: bool) -> Result<(), Stop> {
+    Ok(writeln!(
+        page,
+        "{name}, in memory, is answered as stored: {is_as_stored}"
+    )?)
+}
+
+// Tries an example in a database in memory.
 fn try_in_memory(
     alloc: Global,
     name: &str,
@@ -141,14 +172,15 @@ fn try_in_memory(
 ) -> Result<(), Stop> {
     let mut told = Told::new(alloc);
     tell_in_memory(alloc, stored.example(), &mut told)?;
-    let is_as_stored = told.answers == stored.answers
-        && told.rows.as_str() == stored.outcomes
-        && !told.failed;
-    writeln!(
-        page,
-        "{name}, in memory, is answered as stored: {is_as_stored}"
-    )?;
-    Ok(())
+    tell_answered(page, name, is_as_stored(&told, stored))
+}
+
+// Tries an example over stores that don't stand in files.
+fn try_memory(alloc: Global, name: &str, stored: &Stored, page: &mut String) -> Result<(), Stop> {
+    try_in_memory(alloc, name, stored, page)?;
+    let mut wanted = Told::new(alloc);
+    tell_wanted(alloc, stored.example(), &mut wanted)?;
+    try_keepers(alloc, name, stored, wanted.shown.text.as_str(), page)
 }
 
 // Tries requests over files.
@@ -158,8 +190,22 @@ fn try_requests(
     example: Example,
     page: &mut String,
 ) -> Result<(), Stop> {
-    let trial = Trial::Requests(Requests::new(alloc, example)?);
-    trial.try_files(alloc, name, page)
+    let requests = Requests::new(alloc, example)?;
+    try_files(alloc, name, &requests, page)
+}
+
+fn try_older(
+    alloc: Global,
+    name: &str,
+    migration: &Migration,
+    page: &mut String,
+) -> Result<(), Stop> {
+    let is_older = migration.is_older(alloc)?;
+    writeln!(
+        page,
+        "{name}, a store of version 1 is shown as one: {is_older}"
+    )?;
+    try_files(alloc, name, migration, page)
 }
 
 // Tries the migration of a store of version 1 that an example makes.
@@ -170,12 +216,22 @@ fn try_migration(
     page: &mut String,
 ) -> Result<(), Stop> {
     let migration = Migration::new(alloc, example)?;
-    let is_older = migration.is_older(alloc)?;
-    writeln!(
-        page,
-        "{name}, a store of version 1 is shown as one: {is_older}"
-    )?;
-    Trial::Migration(migration).try_files(alloc, name, page)
+    try_older(alloc, name, &migration, page)
+}
+
+fn try_stored(
+    alloc: Global,
+    name: &str,
+    stored: &Stored,
+    migrates: bool,
+    page: &mut String,
+) -> Result<(), Stop> {
+    try_memory(alloc, name, stored, page)?;
+    if migrates {
+        try_migration(alloc, name, stored.example(), page)
+    } else {
+        try_requests(alloc, name, stored.example(), page)
+    }
 }
 
 /// Tries the example of a file, and adds what is told of it.
@@ -185,11 +241,5 @@ pub fn try_file(alloc: Global, name: &str, text: &str, page: &mut String) -> Res
         None => (text, false),
     };
     let stored = Stored::read(alloc, text)?;
-    try_in_memory(alloc, name, &stored, page)?;
-    try_stored(alloc, name, &stored, page)?;
-    if migrates {
-        try_migration(alloc, name, stored.example(), page)
-    } else {
-        try_requests(alloc, name, stored.example(), page)
-    }
+    try_stored(alloc, name, &stored, migrates, page)
 }
