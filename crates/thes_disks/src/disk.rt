@@ -9,7 +9,8 @@ use std::alloc::{AllocError, Global};
 /// The two files of a store.
 pub type Disks = Files<Fuse<Memory>>;
 
-/// A store in two files. What a proof knows of a file is long: so a function that has a store takes its files as any `D`.
+/// A store in two files. What a proof knows of a file is long: so a function that has a store takes its files as any
+/// `D`.
 pub type Store<D> = Connection<FileStore<D>>;
 
 /// The file that stands still.

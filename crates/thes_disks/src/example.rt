@@ -1,8 +1,8 @@
 //! What is done over a store, and what it is answered with.
 use std::alloc::{AllocError, Global};
 
-/// Requests, one a line, with an answer for each, and a posting file, of which each line is a record, with the lines that its import
-/// tells.
+/// Requests, one a line, with an answer for each, and a posting file, of which each line is a record, with the lines
+/// that its import tells.
 #[derive(Drop)]
 pub struct Stored<'a> {
     requests: String,
@@ -19,8 +19,8 @@ pub struct Example<'a> {
 }
 
 impl<'a> Stored<'a> {
-    /// Reads an example: lines `> REQUEST`, each with a line that is its answer; a line `% import` and the posting file; a line
-    /// `% outcomes` and the lines that are told.
+    /// Reads an example: lines `> REQUEST`, each with a line that is its answer; a line `% import` and the posting
+    /// file; a line `% outcomes` and the lines that are told.
     pub fn read(alloc: Global, text: &'a str) -> Result<Stored<'a>, AllocError> {
         let (script, rest) = text.split_once("% import\n").unwrap_or((text, ""));
         let (postings, outcomes) = rest.split_once("% outcomes\n").unwrap_or((rest, ""));
@@ -130,8 +130,8 @@ impl Front {
         Ok(())
     }
 
-    /// Adds the lines of a posting file of which these lines were told, and so many more. There are none where no line was told: the
-    /// first one, the heading, needs no call.
+    /// Adds the lines of a posting file of which these lines were told, and so many more. There are none where no line
+    /// was told: the first one, the heading, needs no call.
     pub fn add_postings(
         &mut self,
         postings: &str,

@@ -184,8 +184,9 @@ fn push_again(text: &mut String, row: &str, number: &str) -> Result<(), AllocErr
     push_line(text, number)
 }
 
-/// Tells what becomes of a store in memory of which so many calls fail behind the first ones, and which of them failed first. Each
-/// request that is answered with a fault is made again, and the store is to show the same as where no call fails.
+/// Tells what becomes of a store in memory of which so many calls fail behind the first ones, and which of them failed
+/// first. Each request that is answered with a fault is made again, and the store is to show the same as where no call
+/// fails.
 pub fn fate_of_calls(
     alloc: Global,
     stored: &Stored,

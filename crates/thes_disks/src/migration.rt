@@ -169,8 +169,8 @@ fn make_older_in<S: Alter>(
     (conn, is_made && ran.is_ok() && !told.failed && is_older)
 }
 
-// What a migration came to: whether it was answered, whether no call failed, the closing of the files among them, and what the store
-// shows when it is opened again.
+// What a migration came to: whether it was answered, whether no call failed, the closing of the files among them, and
+// what the store shows when it is opened again.
 #[derive(Drop)]
 struct Run {
     is_answered: bool,

@@ -149,8 +149,8 @@ impl<'a> Requests<'a> {
     }
 }
 
-// What was done in a store: what it told, if its tables were made, whether no call failed at its end, and what it shows when it is opened
-// again.
+// What was done in a store: what it told, if its tables were made, whether no call failed at its end, and what it shows
+// when it is opened again.
 #[derive(Drop)]
 struct Run {
     told: Told,
@@ -170,8 +170,8 @@ impl Run {
     }
 }
 
-// What is wanted of a store: after what was answered, and after one request or row more, where one wasn't answered: that one may be
-// done all the same.
+// What is wanted of a store: after what was answered, and after one request or row more, where one wasn't answered:
+// that one may be done all the same.
 #[derive(Drop)]
 struct Wanted {
     answered: Told,

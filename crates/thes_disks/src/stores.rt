@@ -132,8 +132,8 @@ pub fn show_files(alloc: Global, files: Disks, shown: &mut Rows) -> Result<(), S
     showed
 }
 
-/// What a store shows when it is opened again: after a kill, where what was written stands, and after a power cut, where what was
-/// synced does.
+/// What a store shows when it is opened again: after a kill, where what was written stands, and after a power cut,
+/// where what was synced does.
 #[derive(Drop)]
 pub struct After {
     kill: Rows,

@@ -1,5 +1,5 @@
-//! Examples over a keeper, and what is told of them. What an office promises is long, and a proof that meets it takes long: so each call
-//! of it stands in a function of its own, which promises nothing of that.
+//! Examples over a keeper, and what is told of them. What an office promises is long, and a proof that meets it takes
+//! long: so each call of it stands in a function of its own, which promises nothing of that.
 use crate::example::{Example, has_fault};
 use crate::rows::Rows;
 use crate::stop::Stop;

@@ -88,7 +88,8 @@ fn push_new(words: &mut String, word: &str) -> Result<(), AllocError> {
     Ok(())
 }
 
-// Adds the calls of a keeper that failed in turn, so often each. Returns what became of the store of the first run that isn't kept.
+// Adds the calls of a keeper that failed in turn, so often each. Returns what became of the store of the first run that
+// isn't kept.
 fn add_calls(
     alloc: Global,
     stored: &Stored,
