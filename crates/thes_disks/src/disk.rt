@@ -129,22 +129,22 @@ pub fn open<D: Disk + Drop>(alloc: Global, files: Files<D>) -> Result<Store<D>, 
     }
 }
 
-/// Ends the work on a store without a call to its files.
-pub fn abandon<D: Disk + Drop>(conn: Store<D>) -> Files<D> {
+// Ends the work on a store without a call to its files.
+fn abandon<D: Disk + Drop>(conn: Store<D>) -> Files<D> {
     conn.into_store().close()
 }
 
-/// Ends the work on a store, and copies its log into the database file. Tells whether no call failed.
-pub fn close<D: Disk + Drop>(conn: Store<D>) -> (Files<D>, bool) {
+// Ends the work on a store, and copies its log into the database file. Tells whether no call failed.
+fn close<D: Disk + Drop>(conn: Store<D>) -> (Files<D>, bool) {
     match conn.close_files() {
         Ok(files) => (files, true),
         Err((_, store)) => (store.close(), false),
     }
 }
 
-/// Closes a store whose tables were made, and abandons another. Tells whether it is closed, and no call failed.
-pub fn end<D: Disk + Drop>(conn: Store<D>, is_made: bool) -> (Files<D>, bool) {
-    if is_made {
+/// Closes a store in which all is done, and abandons another. Tells whether it is closed, and no call failed.
+pub fn end<D: Disk + Drop>(conn: Store<D>, is_done: bool) -> (Files<D>, bool) {
+    if is_done {
         close(conn)
     } else {
         (abandon(conn), false)

@@ -1,10 +1,10 @@
-//! Runs examples over stores of which calls fail: once over a database in memory, where nothing does, and each request is
-//! to be answered as is stored; over tables in memory, of which one call fails in turn, or two, and each request is made
-//! again that is answered with a fault; and in files. There the log or the database file is passed so many calls and then
-//! stands still, for each number of calls up to the one with which no call fails. The files are then opened again as after
-//! a kill and as after a power cut: the store must be as a first part of the requests leaves it that has each one that was
-//! answered. The arguments name the files of the examples; how one is written stands in docs/ARCHITECTURE.md, "Stored
-//! examples of stores that fail".
+//! Runs examples over stores of which calls fail: once over a database in memory, where nothing does, and each request
+//! is to be answered as is stored; over tables in memory, of which one call fails in turn, or two, and each request is
+//! made again that is answered with a fault; and in files. There the log or the database file is passed so many calls
+//! and then stands still, for each number of calls up to the one with which no call fails. The files are then opened
+//! again as after a kill and as after a power cut: the store must be as a first part of the requests leaves it that has
+//! each one that was answered. The arguments name the files of the examples; how one is written stands in
+//! docs/ARCHITECTURE.md, "Stored examples of stores that fail".
 #![tactic(auto)]
 
 mod disk;

@@ -1,13 +1,11 @@
 //! A migration of a store of which a file stands still.
-use crate::disk::{Disks, Failing, Image, Store, close, open};
+use crate::disk::{Disks, Failing, Image};
 use crate::example::{Example, push_line};
 use crate::fate::Fate;
-use crate::rows::Rows;
 use crate::stop::Stop;
-use crate::stores::{After, execute, migrate_in, perform_new, show_files};
+use crate::stores::{After, Job, Showing, execute, migrate_in, perform_new, work};
 use crate::told::{Told, base, tell_wanted};
-use sqlite::{Alter, Connection, Files};
-use sqlite_disk::Disk;
+use sqlite::{Alter, Connection};
 use std::alloc::{AllocError, Global};
 use thes_base::fault::Fault;
 use thes_base::text::Base;
@@ -61,13 +59,13 @@ impl Migration {
 
     /// Tells whether the store shows what one of version 1 shows.
     pub fn is_older(&self, alloc: Global) -> Result<bool, Stop> {
-        let mut shown = Rows::new(alloc);
-        self.show(alloc, &mut shown)?;
-        Ok(shown.text == self.older)
+        let mut showing = Showing::new(alloc);
+        self.show(alloc, &mut showing)?;
+        Ok(showing.shown.text == self.older)
     }
 
-    fn show(&self, alloc: Global, shown: &mut Rows) -> Result<(), Stop> {
-        show_files(alloc, self.image.sound_files(alloc)?, shown)
+    fn show(&self, alloc: Global, showing: &mut Showing) -> Result<(), Stop> {
+        showing.show(alloc, self.image.sound_files(alloc)?)
     }
 
     /// Tells what becomes of the store that is migrated while a file stands still after so many calls.
@@ -84,7 +82,7 @@ impl Migration {
         run: &mut Run,
     ) -> Result<Fate, Stop> {
         run.migrate(alloc, self.image.files(alloc, failing, calls)?)?;
-        Ok(Fate::of(self.is_kept(run), run.is_whole))
+        Ok(Fate::of(self.is_kept(run), run.is_answered && run.is_closed))
     }
 
     // Tells whether the store shows what it should.
@@ -117,64 +115,71 @@ fn push_pair(text: &mut String, first: &str, rest: &str) -> Result<(), AllocErro
     push_line(text, rest)
 }
 
+// The making of a store of version 1 by an example.
+#[derive(Drop)]
+struct Making<'a> {
+    example: Example<'a>,
+    base: Base,
+    told: Told,
+    is_made: bool,
+}
+
+impl<'a> Making<'a> {
+    fn new(alloc: Global, example: Example<'a>) -> Result<Making<'a>, Stop> {
+        Ok(Making {
+            example,
+            base: base(alloc)?,
+            told: Told::new(alloc),
+            is_made: false,
+        })
+    }
+}
+
+impl<'a> Job for Making<'a> {
+    fn run<S: Alter>(&mut self, alloc: Global, conn: Connection<S>) -> (Connection<S>, bool) {
+        let told = &mut self.told;
+        let (mut conn, is_made, ran) = perform_new(alloc, conn, &self.base, self.example, told);
+        let is_older = execute(&mut conn, OLDER);
+        self.is_made = is_made && is_older && ran.is_ok();
+        (conn, true)
+    }
+}
+
 // The files of a store of version 1 that requests make.
 fn older_image(alloc: Global, example: Example) -> Result<Image, Stop> {
-    let mut told = Told::new(alloc);
-    let base = base(alloc)?;
-    let files = Image::empty(alloc).sound_files(alloc)?;
-    let (files, is_made) = make_older_over(alloc, files, &base, example, &mut told);
-    if is_made {
-        Ok(Image::of(alloc, &files)?)
-    } else {
-        Err(Stop)
+    let mut making = Making::new(alloc, example)?;
+    make_image(alloc, &mut making)
+}
+
+fn make_image(alloc: Global, making: &mut Making) -> Result<Image, Stop> {
+    let (files, is_closed) = work(alloc, new_files(alloc)?, making);
+    image_of(
+        alloc,
+        files,
+        is_closed && making.is_made && !making.told.failed,
+    )
+}
+
+fn new_files(alloc: Global) -> Result<Disks, Stop> {
+    Image::empty(alloc).sound_files(alloc)
+}
+
+fn image_of(alloc: Global, files: Disks, is_made: bool) -> Result<Image, Stop> {
+    let image = Image::of(alloc, &files);
+    drop(files);
+    match image {
+        Ok(image) if is_made => Ok(image),
+        _ => Err(Stop),
     }
 }
 
-// Makes a store of version 1 in empty files. Returns them, and whether all was done.
-fn make_older_over<D: Disk + Drop>(
-    alloc: Global,
-    files: Files<D>,
-    base: &Base,
-    example: Example,
-    told: &mut Told,
-) -> (Files<D>, bool) {
-    match open(alloc, files) {
-        Ok(conn) => make_older(alloc, conn, base, example, told),
-        Err(files) => (files, false),
-    }
-}
-
-fn make_older<D: Disk + Drop>(
-    alloc: Global,
-    conn: Store<D>,
-    base: &Base,
-    example: Example,
-    told: &mut Told,
-) -> (Files<D>, bool) {
-    let (conn, is_older) = make_older_in(alloc, conn, base, example, told);
-    let (files, is_closed) = close(conn);
-    (files, is_older && is_closed)
-}
-
-// Makes a store, performs an example in it, and makes it one of version 1. Returns it, and whether all was done.
-fn make_older_in<S: Alter>(
-    alloc: Global,
-    conn: Connection<S>,
-    base: &Base,
-    example: Example,
-    told: &mut Told,
-) -> (Connection<S>, bool) {
-    let (mut conn, is_made, ran) = perform_new(alloc, conn, base, example, told);
-    let is_older = execute(&mut conn, OLDER);
-    (conn, is_made && ran.is_ok() && !told.failed && is_older)
-}
-
-// What a migration came to: whether it was answered, whether no call failed, the closing of the files among them, and
-// what the store shows when it is opened again.
+// A migration: whether it is answered, otherwise than by a fault of the store, whether its files are closed and no call
+// failed, and what the store shows when it is opened again.
 #[derive(Drop)]
 struct Run {
     is_answered: bool,
-    is_whole: bool,
+    migrated: Result<(), Stop>,
+    is_closed: bool,
     after: After,
 }
 
@@ -182,50 +187,34 @@ impl Run {
     fn new(alloc: Global) -> Run {
         Run {
             is_answered: false,
-            is_whole: false,
+            migrated: Ok(()),
+            is_closed: false,
             after: After::new(alloc),
         }
     }
 
     // Migrates the store in the files, and opens them again.
     fn migrate(&mut self, alloc: Global, files: Disks) -> Result<(), Stop> {
-        let (files, migrated) = self.migrate_over(alloc, files);
-        let showed = self.after.show(alloc, files);
-        migrated.and(showed)
+        let (files, is_closed) = work(alloc, files, self);
+        self.is_closed = is_closed;
+        self.after.show(alloc, files)?;
+        self.migrated
     }
 
-    // Migrates the store in the files. Returns the files as they are then.
-    fn migrate_over<D: Disk + Drop>(
-        &mut self,
-        alloc: Global,
-        files: Files<D>,
-    ) -> (Files<D>, Result<(), Stop>) {
-        match open(alloc, files) {
-            Ok(conn) => self.migrate_store(alloc, conn),
-            Err(files) => (files, Ok(())),
-        }
-    }
-
-    fn migrate_store<D: Disk + Drop>(
-        &mut self,
-        alloc: Global,
-        mut conn: Store<D>,
-    ) -> (Files<D>, Result<(), Stop>) {
-        let answer = migrate_in(alloc, &mut conn);
-        let (files, is_closed) = close(conn);
-        (files, self.note(answer, is_closed))
-    }
-
-    // Notes how a migration was answered, and whether its files were closed. It may fail by the store alone.
-    fn note(&mut self, answer: Option<Result<u32, Fault>>, is_closed: bool) -> Result<(), Stop> {
+    // Notes how a migration is answered. It may fail by the store alone.
+    fn note(&mut self, answer: Option<Result<u32, Fault>>) {
         match answer {
-            Some(Ok(2)) => {
-                self.is_answered = true;
-                self.is_whole = is_closed;
-                Ok(())
-            }
-            Some(Err(Fault::Store)) => Ok(()),
-            _ => Err(Stop),
+            Some(Ok(2)) => self.is_answered = true,
+            Some(Err(Fault::Store)) => {}
+            _ => self.migrated = Err(Stop),
         }
+    }
+}
+
+impl Job for Run {
+    fn run<S: Alter>(&mut self, alloc: Global, conn: Connection<S>) -> (Connection<S>, bool) {
+        let mut conn = conn;
+        self.note(migrate_in(alloc, &mut conn));
+        (conn, true)
     }
 }

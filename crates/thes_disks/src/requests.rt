@@ -1,12 +1,11 @@
 //! Requests over a store of which a file stands still.
-use crate::disk::{Failing, Image, Store, end, open};
+use crate::disk::{Failing, Image};
 use crate::example::{Example, Front, are_answers};
 use crate::fate::Fate;
 use crate::stop::Stop;
-use crate::stores::{After, perform_new};
+use crate::stores::{After, Job, perform_new, work};
 use crate::told::{Told, base, tell_wanted};
-use sqlite::Files;
-use sqlite_disk::Disk;
+use sqlite::{Alter, Connection};
 use std::alloc::Global;
 use thes_base::text::Base;
 
@@ -28,7 +27,6 @@ BadStore
 pub struct Requests<'a> {
     example: Example<'a>,
     image: Image,
-    base: Base,
     empty: Told,
 }
 
@@ -38,7 +36,6 @@ impl<'a> Requests<'a> {
         let mut requests = Requests {
             example,
             image: Image::empty(alloc),
-            base: base(alloc)?,
             empty: Told::new(alloc),
         };
         requests.tell_empty(alloc)?;
@@ -55,7 +52,7 @@ impl<'a> Requests<'a> {
 
     /// Tells what becomes of a store in which they are made while a file stands still after so many calls.
     pub fn fate_of(&self, alloc: Global, failing: Failing, calls: u64) -> Result<Fate, Stop> {
-        let mut run = Run::new(alloc);
+        let mut run = Run::new(alloc, self.example)?;
         self.fate_in(alloc, failing, calls, &mut run)
     }
 
@@ -68,43 +65,16 @@ impl<'a> Requests<'a> {
     ) -> Result<Fate, Stop> {
         self.run(alloc, failing, calls, run)?;
         let is_right = self.is_right(alloc, run)?;
-        Ok(Fate::of(is_right, run.is_whole && !run.told.failed))
+        Ok(Fate::of(is_right, run.is_closed && !run.told.failed))
     }
 
     // Makes a store in new files, performs the example in it, and opens the files again.
     fn run(&self, alloc: Global, failing: Failing, calls: u64, run: &mut Run) -> Result<(), Stop> {
         let files = self.image.files(alloc, failing, calls)?;
-        let (files, ran) = self.perform_over(alloc, files, run);
-        let showed = run.after.show(alloc, files);
-        ran.and(showed)
-    }
-
-    // Makes a store in the files, and performs the example in it. Returns the files as they are then.
-    fn perform_over<D: Disk + Drop>(
-        &self,
-        alloc: Global,
-        files: Files<D>,
-        run: &mut Run,
-    ) -> (Files<D>, Result<(), Stop>) {
-        match open(alloc, files) {
-            Ok(conn) => self.perform(alloc, conn, run),
-            Err(files) => (files, Ok(())),
-        }
-    }
-
-    // Makes a store in a database, and performs the example in it. Returns the files as they are then.
-    fn perform<D: Disk + Drop>(
-        &self,
-        alloc: Global,
-        conn: Store<D>,
-        run: &mut Run,
-    ) -> (Files<D>, Result<(), Stop>) {
-        let told = &mut run.told;
-        let (conn, is_made, ran) = perform_new(alloc, conn, &self.base, self.example, told);
-        run.is_made = is_made;
-        let (files, is_closed) = end(conn, is_made);
-        run.is_whole = is_closed;
-        (files, ran)
+        let (files, is_closed) = work(alloc, files, run);
+        run.is_closed = is_closed;
+        run.after.show(alloc, files)?;
+        run.ran
     }
 
     // Tells whether a store shows what it should when it is opened again.
@@ -149,24 +119,40 @@ impl<'a> Requests<'a> {
     }
 }
 
-// What was done in a store: what it told, if its tables were made, whether no call failed at its end, and what it shows
-// when it is opened again.
+// An example that is performed in a new store: what the store tells, if its tables are made, whether its files are
+// closed and no call failed, and what it shows when it is opened again.
 #[derive(Drop)]
-struct Run {
+struct Run<'a> {
+    example: Example<'a>,
+    base: Base,
     told: Told,
+    ran: Result<(), Stop>,
     is_made: bool,
-    is_whole: bool,
+    is_closed: bool,
     after: After,
 }
 
-impl Run {
-    fn new(alloc: Global) -> Run {
-        Run {
+impl<'a> Run<'a> {
+    fn new(alloc: Global, example: Example<'a>) -> Result<Run<'a>, Stop> {
+        Ok(Run {
+            example,
+            base: base(alloc)?,
             told: Told::new(alloc),
+            ran: Ok(()),
             is_made: false,
-            is_whole: false,
+            is_closed: false,
             after: After::new(alloc),
-        }
+        })
+    }
+}
+
+impl<'a> Job for Run<'a> {
+    fn run<S: Alter>(&mut self, alloc: Global, conn: Connection<S>) -> (Connection<S>, bool) {
+        let told = &mut self.told;
+        let (conn, is_made, ran) = perform_new(alloc, conn, &self.base, self.example, told);
+        self.is_made = is_made;
+        self.ran = ran;
+        (conn, is_made)
     }
 }
 

@@ -1,5 +1,5 @@
 //! Stores in databases, and what they show.
-use crate::disk::{Disks, Store, abandon, cut, killed, open};
+use crate::disk::{Disks, Store, cut, end, killed, open};
 use crate::example::Example;
 use crate::rows::Rows;
 use crate::stop::Stop;
@@ -104,69 +104,97 @@ fn tell_new(alloc: Global, base: &Base, example: Example, told: &mut Told) -> Re
     if is_made { ran } else { Err(Stop) }
 }
 
-fn show_store<D: Disk + Drop>(
-    alloc: Global,
-    conn: Store<D>,
-    shown: &mut Rows,
-) -> (Files<D>, Result<(), Stop>) {
-    let (conn, showed) = show_in(alloc, conn, shown);
-    (abandon(conn), showed)
+/// What is done in the store in files.
+pub trait Job {
+    /// Does it, and returns the store. Tells whether that is to be closed then, and not abandoned.
+    fn run<S: Alter>(&mut self, alloc: Global, conn: Connection<S>) -> (Connection<S>, bool);
 }
 
-// Adds what the store in the files shows. Returns the files.
-fn show_over<D: Disk + Drop>(
+fn work_in<D: Disk + Drop, J: Job>(alloc: Global, conn: Store<D>, job: &mut J) -> (Files<D>, bool) {
+    let (conn, is_done) = job.run(alloc, conn);
+    end(conn, is_done)
+}
+
+/// Does a job in the store in files. Returns them, and tells whether the store is closed, and no call failed.
+pub fn work<D: Disk + Drop, J: Job>(
     alloc: Global,
     files: Files<D>,
-    shown: &mut Rows,
-) -> (Files<D>, Result<(), Stop>) {
+    job: &mut J,
+) -> (Files<D>, bool) {
     match open(alloc, files) {
-        Ok(conn) => show_store(alloc, conn, shown),
-        Err(files) => (files, Err(Stop)),
+        Ok(conn) => work_in(alloc, conn, job),
+        Err(files) => (files, false),
     }
 }
 
-/// Adds what the store in the files shows.
-pub fn show_files(alloc: Global, files: Disks, shown: &mut Rows) -> Result<(), Stop> {
-    let (files, showed) = show_over(alloc, files, shown);
-    drop(files);
-    showed
+/// What a store shows, once it could be opened.
+#[derive(Drop)]
+pub struct Showing {
+    pub shown: Rows,
+    showed: Result<(), Stop>,
+}
+
+impl Showing {
+    /// Makes what no store shows.
+    pub fn new(alloc: Global) -> Showing {
+        Showing {
+            shown: Rows::new(alloc),
+            showed: Err(Stop),
+        }
+    }
+
+    /// Adds what the store in the files shows.
+    pub fn show(&mut self, alloc: Global, files: Disks) -> Result<(), Stop> {
+        let (files, _) = work(alloc, files, self);
+        drop(files);
+        self.showed
+    }
+
+    // Tells whether the store shows one of two texts.
+    fn is_either(&self, first: &str, second: &str) -> bool {
+        let shown = self.shown.text.as_str();
+        shown == first || shown == second
+    }
+}
+
+impl Job for Showing {
+    fn run<S: Alter>(&mut self, alloc: Global, conn: Connection<S>) -> (Connection<S>, bool) {
+        let (conn, showed) = show_in(alloc, conn, &mut self.shown);
+        self.showed = showed;
+        (conn, false)
+    }
 }
 
 /// What a store shows when it is opened again: after a kill, where what was written stands, and after a power cut,
 /// where what was synced does.
 #[derive(Drop)]
 pub struct After {
-    kill: Rows,
-    cut: Rows,
+    kill: Showing,
+    cut: Showing,
 }
 
 impl After {
     /// Makes what no store shows.
     pub fn new(alloc: Global) -> After {
         After {
-            kill: Rows::new(alloc),
-            cut: Rows::new(alloc),
+            kill: Showing::new(alloc),
+            cut: Showing::new(alloc),
         }
     }
 
     /// Adds what the store in the files shows when it is opened again.
     pub fn show(&mut self, alloc: Global, files: Disks) -> Result<(), Stop> {
-        let kill = show_killed(alloc, &files, &mut self.kill);
-        let cut = show_files(alloc, cut(files), &mut self.cut);
+        let kill = self.show_killed(alloc, &files);
+        let cut = self.cut.show(alloc, cut(files));
         kill.and(cut)
+    }
+
+    fn show_killed(&mut self, alloc: Global, files: &Disks) -> Result<(), Stop> {
+        self.kill.show(alloc, killed(alloc, files)?)
     }
 
     /// Tells whether the store shows one of two texts each time.
     pub fn is_either(&self, first: &str, second: &str) -> bool {
-        is_either(self.kill.text.as_str(), first, second)
-            && is_either(self.cut.text.as_str(), first, second)
+        self.kill.is_either(first, second) && self.cut.is_either(first, second)
     }
-}
-
-fn is_either(shown: &str, first: &str, second: &str) -> bool {
-    shown == first || shown == second
-}
-
-fn show_killed(alloc: Global, files: &Disks, shown: &mut Rows) -> Result<(), Stop> {
-    show_files(alloc, killed(alloc, files)?, shown)
 }
