@@ -9,8 +9,7 @@ use std::alloc::{AllocError, Global};
 /// The two files of a store.
 pub type Disks = Files<Fuse<Memory>>;
 
-/// A store in two files. What a proof knows of a file is long: so a function that has a store takes its files as any
-/// `D`.
+/// A store in two files. What a proof knows of a file in memory is long: so a function that has a store takes any `D`.
 pub type Store<D> = Connection<FileStore<D>>;
 
 /// The file that stands still.
@@ -63,8 +62,8 @@ pub struct Image {
 }
 
 impl Image {
-    /// Makes an image of empty files.
-    pub fn empty(alloc: Global) -> Image {
+    // Makes an image of empty files.
+    fn empty(alloc: Global) -> Image {
         Image {
             log: Vec::new(alloc),
             db: Vec::new(alloc),
@@ -92,6 +91,11 @@ impl Image {
     pub fn sound_files(&self, alloc: Global) -> Result<Disks, Stop> {
         self.files(alloc, Failing::Log, u64::MAX)
     }
+}
+
+/// Makes the files of a new store, of which the one that fails passes so many calls on.
+pub fn new_files(alloc: Global, failing: Failing, calls: u64) -> Result<Disks, Stop> {
+    Image::empty(alloc).files(alloc, failing, calls)
 }
 
 /// Makes the files as the next process finds them where this one is killed: what was written stands.

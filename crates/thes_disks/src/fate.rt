@@ -1,4 +1,7 @@
 //! What becomes of a store.
+use crate::disk::Failing;
+use crate::stop::Stop;
+use std::alloc::Global;
 
 /// What became of a store.
 #[derive(Clone, Copy)]
@@ -20,4 +23,10 @@ impl Fate {
             (true, false) => Fate::Kept,
         }
     }
+}
+
+/// What is done in a store in files, over and over.
+pub trait Trial {
+    /// Tells what becomes of the store while a file stands still after so many calls.
+    fn fate(&self, alloc: Global, failing: Failing, calls: u64) -> Result<Fate, Stop>;
 }

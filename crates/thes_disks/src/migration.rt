@@ -1,7 +1,7 @@
 //! A migration of a store of which a file stands still.
-use crate::disk::{Disks, Failing, Image};
+use crate::disk::{Disks, Failing, Image, new_files};
 use crate::example::{Example, push_line};
-use crate::fate::Fate;
+use crate::fate::{Fate, Trial};
 use crate::stop::Stop;
 use crate::stores::{After, Job, Showing, execute, migrate_in, perform_new, work};
 use crate::told::{Told, base, tell_wanted};
@@ -68,12 +68,6 @@ impl Migration {
         showing.show(alloc, self.image.sound_files(alloc)?)
     }
 
-    /// Tells what becomes of the store that is migrated while a file stands still after so many calls.
-    pub fn fate_of(&self, alloc: Global, failing: Failing, calls: u64) -> Result<Fate, Stop> {
-        let mut run = Run::new(alloc);
-        self.fate_in(alloc, failing, calls, &mut run)
-    }
-
     fn fate_in(
         &self,
         alloc: Global,
@@ -91,6 +85,13 @@ impl Migration {
         let older = self.older.as_str();
         run.after
             .is_either(newer, if run.is_answered { newer } else { older })
+    }
+}
+
+impl Trial for Migration {
+    fn fate(&self, alloc: Global, failing: Failing, calls: u64) -> Result<Fate, Stop> {
+        let mut run = Run::new(alloc);
+        self.fate_in(alloc, failing, calls, &mut run)
     }
 }
 
@@ -152,16 +153,12 @@ fn older_image(alloc: Global, example: Example) -> Result<Image, Stop> {
 }
 
 fn make_image(alloc: Global, making: &mut Making) -> Result<Image, Stop> {
-    let (files, is_closed) = work(alloc, new_files(alloc)?, making);
+    let (files, is_closed) = work(alloc, new_files(alloc, Failing::Log, u64::MAX)?, making);
     image_of(
         alloc,
         files,
         is_closed && making.is_made && !making.told.failed,
     )
-}
-
-fn new_files(alloc: Global) -> Result<Disks, Stop> {
-    Image::empty(alloc).sound_files(alloc)
 }
 
 fn image_of(alloc: Global, files: Disks, is_made: bool) -> Result<Image, Stop> {

@@ -1,7 +1,7 @@
 //! Requests over a store of which a file stands still.
-use crate::disk::{Failing, Image};
+use crate::disk::{Failing, new_files};
 use crate::example::{Example, Front, are_answers};
-use crate::fate::Fate;
+use crate::fate::{Fate, Trial};
 use crate::stop::Stop;
 use crate::stores::{After, Job, perform_new, work};
 use crate::told::{Told, base, tell_wanted};
@@ -26,7 +26,6 @@ BadStore
 #[derive(Drop)]
 pub struct Requests<'a> {
     example: Example<'a>,
-    image: Image,
     empty: Told,
 }
 
@@ -35,7 +34,6 @@ impl<'a> Requests<'a> {
     pub fn new(alloc: Global, example: Example<'a>) -> Result<Requests<'a>, Stop> {
         let mut requests = Requests {
             example,
-            image: Image::empty(alloc),
             empty: Told::new(alloc),
         };
         requests.tell_empty(alloc)?;
@@ -48,12 +46,6 @@ impl<'a> Requests<'a> {
             postings: "",
         };
         tell_wanted(alloc, nothing, &mut self.empty)
-    }
-
-    /// Tells what becomes of a store in which they are made while a file stands still after so many calls.
-    pub fn fate_of(&self, alloc: Global, failing: Failing, calls: u64) -> Result<Fate, Stop> {
-        let mut run = Run::new(alloc, self.example)?;
-        self.fate_in(alloc, failing, calls, &mut run)
     }
 
     fn fate_in(
@@ -70,7 +62,7 @@ impl<'a> Requests<'a> {
 
     // Makes a store in new files, performs the example in it, and opens the files again.
     fn run(&self, alloc: Global, failing: Failing, calls: u64, run: &mut Run) -> Result<(), Stop> {
-        let files = self.image.files(alloc, failing, calls)?;
+        let files = new_files(alloc, failing, calls)?;
         let (files, is_closed) = work(alloc, files, run);
         run.is_closed = is_closed;
         run.after.show(alloc, files)?;
@@ -116,6 +108,13 @@ impl<'a> Requests<'a> {
         front.add_requests(self.example.requests, told.answers.as_str(), more)?;
         front.add_postings(self.example.postings, told.rows.as_str(), more)?;
         Ok(())
+    }
+}
+
+impl<'a> Trial for Requests<'a> {
+    fn fate(&self, alloc: Global, failing: Failing, calls: u64) -> Result<Fate, Stop> {
+        let mut run = Run::new(alloc, self.example)?;
+        self.fate_in(alloc, failing, calls, &mut run)
     }
 }
 

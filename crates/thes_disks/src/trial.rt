@@ -1,7 +1,7 @@
 //! Examples over stores that fail, and what is printed of them.
 use crate::disk::Failing;
 use crate::example::{Example, Stored};
-use crate::fate::Fate;
+use crate::fate::{Fate, Trial};
 use crate::faults::fate_of_calls;
 use crate::migration::Migration;
 use crate::requests::Requests;
@@ -11,24 +11,6 @@ use crate::told::{Told, tell_wanted};
 use std::alloc::{AllocError, Global};
 use std::fmt::Write;
 use thes_store::fail_once::Next;
-
-// What is done over a store.
-trait Trial {
-    // What becomes of a store of which a file stands still after so many calls.
-    fn fate(&self, alloc: Global, failing: Failing, calls: u64) -> Result<Fate, Stop>;
-}
-
-impl<'a> Trial for Requests<'a> {
-    fn fate(&self, alloc: Global, failing: Failing, calls: u64) -> Result<Fate, Stop> {
-        self.fate_of(alloc, failing, calls)
-    }
-}
-
-impl Trial for Migration {
-    fn fate(&self, alloc: Global, failing: Failing, calls: u64) -> Result<Fate, Stop> {
-        self.fate_of(alloc, failing, calls)
-    }
-}
 
 // How many calls the file passes on in the first run that isn't kept by a failure, and what became of its store.
 fn last_fate<T: Trial>(alloc: Global, trial: &T, failing: Failing) -> Result<(u64, Fate), Stop> {
