@@ -75,14 +75,14 @@ none_twice = tt
 -- Replacements.
 
 module _ (rs : List Resource) where
-  next_is : (m n : ℕ) → replacement_of rs m ≡ Some n → IsReplacedBy rs m n
+  pub next_is : (m n : ℕ) → replacement_of rs m ≡ Some n → IsReplacedBy rs m n
   next_is m n = go (numbered rs m) refl
     where
       go : (o : Option Resource) → numbered rs m ≡ o → option_and_then (λ (r : Resource). r.replaced) o ≡ Some n → IsReplacedBy rs m n
       go None at e = absurd (cc)
       go (Some r) at e = (r, at, e)
 
-  is_next : (m n : ℕ) → IsReplacedBy rs m n → replacement_of rs m ≡ Some n
+  pub is_next : (m n : ℕ) → IsReplacedBy rs m n → replacement_of rs m ≡ Some n
   is_next m n (r, at, is) = ap (option_and_then (λ (x : Resource). x.replaced)) at ∙ is
 
   -- one step more, where there is a replacement, and none where there is none

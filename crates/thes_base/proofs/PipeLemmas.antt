@@ -36,6 +36,12 @@ pub record HasLeft {R W : Type 0} (reader reader' : Pipe R) (writer writer' : Pi
 pub counted_more : (calls m n : ℕ) → counted (counted calls m) n ≡ counted calls (m + n)
 counted_more calls m n = omega arith
 
+pub pays_then : {T : Type 0} {p q r : Pipe T} {a b c : ℕ} → PaysCalls p q a b → PaysCalls q r b c → PaysCalls p r a c
+pays_then {p = p} {a = a} {b = b} {c = c} f g =
+    let x = f.fell in let y = g.fell in let u = f.calls in let v = g.calls in
+    let more = counted_more (calls_of p) (a - b) (b - c) in
+    record { fell = omega (arith, x, y); calls = let e : a - b + (b - c) ≡ a - c = omega (arith, x, y) in cc }
+
 pub all_left : {R W : Type 0} (reader : Pipe R) (writer : Pipe W) (left : ℕ) → left ≡ calls_limit → HasLeft reader reader writer writer left
 all_left reader writer left e = record { reads = 0; writes = 0; all = omega (arith, e); read = omega arith; wrote = omega arith }
 

@@ -1,7 +1,8 @@
 -- What is in a finite set after a change, where values that compare alike are one.
 use Rattle.std.proofs.Common.{◌≡◌, ◌≢◌, ◌⊎◌, ◌+◌, inl, inr, List, Bool, true, false, cond, ◌&&◌, Contains, refl, sym, ap, ◌∙◌, ◌||◌}
 use Rattle.std.specs.declared.cmp.Ordering.{Ordering}
-use Rattle.std.specs.Ordering.{eq_by_cmp, is_eq}
+use Rattle.std.specs.declared.cmp.Ordering.TheVariants.{Less, Equal, Greater}
+use Rattle.std.specs.Ordering.{eq_by_cmp, is_eq, ordering_then}
 use Rattle.std.specs.Cmp.{IsTotalOrder, tied_itself, Equal-is, both_ways as same_test}
 use Rattle.std.specs.FinSet.{FinSet, IsAntisymmetric, contains, insert, remove, retain, union, items, from_list, len, same_set, contains-insert, contains-remove, contains-retain, contains-union, contains-items, contains-from_list, len-insert}
 use Rattle.std.proofs.lemmas.Bool.{cases_Bool, or_cases, or_left, or_right, and_parts, and_from, not-true, not_from_false, both_ways, false_from_ne_true}
@@ -13,6 +14,17 @@ pub or_swap : (a b c : Bool) → (a || (b || c)) ≡ (b || (a || c))
 or_swap true true c = refl
 or_swap true false c = refl
 or_swap false b c = refl
+
+-- orders one after another
+pub both_equal : (a b : Ordering) → is_eq (ordering_then a b) ≡ (is_eq a && is_eq b)
+both_equal Less b = refl
+both_equal Equal b = refl
+both_equal Greater b = refl
+
+pub then_assoc : (a b c : Ordering) → ordering_then (ordering_then a b) c ≡ ordering_then a (ordering_then b c)
+then_assoc Less b c = refl
+then_assoc Equal b c = refl
+then_assoc Greater b c = refl
 
 module _ {K : Type 0} {R : K → K → Ordering} (total : IsTotalOrder R) (exact : IsAntisymmetric R) where
   tied : (x y : K) → eq_by_cmp R x y ≡ true → x ≡ y

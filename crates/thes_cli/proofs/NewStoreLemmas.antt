@@ -1,17 +1,17 @@
 -- A new store shows the empty state.
-use Rattle.std.proofs.Common.{◌≡◌, ◌⊎◌, inl, inr, refl, subst, ℕ, List, [], Option, None, Some, arith, zero, suc}
+use Rattle.std.proofs.Common.{◌≡◌, ◌⊎◌, inl, inr, refl, subst, ℕ, List, Option, None, arith}
 use Rattle.std.specs.Prelude.{◌<◌}
 use Rattle.std.specs.FinSet as set
 use Rattle.thes_base.specs.Forms.{IsBase}
 use Rattle.thes_base.specs.Labels.{label_cmp}
 use Rattle.thes_base.specs.Links.{HeldIn, link_cmp}
 use Rattle.thes_base.specs.declared.data.Link.{Link}
-use Rattle.thes_base.specs.Resources.{numbered}
 use Rattle.thes_base.specs.State.{empty_state}
 use Rattle.thes_base.proofs.MachineLemmas.{legal_empty}
 use Rattle.thes_base.specs.declared.fault.Fault.{Fault}
 use Rattle.thes_base.specs.declared.fault.Fault.TheVariants as faults
 use Rattle.thes_base.specs.declared.fault.PipeFault.TheVariants as pipe
+use Rattle.thes_base.proofs.NumberedLemmas.{none_at}
 use Rattle.thes_rows.specs.Cells.{listed}
 use Rattle.thes_rows.specs.Tables.{Tables, hier_link, no_rows}
 use Rattle.thes_store.specs.Causes.{most}
@@ -23,10 +23,6 @@ use Rattle.thes_cli.specs.Opening.{IsUnopened}
 use Rattle.thes_cli.specs.Streams.{Streams}
 use Rattle.thes_cli.specs.Work.{Works, WorksInMemory}
 use Rattle.thes_cli.specs.declared.work.Work.{Work}
-
-none_at : {A : Type 0} (n : ℕ) (x : A) → numbered [] n ≡ Some x → ⊥
-none_at zero x e = cc
-none_at (suc n) x e = cc
 
 no_link : (l : Link) → HeldIn set.empty l → ⊥
 no_link l h = let e = set.contains-empty link_cmp l in cc

@@ -1,7 +1,6 @@
 -- A display of a scheme of a store in a language.
 use Rattle.std.specs.Prelude.{◌≡◌, ◌++◌, ℕ, List, Option, Result, Ok, Err, codes}
 use Rattle.thes_base.specs.Names.{refusal_code}
-use Rattle.thes_base.specs.State.{State}
 use Rattle.thes_base.specs.declared.fault.Fault.{Fault}
 use Rattle.thes_base.specs.declared.fault.PipeFault.{PipeFault}
 use Rattle.thes_base.specs.declared.fault.PipeFault.TheVariants as pipe

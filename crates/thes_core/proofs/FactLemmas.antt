@@ -58,8 +58,5 @@ named_at hs ns named i row is within at = go ns i (subst (λ (l : List (Option P
     go (m ∷ ms) zero l e = (m, omega arith, refl, sym e)
     go (m ∷ ms) (suc j) l e = let r = go ms j (omega arith) e in (r.0, (let b = r.1 in omega arith), r.2, r.3)
 
-pub none_of_one : (hs : List History) (posting : ℕ) (named : List (Option PostingRow)) → named ≡ row_at hs posting ∷ [] → first_of named ≡ None → numbered hs posting ≡ None
-none_of_one hs posting named is first = row_missing (numbered hs posting) (ap first_of (sym is) ∙ first)
-
 pub row_of_one : (hs : List History) (posting : ℕ) (named : List (Option PostingRow)) (row : PostingRow) → named ≡ row_at hs posting ∷ [] → first_of named ≡ Some row → (h : History) × (numbered hs posting ≡ Some h) × (row ≡ posting_row h)
 row_of_one hs posting named row is first = row_found (numbered hs posting) row (ap first_of (sym is) ∙ first)

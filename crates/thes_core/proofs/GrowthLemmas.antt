@@ -14,10 +14,9 @@ use Rattle.thes_base.proofs.SetMembers as sets
 use Rattle.thes_base.specs.Labels.{Label, Labels, HasLabel, label_cmp, S13, S14}
 use Rattle.thes_base.specs.Postings.{move_count, stands_at, standing_count}
 use Rattle.thes_base.specs.State.{State, IsWithin, Fits}
-use Rattle.thes_base.specs.Changes.{label, made, outside_made, label_added, labels_relabelled, relabelled, renamed, next_number, link_added, merged, taken_labels, split_off, is_listed, posted, marked_dead, dead}
+use Rattle.thes_base.specs.Changes.{label, made, label_added, labels_relabelled, relabelled, renamed, next_number, link_added, merged, taken_labels, split_off, is_listed, posted, marked_dead, dead}
 use Rattle.thes_base.specs.Legal.{Legal, LegalLabels}
-use Rattle.thes_base.proofs.LabelSets.{len_inserted, labels_total, inserted_cases}
-use Rattle.thes_base.proofs.LabelSets.{removed_cases}
+use Rattle.thes_base.proofs.LabelSets.{len_inserted, labels_total, inserted_cases, removed_cases}
 use Rattle.thes_base.proofs.PreferredLemmas.{preferred_found, preferred_of_label}
 use Rattle.thes_base.proofs.ResourceLemmas.{marked_dead_at, length_set}
 use Rattle.std.proofs.lemmas.Bool.{false_from_ne_true}
@@ -97,9 +96,6 @@ module _ (s : State) (base : List ℕ) (legal : Legal base s) where
     postings = same _;
     moves = same _;
   }
-
-  pub outside_grows : (iri : List ℕ) → Grows s (outside_made iri s) (growth_of 1 0 0 0 0)
-  outside_grows iri = record { resources = one_more Resource s.resources _; labels = same _; links = same _; postings = same _; moves = same _ }
 
   pub label_grows : (l : Label) → ¬ (set.contains s.labels l ≡ true) → Grows s (label_added l s) (growth_of 0 1 0 0 0)
   label_grows l new = record { resources = same _; labels = inl (len_inserted s.labels l (false_from_ne_true _ new)); links = same _; postings = same _; moves = same _ }

@@ -1,5 +1,5 @@
 -- The links that go and come in a merge.
-use Rattle.std.proofs.Common.{◌≡◌, ◌≢◌, inl, inr, ℕ, List, refl, sym, ap, ◌∙◌, subst, arith, Bool, true, false, cond, ◌||◌, ◌==◌}
+use Rattle.std.proofs.Common.{◌≡◌, ◌≢◌, inl, inr, ℕ, List, refl, sym, ap, ◌∙◌, subst, Bool, true, false, cond, ◌||◌, ◌==◌}
 use Rattle.std.specs.Prelude.{Some, None}
 use Rattle.std.specs.FinSet.{contains}
 use Rattle.std.proofs.lemmas.Bool.{eqb-false, ne_eqb}
@@ -7,6 +7,7 @@ use Rattle.std.proofs.lemmas.Option.{same_Some}
 use Rattle.thes_base.specs.declared.data.Link.{Link}
 use Rattle.thes_base.specs.Links.{Links, HeldIn, norm, sent, sent_link, contracted}
 use Rattle.thes_base.proofs.LinkSets.{links_total, links_exact, contracted_from, contracted_to}
+use Rattle.thes_base.proofs.LinkLemmas.{sent_never, sent_other, sent_stays}
 use Rattle.thes_graph.specs.Net.{Net, is_marked}
 use Rattle.thes_graph.specs.Reading.{IsRow, EndsAt}
 use Rattle.thes_graph.proofs.NormLemmas.{norm_ends}
@@ -24,29 +25,20 @@ module _ (net : Net) (source target : ℕ) (different : source ≢ target)
   abbrev become : Link → Link
   become l = norm (is_marked net) (sent_link source target l)
 
-  sent_other : (x : ℕ) → x ≢ source → sent source target x ≡ x
-  sent_other x other = ap (λ b. cond b target x) (ne_eqb x source other)
-
-  sent_never : (x : ℕ) → sent source target x ≢ source
-  sent_never x at = grind arith
-
   -- A link at the source goes.
   never : (q : Link) → EndsAt source q → HeldIn after q → ⊥
   never q at kept =
       let c = contracted_from (is_marked net) source target net.links q kept in
-      elim (norm_ends (is_marked net) (sent_link source target c.0) source (subst (EndsAt source) c.3 at)) [ inl a ↦ sent_never c.0.a a | inr b ↦ sent_never c.0.b b ]
+      elim (norm_ends (is_marked net) (sent_link source target c.0) source (subst (EndsAt source) c.3 at)) [ inl a ↦ sent_never source target different c.0.a a | inr b ↦ sent_never source target different c.0.b b ]
 
   -- Another link stays.
-  same_sent : (q : Link) → (EndsAt source q → ⊥) → sent_link source target q ≡ q
-  same_sent q off = λ i. record { kind = q.kind; a = sent_other q.a (λ e. off (inl e)) i; b = sent_other q.b (λ e. off (inr e)) i }
-
   stays_itself : (q : Link) → HeldIn net.links q → (EndsAt source q → ⊥) → become q ≡ q
-  stays_itself q held off = ap (norm (is_marked net)) (same_sent q off) ∙ normal q held
+  stays_itself q held off = ap (norm (is_marked net)) (sent_stays source target q (λ a. off (inl a)) (λ b. off (inr b))) ∙ normal q held
 
   stays : (q : Link) → HeldIn net.links q → (EndsAt source q → ⊥) → HeldIn after q
   stays q held off =
       contracted_to (is_marked net) source target net.links q
-      (q, held, λ e. two_ends q held (sym (sent_other q.a (λ k. off (inl k))) ∙ e ∙ sent_other q.b (λ k. off (inr k))), sym (stays_itself q held off))
+      (q, held, λ e. two_ends q held (sym (sent_other source target q.a (λ k. off (inl k))) ∙ e ∙ sent_other source target q.b (λ k. off (inr k))), sym (stays_itself q held off))
 
   pub merge_goes : Lists (λ q. HeldIn net.links q × (HeldIn after q → ⊥)) gone
   merge_goes = record {

@@ -11,6 +11,7 @@ use Rattle.thes_base.specs.Changes.{marked_dead, dead, outside_resource}
 use Rattle.thes_base.proofs.NumberedLemmas.{push_new}
 use Rattle.thes_base.proofs.ResourceLemmas.{marked_dead_at, passes_push, passes_pop, passes_dead, passes_before}
 use Rattle.thes_base.proofs.SetMembers.{inserted_cases, inserted_kept, inserted_new}
+use Rattle.thes_base.proofs.LinksKept.{outside_test}
 use Rattle.thes_core.specs.declared.thesaurus.Thesaurus.{Thesaurus}
 use Rattle.thes_core.specs.View.{KnowsOutside}
 
@@ -27,11 +28,8 @@ test_passed rs n e = go (numbered rs n) refl
     go None none = absurd (let bad = sym (ap test_of none) ∙ e in cc)
     go (Some r) at = (r, at, sym (ap test_of at) ∙ e)
 
-passes_test : (rs : List Resource) (n : ℕ) → IsOutside rs n → is_outside rs n ≡ true
-passes_test rs n (r, at, hit) = ap test_of at ∙ hit
-
 same_outside : (rs ss : List Resource) (n : ℕ) → (IsOutside rs n → IsOutside ss n) → (IsOutside ss n → IsOutside rs n) → is_outside rs n ≡ is_outside ss n
-same_outside rs ss n there back = both_ways _ _ (λ e. passes_test ss n (there (test_passed rs n e))) (λ e. passes_test rs n (back (test_passed ss n e)))
+same_outside rs ss n there back = both_ways _ _ (λ e. outside_test ss n (there (test_passed rs n e))) (λ e. outside_test rs n (back (test_passed ss n e)))
 
 -- a death changes no kind
 pub outside_marked_dead : (rs : List Resource) (n : ℕ) (rep : Option ℕ) (m : ℕ) → is_outside (marked_dead n rep rs) m ≡ is_outside rs m
@@ -55,7 +53,7 @@ module _ (t : Thesaurus) (knows : KnowsOutside t) where
 
   -- a new outside concept is marked
   pub knows_marked : (n : ℕ) → set.contains (set.insert t.graph.outside (length rs + 1)) n ≡ is_outside after n
-  knows_marked n = both_ways _ _ (λ e. passes_test after n (there (inserted_cases nat_cmp_total exact_unsigned t.graph.outside (length rs + 1) n e)))
+  knows_marked n = both_ways _ _ (λ e. outside_test after n (there (inserted_cases nat_cmp_total exact_unsigned t.graph.outside (length rs + 1) n e)))
       (λ e. back (passes_pop rs outside_resource is_out n (test_passed after n e)))
     where
       there : (n ≡ length rs + 1) ⊎ (set.contains t.graph.outside n ≡ true) → IsOutside after n
@@ -63,5 +61,5 @@ module _ (t : Thesaurus) (knows : KnowsOutside t) where
       there (inr old) = passes_push rs outside_resource is_out n (test_passed rs n (sym (knows n) ∙ old))
 
       back : IsOutside rs n ⊎ ((n ≡ length rs + 1) × (true ≡ true)) → set.contains (set.insert t.graph.outside (length rs + 1)) n ≡ true
-      back (inl old) = inserted_kept nat_cmp_total exact_unsigned t.graph.outside (length rs + 1) n (knows n ∙ passes_test rs n old)
+      back (inl old) = inserted_kept nat_cmp_total exact_unsigned t.graph.outside (length rs + 1) n (knows n ∙ outside_test rs n old)
       back (inr (new, _)) = ap (set.contains (set.insert t.graph.outside (length rs + 1))) new ∙ inserted_new nat_cmp_total exact_unsigned t.graph.outside (length rs + 1)

@@ -1,7 +1,6 @@
 -- Lists that are shown: the labels of one kind.
 use Rattle.std.proofs.Common.{◌≡◌, ◌∙◌, refl, sym, ap, subst, ℕ, suc, List, [], ◌∷◌, map, filter, true, false, cond, ◌==◌, ◌⊎◌, inl, inr, ⊎_elim, eqb-true, true≢false, arith}
-use Rattle.std.specs.declared.cmp.Ordering.{Ordering}
-use Rattle.std.specs.declared.cmp.Ordering.TheVariants.{Less, Equal, Greater}
+use Rattle.std.specs.declared.cmp.Ordering.TheVariants.{Less, Equal}
 use Rattle.std.specs.Ordering.{nat_cmp, ordering_then, eq_by_cmp}
 use Rattle.std.specs.Cmp.{nat_cmp_total, tied_itself, Equal-is}
 use Rattle.std.specs.Cmp.Lexicographic.{slice_cmp}
@@ -13,28 +12,21 @@ use Rattle.std.proofs.lemmas.Simd.{map-map}
 use Rattle.thes_base.specs.declared.data.LabelKind.{LabelKind}
 use Rattle.thes_base.specs.declared.data.LabelKind.TheVariants.{Pref, Alt, Hidden, Scope}
 use Rattle.thes_base.specs.Data.{LabelData}
-use Rattle.thes_base.specs.Labels.{Label, Labels, HasLabel, label_kind_no}
+use Rattle.thes_base.specs.Labels.{Labels, HasLabel, label_kind_no}
 use Rattle.thes_base.specs.Listing.{IsListing}
 use Rattle.thes_base.specs.Machine.{owned}
 use Rattle.thes_base.specs.Views.{Tagged, tagged_cmp}
-use Rattle.thes_base.proofs.LabelSets.{labels_total, labels_exact, same_kind}
+use Rattle.thes_base.proofs.LabelSets.{labels_total, same_kind}
+use Rattle.thes_base.proofs.SetMembers.{then_assoc}
 use Rattle.thes_vocab.specs.LabelData.{AreLabelsOf, data_cmp, has_own, own_label}
+use Rattle.thes_vocab.proofs.OwnLemmas.{data_exact}
 use Rattle.thes_core.specs.Shown.{tagged, is_of_kind}
 
 -- Labels.
 
--- what does not bind to the left binds to the right
-then_assoc : (a b c : Ordering) → ordering_then (ordering_then a b) c ≡ ordering_then a (ordering_then b c)
-then_assoc Less b c = refl
-then_assoc Equal b c = refl
-then_assoc Greater b c = refl
-
 -- two labels compare as they do with one owner
 as_owned : (x y : LabelData) → data_cmp x y ≡ ordering_then (nat_cmp (label_kind_no x.kind) (label_kind_no y.kind)) (tagged_cmp (tagged x) (tagged y))
 as_owned x y = then_assoc (nat_cmp (label_kind_no x.kind) (label_kind_no y.kind)) (slice_cmp nat_cmp x.tag y.tag) (slice_cmp nat_cmp x.text y.text)
-
-pub data_exact : (x y : LabelData) → data_cmp x y ≡ Equal → x ≡ y
-data_exact x y e = ap (λ (l : Label). record { kind = l.kind; tag = l.tag; text = l.text }) (labels_exact (owned 0 x) (owned 0 y) (sym (as_owned x y) ∙ e))
 
 pub data_itself : (x : LabelData) → eq_by_cmp data_cmp x x ≡ true
 data_itself x = (Equal-is (data_cmp x x)).1 (as_owned x x ∙ tied_itself labels_total (owned 0 x))

@@ -1,35 +1,28 @@
 -- The labels that the target of a merge takes.
-use Rattle.std.proofs.Common.{◌≡◌, inl, inr, ℕ, List, [], ◌∷◌, refl, sym, ap, ◌∙◌, subst, true, false, not, map}
+use Rattle.std.proofs.Common.{◌≡◌, inl, inr, ℕ, List, [], ◌∷◌, refl, sym, ap, ◌∙◌, subst, true, false, not}
 use Rattle.std.specs.Prelude.{filter}
 use Rattle.std.specs.declared.cmp.Ordering.TheVariants.{Less, Equal}
 use Rattle.std.specs.FinSet as set
-use Rattle.std.specs.Cmp.{IsTotalOrder, nat_cmp_total, tied_itself}
+use Rattle.std.specs.Cmp.{tied_itself}
 use Rattle.std.specs.List.{AllByRecursion}
 use Rattle.std.specs.List.Sorted.{IsStrictlySortedBy}
 use Rattle.std.proofs.lemmas.Bool.{cases_Bool, or_cases, and_parts, and_from, not-true, not_from_false}
-use Rattle.std.proofs.lemmas.Cmp.{then_total, on_total, nat_list_cmp_total}
 use Rattle.std.proofs.lemmas.List.Kept.{IsStrictlySortedBy-filter}
-use Rattle.thes_base.specs.declared.data.LabelKind.{LabelKind}
-use Rattle.thes_base.specs.declared.data.LabelKind.TheVariants.{Pref, Alt, Hidden, Scope}
+use Rattle.thes_base.specs.declared.data.LabelKind.TheVariants.{Pref, Alt, Hidden}
 use Rattle.thes_base.specs.Data.{LabelData}
-use Rattle.thes_base.specs.Labels.{Label, Labels, HasLabel, S13, is_name, label_kind_no}
+use Rattle.thes_base.specs.Labels.{Label, Labels, HasLabel, S13, is_name}
 use Rattle.thes_base.specs.Changes.{HasName, IsGiven, has_name, taken_kind, taken_labels}
 use Rattle.thes_base.specs.Machine.{owned}
 use Rattle.thes_base.proofs.LabelSets.{labels_total, labels_exact}
-use Rattle.thes_base.proofs.MergedLabels.{name_of, takes_labels}
+use Rattle.thes_base.proofs.MergedLabels.{name_of, takes_labels, name_taken}
 use Rattle.thes_vocab.specs.LabelData.{AreLabelsOf, data_cmp, own_label}
 use Rattle.thes_vocab.specs.Taken.{takes, taken}
+use Rattle.thes_vocab.proofs.OwnLemmas.{data_exact, data_total}
 use Rattle.thes_rows.specs.Tables.{IsIn, Once, Lists}
-use Rattle.thes_rows.proofs.Sets.{Absent, inserted, absent_by, turned_by, clash, any_in, in_any, in_filter, filter_in, in_map, map_in}
+use Rattle.thes_rows.proofs.Sets.{Absent, inserted, absent_by, turned_by, clash, any_in, in_any, in_filter, filter_in, in_map, map_in, once_map}
 use Rattle.thes_core.specs.Deltas.{taken_rows}
-use Rattle.thes_core.proofs.ShownLemmas.{data_exact}
 
 -- Labels in order stand once.
-
-data_total : IsTotalOrder data_cmp
-data_total =
-    then_total (then_total (on_total (λ (l : LabelData). label_kind_no l.kind) nat_cmp_total) (on_total (λ (l : LabelData). l.tag) nat_list_cmp_total))
-    (on_total (λ (l : LabelData). l.text) nat_list_cmp_total)
 
 not_later : (l : LabelData) (ls : List LabelData) → AllByRecursion (λ y. data_cmp l y ≡ Less) ls → IsIn l ls → ⊥
 not_later l [] below h = h
@@ -42,19 +35,6 @@ once_ordered [] up = tt
 once_ordered (l ∷ ls) up = (not_later l ls up.0, once_ordered ls up.1)
 
 -- each stands once where no two are made one
-once_map : {A B : Type 0} (f : A → B) (xs : List A) → ((x y : A) → IsIn x xs → IsIn y xs → f x ≡ f y → x ≡ y) → Once xs → Once (map f xs)
-once_map f [] apart once = tt
-once_map {A} f (x ∷ xs) apart once = (
-  λ h. (let m = in_map f (f x) xs h in let same = apart x m.0 (inl refl) (inr m.1) m.2 in let Q : A → Type 0 = λ y. IsIn y xs in once.0 (subst Q (sym same) m.1)),
-  once_map f xs (λ y z a b e. apart y z (inr a) (inr b) e) once.1,
-)
-
-name_taken : (k : LabelKind) → is_name k ≡ true → is_name (taken_kind k) ≡ true
-name_taken Pref n = refl
-name_taken Alt n = refl
-name_taken Hidden n = refl
-name_taken Scope n = n
-
 module _ (labels : Labels) (source target : ℕ) (disjoint : S13 labels) (own : List LabelData) (are : AreLabelsOf labels source own) where
   abbrev after : Labels
   after = set.union labels (taken_labels source target labels)

@@ -1,7 +1,7 @@
 //! A keeper in memory of which a few calls fail.
-ghost use Rattle.std.specs.Prelude.{◌≡◌, ◌≤◌, ◌<◌, ◌⊎◌};
+ghost use Rattle.std.specs.Prelude.{◌≡◌};
 ghost use Rattle.thes_base.specs.declared.fault.Fault.{Fault};
-ghost use Rattle.thes_store.specs.Causes.{most};
+ghost use Rattle.thes_store.specs.Causes.{IsCounted};
 
 use thes_base::fault::Fault;
 use thes_base::number::{PostNo, ResNo};
@@ -59,8 +59,7 @@ impl Faltering {
     fn fail(&mut self) -> Fault
         ensures fault { result ≡ Fault.Store }
         ensures same { self.new.keeper ≡ self.old.keeper }
-        ensures later { self.old.failures ≤ self.new.failures }
-        ensures counted { (self.old.failures < self.new.failures) ⊎ (self.old.failures ≡ most) }
+        ensures counted { IsCounted self.old.failures self.new.failures result }
     {
         self.failures = self.failures.saturating_add(1);
         Fault::Store

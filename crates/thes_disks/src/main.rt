@@ -14,7 +14,6 @@ mod fate;
 mod faults;
 mod migration;
 mod requests;
-mod rows;
 mod stop;
 mod stores;
 mod told;

@@ -1,7 +1,6 @@
 //! Stores in databases, and what they show.
 use crate::disk::{Disks, Store, cut, end, killed, open};
 use crate::example::Example;
-use crate::rows::Rows;
 use crate::stop::Stop;
 use crate::told::{Told, base, perform, show};
 use sqlite::{Alter, Connection, Files};
@@ -9,6 +8,7 @@ use sqlite_disk::Disk;
 use std::alloc::Global;
 use thes_base::fault::Fault;
 use thes_base::text::Base;
+use thes_keeping::rows::Rows;
 use thes_sql::create::create_tables;
 use thes_sqlite::keeper::SqlKeeper;
 use thes_sqlite::migrating::migrate;

@@ -1,7 +1,6 @@
 //! Examples over a keeper, and what is told of them. What an office promises is long, and a proof that meets it takes
 //! long: so each call of it stands in a function of its own, which promises nothing of that.
 use crate::example::{Example, has_fault};
-use crate::rows::Rows;
 use crate::stop::Stop;
 use std::alloc::Global;
 use std::str;
@@ -11,6 +10,7 @@ use thes_base::text::Base;
 use thes_desks::serve_in;
 use thes_exchange::script::Ended;
 use thes_importer::postings::{Halted, Imported, import_postings};
+use thes_keeping::rows::Rows;
 use thes_office::Office;
 use thes_service::FrontDesk;
 use thes_store::keeper::Keeper;
@@ -175,11 +175,22 @@ fn verdict<K: Keeper>(alloc: Global, keeper: K) -> (K, &'static str) {
     }
 }
 
+// Adds a line that tells how a store loads whose rows were handed so.
+fn push_verdict(rows: &mut Rows, handed: Result<(), Fault>, verdict: &str) -> Result<(), Stop> {
+    if handed.is_err() {
+        return Err(Stop);
+    }
+    rows.text.push_str(verdict)?;
+    rows.text.push('\n')?;
+    Ok(())
+}
+
 /// Adds the rows of a keeper, and how an office starts over it.
 pub fn show<K: Keeper>(alloc: Global, mut keeper: K, shown: &mut Rows) -> (K, Result<(), Stop>) {
     let listed = list(&mut keeper, shown);
     let (keeper, verdict) = verdict(alloc, keeper);
-    (keeper, shown.end(listed, verdict))
+    let ended = push_verdict(shown, listed, verdict);
+    (keeper, ended)
 }
 
 /// Makes the base of each store.

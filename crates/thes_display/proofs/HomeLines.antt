@@ -8,7 +8,7 @@ use Rattle.std.proofs.lemmas.Map.Steps.{length-le_from_distinct_below}
 use Rattle.std.proofs.lemmas.Option.{slice_get-get_or}
 use Rattle.thes_base.specs.declared.data.LinkKind.{LinkKind}
 use Rattle.thes_base.specs.declared.data.LinkKind.TheVariants as kinds
-use Rattle.thes_base.specs.Links.{Chain, HeldIn, IsAbove, Leads, Links, NoCycle, Path, broader_way}
+use Rattle.thes_base.specs.Links.{HeldIn, IsAbove, Leads, Links, NoCycle, Path}
 use Rattle.thes_base.specs.Links as links_of
 use Rattle.thes_base.specs.Listing.{IsListing}
 use Rattle.thes_base.specs.Views.{HasBroader}

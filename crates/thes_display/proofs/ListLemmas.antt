@@ -20,9 +20,6 @@ at_last [] cs = refl
 at_last (x ∷ below) cs = at_last below cs
 
 module _ (links : Links) (terms : List Term) where
-  pub below_none : (below : List (Vec Child Global)) → below ≡ [] → AreBelow links terms 0 (lists below)
-  below_none below e = record { size = ap (λ (v : List (Vec Child Global)). length (lists v)) e; each = λ b l. absurd (omega arith) }
-
   pub below_more : (m : ℕ) (below new : List (Vec Child Global)) (v : Vec Child Global) → AreBelow links terms m (lists below) → IsListing child_cmp (IsChild links terms m) v.items → new ≡ below ++ v ∷ [] → AreBelow links terms (m + 1) (lists new)
   below_more m below new v a listed e =
       let more : lists new ≡ lists below ++ v.items ∷ [] = ap lists e ∙ map-append (λ (x : Vec Child Global). x.items) below (v ∷ []) in

@@ -3,15 +3,13 @@ use Rattle.std.proofs.Common.{◌≢◌, Less, set, append-nil, replicate, add-o
 use Rattle.thes_display.specs.declared.walk.Child.{Child}
 use Rattle.thes_display.specs.declared.walk.Waiting.{Waiting}
 use Rattle.thes_display.specs.Order.{Term}
-use Rattle.thes_display.specs.Lines.{Line, lines_text}
-use Rattle.thes_display.specs.Below.{at, IsLineOf, IsHierarchy, waiting_at, IsHierarchyText}
+use Rattle.thes_display.specs.Lines.{Line, lines_text, path, line_cmp, line_text, line_end, placed_text, types_text, text_at, IsHomeward, IsPlaced, untyped}
+use Rattle.thes_display.specs.Below.{at, IsLineOf, IsHierarchy, waiting_at, IsHierarchyText, child, IsTopOf, IsUnder, IsTypedUnder}
 use Rattle.std.proofs.lemmas.List.{reverse-append, reverse-reverse, length-reverse, map-append}
-use Rattle.std.proofs.lemmas.Bool.{cases_eq}
 use Rattle.std.proofs.lemmas.List.Concat.{flat_map-append}
-use Rattle.thes_display.specs.Lines.{path, line_cmp, line_text, line_end, placed_text, types_text, text_at, IsHomeward, IsPlaced, untyped}
-use Rattle.thes_display.specs.Below.{child, IsTopOf, IsUnder, IsTypedUnder}
 use Rattle.thes_display.proofs.WalkLemmas.{Among, among, contains_of, among_map, map_among, among_left, among_right, among_append, IsWalk, rises_none, less_itself, up, onto, placed, placed_apart, walk_step, walk_done}
 use Rattle.thes_display.proofs.PlaceLemmas.{below_away, below_home, children_below, one_home_line, line_known}
+use Rattle.thes_base.proofs.ResourceLemmas.{same_or_not}
 
 -- a line as it waits
 abbrev pub frame : Line → Waiting
@@ -32,9 +30,6 @@ pub record IsUnderWay (terms : List Term) (tops : List Child) (below : List (Lis
 
 not_below_line : (l : Line) → line_cmp l l ≡ Less → ⊥
 not_below_line l e = let t = less_itself (path l) in cc
-
-decided : (m k : ℕ) → (m ≡ k) ⊎ (m ≢ k)
-decided m k = elim (cases_eq m k) [ inl e ↦ inl e | inr e ↦ inr e ]
 
 at_other : (left : List (List Child)) (i k : ℕ) → k ≢ i → at (set left i []) k ≡ at left k
 at_other [] i k ne = refl
@@ -183,7 +178,7 @@ module _ (terms : List Term) (tops : List Child) (below : List (List Child)) (n 
     left_more : (left' : List (List Child)) → next.at_home ≡ true → left' ≡ set left next.key [] → (k : ℕ) → (at left' k ≡ at below k) ⊎ ((w : Line) × Among w (s.written ++ s.line ∷ []) × (w.at_home ≡ true) × (w.key ≡ k))
     left_more left' home e k =
         let here : next.key ≡ s.line.key = ap (λ (f : Waiting). f.key) s.next_is in
-        elim (decided k next.key) [
+        elim (same_or_not k next.key) [
           | inl same ↦ inr (s.line, among_right s.line s.written (s.line ∷ []) (inl refl), sym next_home ∙ home, sym here ∙ sym same)
           | inr other ↦
               ⊎_elim (λ f. inl (ap (λ x. at x k) e ∙ at_other left next.key k other ∙ f))

@@ -1,12 +1,10 @@
 -- A hierarchy as lists: what stands directly below each concept, and at its top.
-use Rattle.std.specs.Prelude.{◌≡◌, ◌<◌, ℕ, List, [], Bool, true, false, Contains, length, map, slice_get}
+use Rattle.std.specs.Prelude.{◌≡◌, ◌<◌, ℕ, List, [], Bool, true, false, Contains, length, map, slice_get, sum_by, vec_len, Vec}
 use Rattle.std.specs.Option.{option_map_or}
 use Rattle.std.specs.declared.cmp.Ordering.{Ordering}
 use Rattle.std.specs.Ordering.{nat_cmp}
 use Rattle.std.specs.List.Sorted.{IsStrictlySortedBy}
 use Rattle.thes_display.specs.declared.walk.Child.{Child}
-use Rattle.std.specs.Prelude.{sum_by, vec_len}
-use Rattle.std.specs.Prelude.{Vec}
 use Rattle.std.specs.declared.alloc.Global.{Global}
 use Rattle.thes_base.specs.Listing.{IsListing}
 use Rattle.thes_display.specs.declared.walk.Waiting.{Waiting}

@@ -1,6 +1,5 @@
 -- What is gathered of a state before its hierarchy is walked.
-use Rattle.std.specs.Prelude.{◌≡◌, ℕ, List, Bool, true, false, Option, None, Some}
-use Rattle.std.specs.Prelude.{◌<◌, length, slice_get}
+use Rattle.std.specs.Prelude.{◌≡◌, ℕ, List, Bool, true, false, Option, None, Some, ◌<◌, length, slice_get}
 use Rattle.thes_base.specs.Listing.{IsListing}
 use Rattle.thes_base.specs.Views.{HasLink}
 use Rattle.thes_base.specs.declared.data.LinkKind.{LinkKind}

@@ -11,17 +11,6 @@ use Rattle.thes_export.specs.Topics.{Adds, IsLineOf}
 pub added_none : (Is : List ℕ → Type 0) (xs : List (List ℕ)) → ((l : List ℕ) → Is l → ⊥) → Adds Is xs xs
 added_none Is xs none = record { each = λ l. (inl, ⊎_elim (λ c. c) (λ is. absurd (none l is))) }
 
--- one line is added
-pub added_line : (line : List ℕ) (old new : List (List ℕ)) → new ≡ old ++ line ∷ [] → Adds (λ l. l ≡ line) old new
-added_line line old new e = record {
-  each = λ l. (
-    λ c. ⊎_elim inl (λ d. inr (⊎_elim sym (λ no. absurd (Contains-none l no)) (Contains-cons_cases line [] l d))) (Contains-append_cases old (line ∷ []) l (subst (λ xs. Contains xs l) e c)),
-    ⊎_elim
-        (λ c. subst (λ xs. Contains xs l) (sym e) (Contains-append_left old (line ∷ []) l c))
-        (λ same. subst (λ xs. Contains xs l) (sym e) (Contains-append_right old (line ∷ []) l (subst (Contains (line ∷ [])) (sym same) (Contains-head line [])))),
-  );
-}
-
 -- the same, told otherwise
 pub added_same : (Is Other : List ℕ → Type 0) (old new : List (List ℕ)) → ((l : List ℕ) → Is l → Other l) → ((l : List ℕ) → Other l → Is l) → Adds Is old new → Adds Other old new
 added_same Is Other old new to from adds = record {

@@ -18,9 +18,6 @@ tail_of c d x y e = cc
 pub apart : {A : Type 0} (c d : ℕ) (x y : List ℕ) → (c ≡ d → ⊥) → c ∷ x ≡ d ∷ y → A
 apart c d x y never e = absurd (never (head_of c d x y e))
 
-nothing_before : {A : Type 0} (c : ℕ) (x : List ℕ) → [] ≡ c ∷ x → A
-nothing_before c x e = absurd (cc)
-
 -- Gaps.
 
 -- no gap stands before a byte that is no blank

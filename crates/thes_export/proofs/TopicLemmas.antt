@@ -21,8 +21,9 @@ use Rattle.thes_base.specs.Triples.{Triple}
 use Rattle.thes_base.specs.Views.{HasLink, HasBroader, IsMapping, mapping_cmp}
 use Rattle.thes_base.proofs.ListMembers.{Contains-none, Contains-head, Contains-later, Contains-cons_cases}
 use Rattle.thes_vocab.specs.LabelData.{AreLabelsOf, data_cmp, has_own}
+use Rattle.thes_vocab.proofs.OwnLemmas.{data_exact}
 use Rattle.thes_core.specs.Kept.{Kept}
-use Rattle.thes_core.proofs.ShownLemmas.{data_exact, data_itself}
+use Rattle.thes_core.proofs.ShownLemmas.{data_itself}
 use Rattle.thes_export.specs.declared.topic.Topic.{Topic}
 use Rattle.thes_export.specs.declared.topic.Topic.TheVariants.{Kind, Belonging, Top, Death, Replacement, Labels, Broader, Narrower, Related, Mappings, Memberships}
 use Rattle.thes_export.specs.Spelling.{line_of}
@@ -83,9 +84,6 @@ module _ (core : Kept) (n : ℕ) (r : Resource) where
       (λ t is. (m, scheme_at found ∙ sym e, is))
       (λ t w. let same : w.0 ≡ m = (let q : Some w.0 ≡ Some m = sym w.1 ∙ scheme_at found ∙ sym e in cc) in w.2 ∙ ap (node_triple core n property.InScheme) same)
 
-  pub no_belonging : (xs : List (List ℕ)) → numbered core.resources n ≡ Some r → None ≡ r.scheme → Adds (IsLineOf (IsOf core Belonging n)) xs xs
-  no_belonging xs found e = no_lines (IsOf core Belonging n) xs (λ t w. let q : Some w.0 ≡ None = sym w.1 ∙ scheme_at found ∙ sym e in cc)
-
   pub replacement_line : (m : ℕ) (old new : List (List ℕ)) → numbered core.resources n ≡ Some r → Some m ≡ r.replaced → Adds (IsLineOf (IsNode core n property.IsReplacedBy m)) old new → Adds (IsLineOf (IsOf core Replacement n)) old new
   replacement_line m old new found e =
       same_lines (IsNode core n property.IsReplacedBy m) (IsOf core Replacement n) old new
@@ -94,9 +92,6 @@ module _ (core : Kept) (n : ℕ) (r : Resource) where
       let by = w.1 in
       let same : w.0 ≡ m = (let q : Some w.0 ≡ Some m = sym by.2 ∙ ap (λ (z : Resource). z.replaced) (same_resource by.0 found by.1) ∙ sym e in cc) in
       w.2 ∙ ap (node_triple core n property.IsReplacedBy) same)
-
-  pub no_replacement : (xs : List (List ℕ)) → numbered core.resources n ≡ Some r → None ≡ r.replaced → Adds (IsLineOf (IsOf core Replacement n)) xs xs
-  no_replacement xs found e = no_lines (IsOf core Replacement n) xs (λ t w. let by = w.1 in let q : Some w.0 ≡ None = sym by.2 ∙ ap (λ (z : Resource). z.replaced) (same_resource by.0 found by.1) ∙ sym e in cc)
 
   -- Dead concepts.
 
@@ -107,27 +102,11 @@ module _ (core : Kept) (n : ℕ) (r : Resource) where
       ((r, found, parts.0), (λ live. both_ways r.live (not-true r.live parts.1) (ap (λ (z : Resource). z.live) (sym (same_resource live.0 found live.1)) ∙ live.2)), refl)
       (λ t w. w.2)
 
-  live_or : (a b : Bool) → (a && not b) ≡ false → a ≡ true → b ≡ true
-  live_or true true e f = refl
-  live_or true false e f = absurd (true≢false e)
-  live_or false b e f = absurd (true≢false (sym f))
-
-  pub no_death : (xs : List (List ℕ)) → numbered core.resources n ≡ Some r → (is_concept_kind r.kind && not r.live) ≡ false → Adds (IsLineOf (IsOf core Death n)) xs xs
-  no_death xs found e = no_lines (IsOf core Death n) xs (λ t w.
-      let concept = w.0 in
-      w.1 (r, found, live_or (is_concept_kind r.kind) r.live e (ap (λ (z : Resource). is_concept_kind z.kind) (sym (same_resource concept.0 found concept.1)) ∙ concept.2)))
-
-  pub no_mappings : (xs : List (List ℕ)) → numbered core.resources n ≡ Some r → is_concept_kind r.kind ≡ false → Adds (IsLineOf (IsOf core Mappings n)) xs xs
-  no_mappings xs found e = no_lines (IsOf core Mappings n) xs (λ t w. let concept = w.0 in true≢false (sym concept.2 ∙ ap (λ (z : Resource). is_concept_kind z.kind) (same_resource concept.0 found concept.1) ∙ e))
-
   -- Top concepts.
 
   pub no_top : (broader xs : List ℕ) (empty : Bool) → xs ≡ broader → IsListing nat_cmp (HasBroader core.links n) broader → empty ≡ (length xs == 0) → empty ≡ false → (m : ℕ) → IsTopIn core n m → ⊥
   no_top [] xs empty same listed is e m top = true≢false (sym (is ∙ ap (λ (ys : List ℕ). length ys == 0) same) ∙ e)
   no_top (b ∷ broader) xs empty same listed is e m top = top.2 b (listed.sound b (Contains-head b broader))
-
-  pub not_live_top : numbered core.resources n ≡ Some r → (is_concept_kind r.kind && r.live) ≡ false → (m : ℕ) → IsTopIn core n m → ⊥
-  not_live_top found e m top = let live = top.0 in true≢false (sym live.2 ∙ ap (λ (z : Resource). is_concept_kind z.kind && z.live) (same_resource live.0 found live.1) ∙ e)
 
   pub top_scheme : (broader xs : List ℕ) (empty : Bool) (scheme : Option ℕ) → xs ≡ broader → numbered core.resources n ≡ Some r → (is_concept_kind r.kind && r.live) ≡ true → IsListing nat_cmp (HasBroader core.links n) broader → empty ≡ (length xs == 0) → empty ≡ true → scheme ≡ r.scheme → IsTopScheme core n scheme
   top_scheme (b ∷ broader) xs empty scheme same found live listed is e of =
@@ -136,9 +115,6 @@ module _ (core : Kept) (n : ℕ) (r : Resource) where
   top_scheme [] xs empty (Some m) same found live listed is e of = ((r, found, live), scheme_at found ∙ sym of, λ b has. Contains-none b (listed.complete b has))
 
 module _ (core : Kept) (n : ℕ) where
-  pub no_top_lines : (xs : List (List ℕ)) → ((m : ℕ) → IsTopIn core n m → ⊥) → Adds (IsLineOf (IsOf core Top n)) xs xs
-  no_top_lines xs none = no_lines (IsOf core Top n) xs (λ t w. none w.0 w.1)
-
   same_top : (m k : ℕ) → IsTopIn core n m → IsTopIn core n k → k ≡ m
   same_top m k a b = let q : Some k ≡ Some m = sym b.1 ∙ a.1 in cc
 
@@ -199,9 +175,6 @@ module _ (core : Kept) (n : ℕ) where
 
   pub match_line : (k : LinkKind) (p : Property) (m : ℕ) (old new : List (List ℕ)) → HasLink core.links k n m → Adds (IsLineOf (IsNode core n p m)) old new → Adds (IsLineOf (IsMatch core k n p m)) old new
   match_line k p m old new held = same_lines (IsNode core n p m) (IsMatch core k n p m) old new (λ t e. (held, e)) (λ t w. w.1)
-
-  pub no_match : (k : LinkKind) (p : Property) (m : ℕ) (xs : List (List ℕ)) → (HasLink core.links k n m → ⊥) → Adds (IsLineOf (IsMatch core k n p m)) xs xs
-  no_match k p m xs none = no_lines (IsMatch core k n p m) xs (λ t w. none w.0)
 
   abbrev Maps : Triple → Type 0
   Maps t = (p : Property) × Nodes core p (MapsBy core p n) n t

@@ -1,24 +1,22 @@
 -- Two walks in turn: what they find between the low node and the high one, and what it costs.
-use Rattle.std.proofs.Common.{◌≡◌, ◌≢◌, ◌+◌, ◌-◌, ◌*◌, ◌≤◌, ◌<◌, ◌⊎◌, inl, inr, ℕ, List, [], ◌∷◌, length, sym, subst, arith, Contains, Bool, true, false, Option, Some, None, refl, ap, take, get_or}
+use Rattle.std.proofs.Common.{◌≡◌, ◌+◌, ◌-◌, ◌*◌, ◌≤◌, ◌<◌, inl, inr, ℕ, List, [], ◌∷◌, length, sym, subst, arith, Contains, Bool, true, false, Option, Some, None, ap, take, get_or}
 use Rattle.std.proofs.lemmas.List.{take_all}
 use Rattle.std.proofs.lemmas.List.Elements.{Contains-get_or}
 use Rattle.std.specs.Bool.{MatchBool}
 use Rattle.thes_base.specs.declared.data.Link.{Link}
-use Rattle.thes_base.specs.declared.data.LinkKind.{LinkKind}
 use Rattle.thes_base.specs.declared.fault.Refusal.{Refusal}
 use Rattle.thes_base.specs.declared.fault.Refusal.TheVariants as no
-use Rattle.thes_base.specs.Links.{Links, HeldIn, Chain, IsBroader, IsAbove, IsRelated}
+use Rattle.thes_base.specs.Links.{Links, Chain, IsBroader, IsAbove}
 use Rattle.thes_base.proofs.ListMembers.{Contains-head, Contains-cons_cases, Contains-none}
 use Rattle.thes_graph.specs.declared.relation.Relation.{Relation}
-use Rattle.thes_graph.specs.declared.relation.Relation.TheVariants.{Broader, Narrower, Related}
+use Rattle.thes_graph.specs.declared.relation.Relation.TheVariants.{Broader, Narrower}
 use Rattle.thes_graph.specs.declared.side.Side.TheVariants.{Beside}
 use Rattle.thes_graph.specs.declared.sight.Sight.{Sight}
 use Rattle.thes_graph.specs.declared.trail.Trail.{Trail}
-use Rattle.thes_graph.specs.Local.{UpTo}
 use Rattle.thes_graph.specs.Side.{side_in}
 use Rattle.thes_graph.specs.Sight.{WouldBe, CoversAt}
-use Rattle.thes_graph.specs.Steps.{Steps, Reaches, IsReachOf}
-use Rattle.thes_graph.specs.Trail.{spent, IsHierarchy, IsTrail, LeadsTo, IsPaid, GoesOn, AreInTurn, HaveMet, AreTied, AreApart, IsRest, IsBrokenBetween, CoversBetween}
+use Rattle.thes_graph.specs.Steps.{Steps, Reaches}
+use Rattle.thes_graph.specs.Trail.{spent, IsHierarchy, IsTrail, LeadsTo, GoesOn, AreInTurn, HaveMet, IsRest, IsBrokenBetween, CoversBetween}
 use Rattle.thes_graph.proofs.PivotLemmas.{Chain-turn}
 use Rattle.thes_graph.proofs.ProbeLemmas.{narrower_from, narrower_to, below_from, below_to}
 use Rattle.thes_graph.proofs.KindLemmas.{related_turns}

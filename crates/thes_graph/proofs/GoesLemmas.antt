@@ -1,11 +1,11 @@
 -- A walk that goes on by one node.
-use Rattle.std.proofs.Common.{◌≡◌, ◌+◌, ◌*◌, ◌≤◌, ◌<◌, inl, inr, ℕ, List, [], ◌∷◌, ◌++◌, length, take, get_or, ap, sym, subst, ◌∙◌, arith, refl, Contains, sum_by, below_more, length-append, append-nil, ◌≢◌, Bool, true, false, nat_eq}
+use Rattle.std.proofs.Common.{◌≡◌, ◌+◌, ◌≤◌, ◌<◌, ℕ, List, [], ◌∷◌, ◌++◌, length, take, get_or, ap, sym, subst, ◌∙◌, arith, Contains, sum_by, below_more, length-append, append-nil, ◌≢◌, Bool, true, false, nat_eq}
 use Rattle.std.specs.List.{IsDistinct}
 use Rattle.std.proofs.lemmas.List.{take_more, take-append-le, get_or_append_left, get_or_default}
 use Rattle.std.proofs.lemmas.List.Elements.{Contains-get_or}
 use Rattle.std.proofs.lemmas.List.Sums.{sum_by_push, sum_by-take-le}
 use Rattle.thes_base.specs.declared.data.Link.{Link}
-use Rattle.thes_base.specs.Links.{Links, Chain}
+use Rattle.thes_base.specs.Links.{Links}
 use Rattle.thes_graph.specs.declared.relation.Relation.{Relation}
 use Rattle.thes_graph.specs.declared.side.Side.TheVariants.{Beside}
 use Rattle.thes_graph.specs.declared.sight.Sight.{Sight}
@@ -13,7 +13,7 @@ use Rattle.thes_graph.specs.declared.trail.Trail.{Trail}
 use Rattle.thes_graph.specs.Side.{side_in, side_no, IsWalked}
 use Rattle.thes_graph.specs.declared.relation.Relation.TheVariants.{Broader, Narrower}
 use Rattle.thes_graph.specs.Sight.{WouldBe, CoversAt}
-use Rattle.thes_graph.specs.Steps.{Steps, Reaches, IsReachOf, IsClosedBelow, GrowsBy}
+use Rattle.thes_graph.specs.Steps.{Steps, Reaches, IsReachOf, IsClosedBelow}
 use Rattle.thes_graph.specs.Trail.{Finds, weight, spent, IsHierarchy, IsTrail, LeadsTo, IsPaid, GoesOn}
 use Rattle.thes_graph.proofs.PivotLemmas.{Reaches-then_chain, Chain-one}
 use Rattle.thes_graph.proofs.ProbeLemmas.{Path-last}

@@ -19,6 +19,7 @@ use Rattle.thes_base.specs.Links.{Links, link_cmp, HeldIn, norm}
 use Rattle.thes_base.specs.Listing.{IsListing}
 use Rattle.thes_base.proofs.LinkSets.{links_total, links_exact, link_inserted_cases}
 use Rattle.thes_base.proofs.ListMembers.{Contains-none, Contains-map, Contains-from_map, Contains-filter, Contains-from_filter}
+use Rattle.thes_base.proofs.ResourceLemmas.{same_or_not}
 use Rattle.thes_lists.specs.declared.lists.Lists.{Lists}
 use Rattle.thes_lists.specs.Lists.{listed_at, AreSame, ChangesAt}
 use Rattle.thes_lists.proofs.MemberLemmas.{Has-from, Contains-from}
@@ -31,7 +32,6 @@ use Rattle.thes_graph.specs.Reading.{EndsAt, IsRow}
 use Rattle.thes_graph.specs.Net.{ends_at, in_order, listed, arranged, standings_at, links_at}
 use Rattle.thes_graph.specs.Whole.{AreAll}
 use Rattle.thes_graph.specs.Index.{IsIndexed}
-use Rattle.thes_graph.proofs.PivotLemmas.{same_or_not}
 use Rattle.thes_graph.proofs.LinkOrderLemmas.{computed, computed_is, arranging, arranging_is, standings_total, standings_exact}
 use Rattle.thes_graph.proofs.SetLemmas.{same_links, held_from_list, listed_of_held, held_of_item, item_of_held, inserted_held, insert_keeps, remove_keeps as remove_keeps_link, removed_cases}
 

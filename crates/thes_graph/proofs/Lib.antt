@@ -23,7 +23,6 @@ mod MappingLemmas
 mod ReaderLemmas
 mod WholeLemmas
 mod ClimbLemmas
-pub mod AnswerLemmas
 mod SideLemmas
 mod KindLemmas
 mod TrailLemmas

@@ -1,5 +1,5 @@
 -- What a node leads to after a merge, and what reading it costs.
-use Rattle.std.proofs.Common.{◌≡◌, ◌≢◌, ◌+◌, ◌≤◌, ◌⊎◌, inl, inr, ℕ, List, sym, subst, arith, sum_by}
+use Rattle.std.proofs.Common.{◌≢◌, ◌+◌, ◌≤◌, ◌⊎◌, inl, inr, ℕ, List, sym, subst, arith, sum_by}
 use Rattle.std.proofs.lemmas.List.Sums.{sum_by-le-sum_by}
 use Rattle.thes_base.specs.declared.data.Link.{Link}
 use Rattle.thes_base.specs.Links.{Links, HeldIn}
@@ -11,7 +11,7 @@ use Rattle.thes_graph.specs.Side.{IsWalked}
 use Rattle.thes_graph.specs.Sight.{WouldBe, CoversAt}
 use Rattle.thes_graph.specs.Steps.{Steps}
 use Rattle.thes_graph.specs.Trail.{LeadsFrom, Stands, on, weight}
-use Rattle.thes_graph.proofs.ReadLemmas.{either_end, sum_by-two, node_after-source, node_after-stays, node_after-at, node_after-target, node_after-never_source}
+use Rattle.thes_graph.proofs.ReadLemmas.{either_end, sum_by-two, node_after-source, node_after-stays, node_after-at, node_after-target}
 use Rattle.thes_graph.proofs.SpentLemmas.{weight_target, weight_other}
 use Rattle.thes_graph.proofs.TrailLemmas.{Steps-merged}
 
@@ -33,11 +33,6 @@ module _ (held : Links) (source target : ℕ) (two : source ≢ target) where
         let back = Steps-merged held relation walked two_ends source target x y steps in
         let P : ℕ → Type 0 = λ at. LeadsFrom (Merged source target) held relation at x y in
         subst P (node_after-at source target two x back.0 away back.1) back.2
-
-    pub Steps-source : (y : ℕ) → Steps relation (WouldBe (Merged source target) held) source y → ⊥
-    Steps-source y steps =
-        let back = Steps-merged held relation walked two_ends source target source y steps in
-        node_after-never_source source target two back.0 back.1
 
   module _ (side : Side) (ns : List Link) where
     pub Stands-target : CoversAt (Merged source target) held target ns → Stands held target side ns × Stands held source side ns

@@ -3,14 +3,11 @@ use Rattle.std.proofs.Common.{◌≡◌, ℕ, List, Bool, true, false, nat_eq, C
 use Rattle.std.specs.Bool.{MatchBool}
 use Rattle.std.specs.List.{list_any}
 use Rattle.std.specs.Cmp.{nat_eq_equiv}
-use Rattle.std.proofs.lemmas.Bool.Decides.{Decides-eqb}
 use Rattle.std.proofs.lemmas.Map.Views.{list_any-from_Contains, Contains-from_any}
-
-one_from_test : (x y : ℕ) → nat_eq x y ≡ true → x ≡ y
-one_from_test x y e = (Decides-eqb x y).0 e
+use Rattle.thes_graph.proofs.NumberLemmas.{same_of}
 
 has_of_test : (nodes : List ℕ) (n : ℕ) → list_any (nat_eq n) nodes ≡ true → Contains nodes n
-has_of_test nodes n e = Contains-from_any one_from_test n nodes e
+has_of_test nodes n e = Contains-from_any same_of n nodes e
 
 test_of_has : (nodes : List ℕ) (n : ℕ) → Contains nodes n → list_any (nat_eq n) nodes ≡ true
 test_of_has nodes n has = list_any-from_Contains nat_eq_equiv n nodes has

@@ -1,5 +1,5 @@
 -- A merge: the new links are added, and those at the source dropped.
-use Rattle.std.proofs.Common.{◌≡◌, ◌≢◌, ◌⊎◌, ◌+◌, ◌<◌, ◌++◌, length, get_or, inl, inr, ℕ, zero, suc, List, [], ◌∷◌, Bool, true, false, ◌==◌, Contains, take, Option, Some, None, if◌then◌else◌, refl, sym, ap, subst, ◌∙◌, arith}
+use Rattle.std.proofs.Common.{◌≡◌, ◌≢◌, ◌⊎◌, ◌+◌, ◌<◌, ◌++◌, length, get_or, inl, inr, ℕ, zero, suc, List, [], ◌∷◌, Bool, true, false, ◌==◌, Contains, take, Option, Some, None, if◌then◌else◌, refl, sym, ap, subst, ◌∙◌}
 use Rattle.std.specs.Prelude.{option_and_then}
 use Rattle.std.specs.List.{filter_map, cons_option}
 use Rattle.std.specs.Option.{option_to_list}
@@ -12,15 +12,15 @@ use Rattle.std.proofs.lemmas.Option.{none-some, same_Some}
 use Rattle.thes_base.specs.declared.data.Link.{Link}
 use Rattle.thes_base.specs.Links.{Links, HeldIn, norm, sent, sent_link, contracted, without_node}
 use Rattle.thes_base.proofs.ListMembers.{Contains-none, Contains-head, Contains-later, Contains-cons_cases}
+use Rattle.thes_base.proofs.LinkLemmas.{sent_never, sent_other, sent_stays}
+use Rattle.thes_base.proofs.ResourceLemmas.{same_or_not}
 use Rattle.thes_graph.specs.Reading.{HaveTwoEnds, EndsAt}
 use Rattle.thes_graph.specs.Sight.{becomes}
 use Rattle.thes_graph.specs.declared.side.Standing.{Standing}
 use Rattle.thes_graph.specs.Side.{standing_at}
 use Rattle.thes_graph.specs.Net.{Net, is_marked, standings_at}
 use Rattle.thes_graph.specs.Moved.{AreNormal, AreMoved, AreNew, merged_link, unless_held, with_all}
-use Rattle.thes_graph.proofs.PivotLemmas.{same_or_not}
 use Rattle.thes_graph.proofs.SightLemmas.{becomes-ends, filter_map-from, filter_map-to}
-use Rattle.thes_graph.proofs.JudgeLemmas.{link_same}
 use Rattle.thes_graph.proofs.NormLemmas.{norm_ends, norm_two, norm_again}
 use Rattle.thes_graph.proofs.SetLemmas.{same_links}
 use Rattle.thes_graph.proofs.ContractLemmas.{contracted_from, contracted_to}
@@ -88,35 +88,25 @@ module _ (net : Net) (source target : ℕ) where
         normal m (l, n, _, _, is, _) = ap (norm (is_marked net)) is ∙ norm_again (is_marked net) n ∙ sym is
 
     module _ (different : source ≢ target) (two_ends : HaveTwoEnds (HeldIn net.links)) (normal : AreNormal net) where
-      sent_other : (x : ℕ) → x ≢ source → sent source target x ≡ x
-      sent_other x other = grind arith
-
-      sent_never : (x : ℕ) → sent source target x ≢ source
-      sent_never x at = grind arith
-
       off_a : (l : Link) → (EndsAt source l → ⊥) → l.a ≢ source
       off_a l off e = off (inl e)
 
       off_b : (l : Link) → (EndsAt source l → ⊥) → l.b ≢ source
       off_b l off e = off (inr e)
 
-      -- a link without an end at the source stays
-      sent_stays : (l : Link) → (EndsAt source l → ⊥) → sent_link source target l ≡ l
-      sent_stays l off = link_same l.kind l.kind (sent source target l.a) l.a (sent source target l.b) l.b refl (sent_other l.a (off_a l off)) (sent_other l.b (off_b l off))
-
       apart : (l : Link) → HeldIn net.links l → (EndsAt source l → ⊥) → (sent source target l.a == sent source target l.b) ≡ false
       apart l held off = false_from_ne_true (sent source target l.a == sent source target l.b)
-          (λ e. two_ends l held (sym (sent_other l.a (off_a l off)) ∙ (Decides-eqb (sent source target l.a) (sent source target l.b)).0 e ∙ sent_other l.b (off_b l off)))
+          (λ e. two_ends l held (sym (sent_other source target l.a (off_a l off)) ∙ (Decides-eqb (sent source target l.a) (sent source target l.b)).0 e ∙ sent_other source target l.b (off_b l off)))
 
       becomes_itself : (l : Link) → HeldIn net.links l → (EndsAt source l → ⊥) → becomes source target l ≡ Some l
-      becomes_itself l held off = ap (λ b. if b then None else Some (sent_link source target l)) (apart l held off) ∙ ap Some (sent_stays l off)
+      becomes_itself l held off = ap (λ b. if b then None else Some (sent_link source target l)) (apart l held off) ∙ ap Some (sent_stays source target l (off_a l off) (off_b l off))
 
       never_source : (l n : Link) → becomes source target l ≡ Some n → EndsAt source (norm (is_marked net) n) → ⊥
       never_source l n gives at = go (norm_ends (is_marked net) n source at)
         where
           go : EndsAt source n → ⊥
-          go (inl a) = sent_never l.a (sym (becomes-ends source target l n gives).1 ∙ a)
-          go (inr b) = sent_never l.b (sym (becomes-ends source target l n gives).2 ∙ b)
+          go (inl a) = sent_never source target different l.a (sym (becomes-ends source target l n gives).1 ∙ a)
+          go (inr b) = sent_never source target different l.b (sym (becomes-ends source target l n gives).2 ∙ b)
 
       ends_or_not : (l : Link) → EndsAt source l ⊎ (EndsAt source l → ⊥)
       ends_or_not l = go (same_or_not l.a source) (same_or_not l.b source)

@@ -3,7 +3,7 @@ use Rattle.std.proofs.Common.{◌≡◌, ◌⊎◌, inl, inr, ℕ, List, Bool, C
 use Rattle.std.specs.FinSet.{insert}
 use Rattle.thes_base.specs.declared.data.Link.{Link}
 use Rattle.thes_base.specs.Links.{Links, HeldIn, HasEnd, IsAbove, IsExact, contracted}
-use Rattle.thes_base.specs.Neighbourhood.{Edit, Add, Merge, Check}
+use Rattle.thes_base.specs.Neighbourhood.{Add, Merge, Check}
 use Rattle.thes_base.specs.Neighbourhood as edit
 use Rattle.thes_graph.specs.declared.sight.Sight.TheVariants.{AsHeld, With, Merged}
 use Rattle.thes_graph.specs.Sight.{WouldBe}

@@ -1,15 +1,18 @@
 -- A link and the same link in norm order say the same.
-use Rattle.std.proofs.Common.{◌≡◌, ◌≢◌, ◌⊎◌, inl, inr, ℕ, Option, Some, None, refl, sym, subst, ap, ◌∙◌, Bool, true, false, ◌&&◌, ◌||◌, nat_lt, if◌then◌else◌, arith}
-use Rattle.std.proofs.lemmas.Bool.Decides.{nat_tests}
+use Rattle.std.proofs.Common.{◌≡◌, ◌≢◌, ◌⊎◌, inl, inr, ℕ, Option, Some, None, refl, sym, subst, ap, ◌∙◌, Bool, true, false, ◌&&◌, ◌||◌, nat_lt, if◌then◌else◌}
 use Rattle.thes_base.specs.declared.data.Link.{Link}
 use Rattle.thes_base.specs.declared.data.LinkKind.{LinkKind}
 use Rattle.thes_base.specs.declared.data.Direction.TheVariants.{Either}
 use Rattle.thes_base.specs.declared.fault.Refusal.{Refusal}
-use Rattle.thes_base.specs.Links.{broader_way, related_way, exact_way, apart_way, is_symmetric, exchanged, norm, Leads, Joined, IsBroader, IsAbove, IsRelated, IsExact, IsApart, NoCycle, S27, S46, IsFirstBroken}
+use Rattle.thes_base.specs.Links.{broader_way, related_way, exact_way, apart_way, is_symmetric, exchanged, norm, Leads, Joined, IsBroader, IsAbove, IsRelated, IsExact, IsApart, NoCycle, S27, S46, IsFirstBroken, Links, HeldIn}
 use Rattle.thes_base.specs.declared.fault.Refusal.TheVariants as no
 use Rattle.thes_base.specs.declared.data.LinkKind.TheVariants.{Related, Exact, Close, RelMatch}
 use Rattle.thes_graph.specs.Reading.{EndsAt}
-use Rattle.thes_graph.proofs.PivotLemmas.{Chain-map}
+use Rattle.thes_graph.proofs.PivotLemmas.{Chain-map, BreakNone-within}
+use Rattle.thes_graph.specs.Local.{BreakNone, AwayFrom}
+use Rattle.thes_base.proofs.LinkSets.{link_inserted_cases}
+use Rattle.thes_base.proofs.LinksKept.{two_lts}
+use Rattle.std.specs.FinSet.{insert}
 
 -- what l says, m says too
 pub record Says (l m : Link) : Type 0 where
@@ -94,9 +97,6 @@ norm_cases f l = go (is_symmetric (f l.a || f l.b) l.kind) (nat_lt l.b l.a)
     go true false = inl refl
     go false t = inl refl
 
-lt_one_way : (a b : ℕ) → nat_lt b a ≡ true → nat_lt a b ≡ false
-lt_one_way a b e = grind (arith, nat_tests)
-
 pub norm_again : (f : ℕ → Bool) (l : Link) → norm f (norm f l) ≡ norm f l
 norm_again f l = go (norm_cases f l)
   where
@@ -108,7 +108,7 @@ norm_again f l = go (norm_cases f l)
     go (inl same) = ap (norm f) same
     go (inr (is, lt)) =
         ap (norm f) is
-        ∙ ap (λ t. if is_symmetric (f l.b || f l.a) l.kind && t then exchanged (exchanged l) else exchanged l) (lt_one_way l.a l.b lt)
+        ∙ ap (λ t. if is_symmetric (f l.b || f l.a) l.kind && t then exchanged (exchanged l) else exchanged l) (two_lts l.a l.b lt)
         ∙ stays (is_symmetric (f l.b || f l.a) l.kind)
         ∙ sym is
 
@@ -141,3 +141,17 @@ ends_norm f l n = go (norm_cases f l)
     go : (norm f l ≡ l) ⊎ ((norm f l ≡ exchanged l) × (nat_lt l.b l.a ≡ true)) → EndsAt n l → EndsAt n (norm f l)
     go (inl same) at = subst (EndsAt n) (sym same) at
     go (inr (is, _)) at = subst (EndsAt n) (sym is) (turn at)
+
+-- Where the links break no rule, and one with an end at p is added, those without an end at p break none: the condition of `check_at`.
+pub away_of_added : (is_outside : ℕ → Bool) (links : Links) (l : Link) (p : ℕ) → EndsAt p l → BreakNone (HeldIn links) → BreakNone (AwayFrom (HeldIn (insert links (norm is_outside l))) p)
+away_of_added is_outside links l p at = BreakNone-within (AwayFrom (HeldIn (insert links (norm is_outside l))) p) (HeldIn links) old
+  where
+    off : EndsAt p (norm is_outside l) → (norm is_outside l).a ≢ p → (norm is_outside l).b ≢ p → ⊥
+    off (inl a) not_a not_b = not_a a
+    off (inr b) not_a not_b = not_b b
+
+    old : (m : Link) → AwayFrom (HeldIn (insert links (norm is_outside l))) p m → HeldIn links m
+    old m (held, not_a, not_b) = elim (link_inserted_cases links (norm is_outside l) m held) [
+      | inl same ↦ absurd (off (ends_norm is_outside l p at) (subst (λ (w : Link). w.a ≢ p) same not_a) (subst (λ (w : Link). w.b ≢ p) same not_b))
+      | inr was ↦ was
+    ]

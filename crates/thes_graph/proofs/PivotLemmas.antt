@@ -1,6 +1,5 @@
 -- Which rule a set of links breaks, where all links that may break one end at the pivot.
-use Rattle.std.proofs.Common.{◌≡◌, ◌≢◌, ℕ, ◌⊎◌, inl, inr, List, [], ◌∷◌, ◌++◌, Option, Some, None, refl, sym, subst, ◌∙◌, true, false, nat_eq}
-use Rattle.std.proofs.lemmas.Bool.Decides.{Decides-eqb}
+use Rattle.std.proofs.Common.{◌≡◌, ◌≢◌, ℕ, ◌⊎◌, inl, inr, List, [], ◌∷◌, ◌++◌, Option, Some, None, sym, subst, ◌∙◌}
 use Rattle.thes_base.specs.declared.data.Link.{Link}
 use Rattle.thes_base.specs.declared.data.LinkKind.{LinkKind}
 use Rattle.thes_base.specs.declared.data.Direction.{Direction}
@@ -12,18 +11,9 @@ use Rattle.thes_graph.specs.Steps.{Reaches}
 use Rattle.thes_graph.specs.Local.{BreakNone, AwayFrom, UpTo, InClassOf, NoCycleAt, NoS27At, NoS46At, IsFirstBrokenAt}
 use Rattle.thes_base.specs.declared.fault.Refusal.TheVariants as no
 use Rattle.thes_base.specs.declared.data.LinkKind.TheVariants.{Exact}
+use Rattle.thes_base.proofs.ResourceLemmas.{same_or_not}
 
 -- two numbers are equal or not
-pub same_or_not : (a b : ℕ) → (a ≡ b) ⊎ (a ≢ b)
-same_or_not a b =
-    elim (nat_eq a b) as (λ t. nat_eq a b ≡ t → (a ≡ b) ⊎ (a ≢ b)) [
-      | true ↦ λ e. inl ((Decides-eqb a b).0 e)
-      | false ↦ λ e. inr (λ same. true_not_false (sym ((Decides-eqb a b).1 same) ∙ e))
-    ] refl
-  where
-    true_not_false : true ≡ false → ⊥
-    true_not_false e = cc
-
 -- joining chains
 module _ (S : ℕ → ℕ → Type 0) where
   Path-join : (x : ℕ) (ms : List ℕ) (y : ℕ) (ns : List ℕ) (z : ℕ) → Path S x ms y → Path S y ns z → Path S x (ms ++ y ∷ ns) z

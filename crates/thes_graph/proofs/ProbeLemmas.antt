@@ -3,15 +3,14 @@ use Rattle.std.proofs.Common.{◌≡◌, ◌⊎◌, inl, inr, ℕ, List, [], ◌
 use Rattle.thes_base.specs.declared.data.Link.{Link}
 use Rattle.thes_base.specs.declared.data.Direction.{Direction}
 use Rattle.thes_base.specs.declared.data.Direction.TheVariants.{Forward, Backward, Either, Never}
-use Rattle.thes_base.specs.Links.{broader_way, related_way, apart_way, Leads, Path, Chain, IsBroader, IsAbove, IsRelated, IsApart}
-use Rattle.thes_base.proofs.ListMembers.{Contains-head, Contains-cons_cases, Contains-none}
+use Rattle.thes_base.specs.Links.{broader_way, apart_way, Leads, Path, Chain, IsBroader, IsApart}
 use Rattle.thes_graph.specs.Steps.{turned, Steps, Reaches, Ties}
 use Rattle.thes_graph.specs.Local.{UpTo, InClassOf, NoS46At, IsGathered, IsNear, IsFirstBrokenAt}
 use Rattle.thes_graph.specs.Reading.{HaveTwoEnds}
 use Rattle.thes_graph.specs.Trail.{IsBrokenBetween}
 use Rattle.thes_base.specs.declared.fault.Refusal.{Refusal}
 use Rattle.thes_base.specs.declared.fault.Refusal.TheVariants as no
-use Rattle.thes_graph.specs.declared.relation.Relation.TheVariants.{Broader, Narrower, Related, Exact, Apart}
+use Rattle.thes_graph.specs.declared.relation.Relation.TheVariants.{Narrower, Exact, Apart}
 use Rattle.thes_graph.proofs.StepLemmas.{Leads-first}
 use Rattle.thes_graph.proofs.PivotLemmas.{Reaches-turn, Leads-two}
 
@@ -25,13 +24,6 @@ module _ (S : ℕ → ℕ → Type 0) where
       front : (y : ℕ) → Reaches S m y → Chain S x y
       front y (inl same) = subst (λ (w : ℕ). Chain S x w) same ([], path.0)
       front y (inr (ns, more)) = (m ∷ ns, (path.0, more))
-
-Leads-second : (d : Direction) (a b x y : ℕ) → Leads d a b x y → (a ≡ y) ⊎ (b ≡ y)
-Leads-second Forward a b x y (e, f) = inr f
-Leads-second Backward a b x y (e, f) = inl f
-Leads-second Either a b x y (inl (e, f)) = inr f
-Leads-second Either a b x y (inr (e, f)) = inl f
-Leads-second Never a b x y h = absurd h
 
 Leads-turned : (d : Direction) (a b x y : ℕ) → Leads (turned d) a b x y → Leads d a b y x
 Leads-turned Forward a b x y (e, f) = (f, e)

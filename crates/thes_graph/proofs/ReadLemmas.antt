@@ -5,7 +5,6 @@ use Rattle.std.proofs.lemmas.List.Elements.{Contains-append_left, Contains-appen
 use Rattle.std.proofs.lemmas.List.Sums.{sum_by-cons}
 use Rattle.thes_base.specs.declared.data.Link.{Link}
 use Rattle.thes_base.specs.Links.{Links, HeldIn}
-use Rattle.thes_base.proofs.ListMembers.{Contains-none}
 use Rattle.thes_graph.specs.declared.sight.Sight.{Sight}
 use Rattle.thes_graph.specs.declared.sight.Sight.TheVariants.{AsHeld, Merged}
 use Rattle.thes_graph.specs.Reading.{EndsAt, IsRow}
@@ -54,9 +53,6 @@ module _ (source target : ℕ) (two : source ≢ target) where
   pub node_after-source : (x : ℕ) → x ≡ source → node_after (Merged source target) x ≡ target
   node_after-source x same = ap (λ b. if b then target else x) ((Decides-eqb x source).1 same)
 
-  node_after-other : (x : ℕ) → x ≢ source → node_after (Merged source target) x ≡ x
-  node_after-other x other = grind arith
-
   node_after-cases : (x : ℕ) → ((x ≡ source) × (node_after (Merged source target) x ≡ target)) ⊎ ((x ≢ source) × (node_after (Merged source target) x ≡ x))
   node_after-cases x = grind arith
 
@@ -68,19 +64,6 @@ module _ (source target : ℕ) (two : source ≢ target) where
 
   pub node_after-target : (x : ℕ) → node_after (Merged source target) x ≡ target → (x ≡ target) ⊎ (x ≡ source)
   node_after-target x at = elim (node_after-cases x) [ inl (s, _) ↦ inr s | inr (_, e) ↦ inl (sym e ∙ at) ]
-
-  pub node_after-never_source : (x : ℕ) → node_after (Merged source target) x ≡ source → ⊥
-  node_after-never_source x at = grind arith
-
-  pub IsReadOf-source : (held : Links) → IsReadOf (Merged source target) held source []
-  IsReadOf-source held = record {
-    sound = λ l has. absurd (Contains-none l has);
-    complete = λ l has at. absurd (never l at);
-  }
-    where
-      never : (l : Link) → TouchesAt (Merged source target) source l → ⊥
-      never l (inl a) = node_after-never_source l.a a
-      never l (inr b) = node_after-never_source l.b b
 
   module _ (held : Links) (row more : List Link) (at_target : IsRow held target row) (at_source : IsRow held source more) where
     pub IsReadOf-target : IsReadOf (Merged source target) held target (row ++ more)

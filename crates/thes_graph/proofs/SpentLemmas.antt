@@ -6,7 +6,8 @@ use Rattle.thes_base.specs.declared.data.Link.{Link}
 use Rattle.std.proofs.lemmas.List.Sums.{sum_by-le-sum_by}
 use Rattle.thes_base.specs.declared.data.Direction.{Direction}
 use Rattle.thes_base.specs.declared.data.Direction.TheVariants.{Forward, Backward, Either, Never}
-use Rattle.thes_base.specs.Links.{Links, broader_way, related_way, exact_way}
+use Rattle.thes_base.specs.Links.{broader_way, related_way, exact_way}
+use Rattle.thes_base.proofs.ResourceLemmas.{same_or_not}
 use Rattle.thes_graph.specs.declared.relation.Relation.{Relation}
 use Rattle.thes_graph.specs.declared.relation.Relation.TheVariants.{Broader, Narrower}
 use Rattle.thes_graph.specs.declared.side.Side.{Side}
@@ -19,7 +20,6 @@ use Rattle.thes_graph.specs.Sight.{node_after, touches}
 use Rattle.thes_graph.specs.Trail.{on, weight, spent, IsHierarchy}
 use Rattle.thes_graph.specs.Steps.{turned}
 use Rattle.thes_graph.proofs.ReadLemmas.{one_at, sum_by-two}
-use Rattle.thes_graph.proofs.PivotLemmas.{same_or_not}
 use Rattle.thes_graph.proofs.CountLemmas.{met_twice, met_at_most, sum_by-one_at}
 
 -- one where the node is an end

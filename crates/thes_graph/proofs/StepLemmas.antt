@@ -22,15 +22,6 @@ GrowsBy-push xs y fresh = record {
   distinct = λ d. IsDistinct-push nat_eq_equiv xs y d (fresh);
 }
 
--- a node that is there
-pub GrowsBy-there : (xs : List ℕ) (y : ℕ) → Contains xs y → GrowsBy xs xs (λ z. y ≡ z)
-GrowsBy-there xs y there = record {
-  kept = ([], sym (append-nil xs));
-  taken = λ z same. subst (λ (w : ℕ). Contains xs w) same there;
-  only = λ z has. inl has;
-  distinct = λ d. d;
-}
-
 pub GrowsBy-none : (xs : List ℕ) (P : ℕ → Type 0) → ((y : ℕ) → P y → ⊥) → GrowsBy xs xs P
 GrowsBy-none xs P none = record {
   kept = ([], sym (append-nil xs));

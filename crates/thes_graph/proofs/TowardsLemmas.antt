@@ -1,8 +1,8 @@
 -- Two walks towards each other: what they find, and what they cost.
-use Rattle.std.proofs.Common.{◌≡◌, ◌≢◌, ◌+◌, ◌-◌, ◌*◌, ◌≤◌, ◌<◌, ◌⊎◌, inl, inr, ℕ, List, [], ◌∷◌, length, sym, subst, arith, Contains, Bool, true, false, refl}
+use Rattle.std.proofs.Common.{◌≡◌, ◌≢◌, ◌+◌, ◌-◌, ◌≤◌, ◌<◌, ◌⊎◌, inl, inr, ℕ, List, [], ◌∷◌, length, sym, subst, arith, Contains, Bool, true, false, refl}
 use Rattle.std.specs.Bool.{MatchBool}
 use Rattle.thes_base.specs.declared.data.Link.{Link}
-use Rattle.thes_base.specs.Links.{Links, HeldIn, Chain, IsBroader, IsAbove}
+use Rattle.thes_base.specs.Links.{Links, HeldIn, Chain, IsBroader}
 use Rattle.thes_graph.specs.Local.{UpTo}
 use Rattle.thes_graph.specs.Whole.{HasEndAbove, HasNoEndAbove}
 use Rattle.thes_base.proofs.ListMembers.{Contains-head, Contains-cons_cases, Contains-none}
@@ -10,9 +10,8 @@ use Rattle.thes_graph.specs.declared.relation.Relation.{Relation}
 use Rattle.thes_graph.specs.declared.relation.Relation.TheVariants.{Broader, Narrower}
 use Rattle.thes_graph.specs.declared.sight.Sight.TheVariants.{AsHeld}
 use Rattle.thes_graph.specs.declared.trail.Trail.{Trail}
-use Rattle.thes_graph.specs.Sight.{WouldBe}
 use Rattle.thes_graph.specs.Steps.{Steps}
-use Rattle.thes_graph.specs.Trail.{IsHierarchy, IsTrail, LeadsTo, GoesOn}
+use Rattle.thes_graph.specs.Trail.{IsHierarchy, IsTrail, GoesOn}
 use Rattle.thes_graph.specs.Towards.{back, ArePaid, AreTowards, HasLed}
 use Rattle.thes_graph.proofs.PivotLemmas.{Chain-turn}
 use Rattle.thes_graph.proofs.ProbeLemmas.{narrower_from, narrower_to}

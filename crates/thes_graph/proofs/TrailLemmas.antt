@@ -1,8 +1,8 @@
 -- What reading a node finds, and what it costs.
-use Rattle.std.proofs.Common.{◌≡◌, ◌≢◌, ◌==◌, ◌+◌, ◌-◌, ◌*◌, ◌≤◌, ◌<◌, ◌⊎◌, inl, inr, ℕ, suc, zero, List, [], ◌∷◌, length, take, drop, get_or, ap, sym, subst, ◌∙◌, arith, refl, Contains, AllPairs, sum_by, Bool, true, false, Option, Some, None, slice_get, nat_eq, ◌&&◌, ◌||◌, if◌then◌else◌}
+use Rattle.std.proofs.Common.{◌≡◌, ◌==◌, ◌+◌, ◌-◌, ◌≤◌, ◌<◌, ◌⊎◌, inl, inr, ℕ, List, length, take, drop, get_or, ap, sym, subst, ◌∙◌, arith, refl, Contains, sum_by, Bool, true, false, Option, Some, None, slice_get, if◌then◌else◌}
 use Rattle.std.specs.Prelude.{option_and_then}
 use Rattle.std.proofs.lemmas.List.{get_or-take, get_or-drop, length-take, length-drop, get_or_default}
-use Rattle.std.proofs.lemmas.Option.{slice_get_within, slice_get-get_or, get_or_from_slice_get, option_and_then_some, none-some, same_Some}
+use Rattle.std.proofs.lemmas.Option.{slice_get_within, slice_get-get_or, get_or_from_slice_get, option_and_then_some, none-some}
 use Rattle.thes_base.specs.declared.data.Link.{Link}
 use Rattle.thes_base.specs.declared.data.Direction.{Direction}
 use Rattle.thes_base.specs.declared.data.Direction.TheVariants.{Forward, Backward, Either, Never}
@@ -14,7 +14,7 @@ use Rattle.thes_graph.specs.declared.sight.Sight.TheVariants.{AsHeld, With, Merg
 use Rattle.thes_graph.specs.Reading.{HaveTwoEnds, EndsAt, IsRow}
 use Rattle.thes_graph.specs.Side.{side_no, side_at, side_in, IsPart, IsWalked}
 use Rattle.thes_graph.specs.Sight.{node_after, becomes, WouldBe}
-use Rattle.thes_graph.specs.Steps.{way_of, step_along, Steps, GrowsBy}
+use Rattle.thes_graph.specs.Steps.{way_of, step_along, Steps}
 use Rattle.thes_graph.specs.Trail.{seen, led, LeadsWithin, LeadsFrom, Finds, Stands, on}
 use Rattle.std.specs.Cmp.Derive.{both_true}
 use Rattle.std.proofs.lemmas.Bool.{or_left, or_right}
@@ -22,7 +22,7 @@ use Rattle.std.proofs.lemmas.Bool.Decides.{Decides-eqb}
 use Rattle.thes_graph.specs.declared.side.Side.{Side}
 use Rattle.thes_graph.specs.Net.{ends_at}
 use Rattle.thes_graph.proofs.WeightLemmas.{length-once, once_from_pairs, once_take, once_drop}
-use Rattle.thes_graph.proofs.StepLemmas.{GrowsBy-then, GrowsBy-none, GrowsBy-there, Leads-first, Leads-from_step, step_from_Leads}
+use Rattle.thes_graph.proofs.StepLemmas.{GrowsBy-then, Leads-first, Leads-from_step, step_from_Leads}
 use Rattle.thes_graph.proofs.SightLemmas.{becomes-ends}
 use Rattle.thes_graph.proofs.SideLemmas.{side_of_lead}
 
@@ -33,9 +33,6 @@ item_at items xs i x same within is =
     (inside, is ∙ ap (λ (l : List ℕ). get_or l i x) same ∙ get_or_default xs i x 0 inside)
 
 -- joining what two readings find
-
-pub Finds-none : (nodes goals : List ℕ) (P : ℕ → Type 0) → ((y : ℕ) → P y → ⊥) → Finds false nodes nodes goals P
-Finds-none nodes goals P none = (GrowsBy-none nodes P none, λ y _ p. none y p)
 
 module _ (old new goals : List ℕ) (P Q : ℕ → Type 0) (to : (y : ℕ) → P y → Q y) (from : (y : ℕ) → Q y → P y) where
   pub Finds-same : (found : Bool) → Finds found old new goals P → Finds found old new goals Q
@@ -61,9 +58,6 @@ module _ (sight : Sight) (relation : Relation) (x : ℕ) (row : List Link) where
 
   abbrev pub led_at : ℕ → Option ℕ
   led_at i = option_and_then (led sight relation x) (slice_get row i)
-
-  pub LeadsWithin-none : (from y : ℕ) → Within from from y → ⊥
-  LeadsWithin-none from y (k, l, low, high, _, _) = absurd (omega arith)
 
   pub LeadsWithin-before : (from i y : ℕ) → Within from i y → Within from (i + 1) y
   LeadsWithin-before from i y (k, l, low, high, at, leads) = (k, l, low, omega arith, at, leads)

@@ -1,6 +1,5 @@
 -- The check of all links, rule by rule.
-use Rattle.std.proofs.Common.{◌≡◌, ◌≢◌, ◌⊎◌, inl, inr, ◌+◌, ◌<◌, ◌≤◌, ℕ, List, [], ◌∷◌, ◌++◌, Bool, true, false, Contains, length, take, get_or, refl, sym, subst, ◌∙◌, arith, below_more}
-use Rattle.std.specs.Bool.{MatchBool}
+use Rattle.std.proofs.Common.{◌≡◌, ◌≢◌, ◌⊎◌, inl, inr, ◌+◌, ◌<◌, ◌≤◌, ℕ, List, [], ◌∷◌, ◌++◌, Contains, length, take, get_or, refl, sym, subst, ◌∙◌, arith, below_more}
 use Rattle.std.proofs.lemmas.List.{take_more, get_or_default}
 use Rattle.std.proofs.lemmas.List.Elements.{Contains-append_left, Contains-push, Contains-push_cases}
 use Rattle.thes_base.specs.declared.data.Link.{Link}
@@ -11,7 +10,7 @@ use Rattle.thes_base.specs.declared.data.Direction.TheVariants.{Forward, Backwar
 use Rattle.thes_base.specs.Links.{broader_way, related_way, exact_way, Leads, Path, Joined, IsBroader, IsAbove, IsApart, NoCycle, S27, S46}
 use Rattle.thes_graph.specs.declared.relation.Relation.TheVariants as relation
 use Rattle.thes_graph.specs.Steps.{Reaches, GrowsBy}
-use Rattle.thes_graph.specs.Local.{UpTo, InClassOf, NoCycleAt, NoS46At, IsGathered}
+use Rattle.thes_graph.specs.Local.{UpTo, InClassOf, NoCycleAt, NoS46At}
 use Rattle.thes_graph.specs.Whole.{HasWay, IsSomeS27}
 use Rattle.thes_graph.proofs.PivotLemmas.{Reaches-then_chain, Chain-then_reach, exact_turns}
 use Rattle.thes_graph.proofs.StepLemmas.{GrowsBy-then}
@@ -30,13 +29,6 @@ module _ {S : ℕ → ℕ → Type 0} where
   reach_join : (x y z : ℕ) → Reaches S x y → Reaches S y z → Reaches S x z
   reach_join x y z (inl same) r = subst (λ (w : ℕ). Reaches S w z) (sym same) r
   reach_join x y z (inr c) r = inr (Chain-then_reach S x y z c r)
-
--- what single tests say
-
-pub up_tested : (Would : Link → Type 0) (x y : ℕ) (up : List ℕ) (links : List Link) → IsGathered Would relation.Broader x up links → (b : Bool)
-    → MatchBool b (Contains up y) (Contains up y → ⊥) → MatchBool b (UpTo Would x y) (UpTo Would x y → ⊥)
-up_tested Would x y up links above true has = above.reach.sound y has
-up_tested Would x y up links above false off = λ reach. off (above.reach.complete y reach)
 
 -- a loop's step over nodes
 pub GrowsBy-more : (xs ys zs nodes : List ℕ) (k : ℕ) → k < length nodes → GrowsBy xs ys (Contains (take k nodes)) → GrowsBy ys zs (λ z. get_or nodes k 0 ≡ z) → GrowsBy xs zs (Contains (take (k + 1) nodes))

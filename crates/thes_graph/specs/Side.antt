@@ -1,6 +1,5 @@
 -- Where a link leads from one of its ends, and the order of a node's links by it.
-use Rattle.std.specs.Prelude.{◌==◌, ℕ, Bool, true, false, List, Some, slice_get, if◌then◌else◌}
-use Rattle.std.specs.Prelude.{◌≡◌, ◌<◌, ◌≤◌, length}
+use Rattle.std.specs.Prelude.{◌==◌, ℕ, Bool, true, false, List, Some, slice_get, if◌then◌else◌, ◌≡◌, ◌<◌, ◌≤◌, length}
 use Rattle.std.specs.declared.cmp.Ordering.{Ordering}
 use Rattle.std.specs.Ordering.{nat_cmp, ordering_then}
 use Rattle.std.specs.List.Sorted.{IsPartitionedBy, IsPartitionPoint}

@@ -1,7 +1,7 @@
 -- Two walks towards each other in the links held. The second begins far from the edit, so it reads no more than the first has.
-use Rattle.std.specs.Prelude.{◌≡◌, ◌⊎◌, ◌+◌, ◌*◌, ◌≤◌, ℕ, List, length}
+use Rattle.std.specs.Prelude.{◌⊎◌, ◌+◌, ◌*◌, ◌≤◌, ℕ, List, length}
 use Rattle.thes_base.specs.declared.data.Link.{Link}
-use Rattle.thes_base.specs.Links.{Links, HeldIn, Chain}
+use Rattle.thes_base.specs.Links.{Links, HeldIn}
 use Rattle.thes_graph.specs.declared.relation.Relation.{Relation}
 use Rattle.thes_graph.specs.declared.relation.Relation.TheVariants as along
 use Rattle.thes_graph.specs.declared.sight.Sight.TheVariants.{AsHeld}

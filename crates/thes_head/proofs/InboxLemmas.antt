@@ -1,16 +1,10 @@
 -- What is read, in a buffer whose front is what was read before.
-use Rattle.std.proofs.Common.{◌≡◌, ◌∙◌, sym, ap, subst, min, ℕ, ◌+◌, ◌-◌, ◌≤◌, List, [], ◌++◌, length, take, drop, Option, Some, None, arith, length-append}
+use Rattle.std.proofs.Common.{◌≡◌, ◌∙◌, sym, ap, subst, min, ℕ, ◌+◌, ◌-◌, ◌≤◌, List, ◌++◌, length, take, drop, Option, arith, length-append}
 use Rattle.std.proofs.lemmas.List.{take-append-le, length-take-le, length-take, take-append-drop}
 use Rattle.std.proofs.Math.Seq.{take-append-add}
 use Rattle.std.proofs.KnownBytes.{Consumes-trans}
 use Rattle.std.specs.Io.KnownBytes.{Consumes}
-use Rattle.thes_base.specs.Pipe.{calls_of, counted, PaysCalls}
-use Rattle.thes_base.specs.declared.pipe.Pipe.{Pipe}
 use Rattle.thes_head.specs.Inbox.{Grows}
-
-pub consumes_nil : (a : Option (List ℕ)) (xs : List ℕ) → xs ≡ [] → Consumes a a xs
-consumes_nil None xs e = tt
-consumes_nil (Some v) xs e = ap (λ t. t ++ v) (sym e)
 
 pub consumes_grown : (a b c : Option (List ℕ)) (xs ys : List ℕ) → Consumes a b xs → Grows b c xs ys → Consumes a c ys
 consumes_grown a b c xs ys f g = rw g.all (Consumes-trans a b c xs g.more f g.taken)
@@ -40,19 +34,3 @@ grown_in items d new post tail old f n len same is h k l =
     let c : length (ws ++ tail) ≡ length ws + length tail = length-append ws tail in
     let within : f + n ≤ length ws = omega (arith, a, b, e, k) in
     take_within (f + n) len (ws ++ tail) l (omega (arith, within, c)) ∙ (take-append-le (f + n) ws tail within ∙ grown items d new post old f n same is h k)
-
--- Calls.
-
-pub pays_nothing : {T : Type 0} (p : Pipe T) (left : ℕ) → PaysCalls p p left left
-pays_nothing p left = record { fell = omega arith; calls = omega arith }
-
-counted_twice : (calls m n : ℕ) → counted (counted calls m) n ≡ counted calls (m + n)
-counted_twice calls m n = omega arith
-
-pub pays_then : {T : Type 0} {p q r : Pipe T} {a b c : ℕ} → PaysCalls p q a b → PaysCalls q r b c → PaysCalls p r a c
-pays_then {p = p} {a = a} {b = b} {c = c} f g =
-    let l = f.fell in let k = g.fell in
-    let all : (a - b) + (b - c) ≡ a - c = omega (arith, l, k) in record {
-      fell = omega (arith, l, k);
-      calls = g.calls ∙ (ap (λ n. counted n (b - c)) f.calls ∙ (counted_twice (calls_of p) (a - b) (b - c) ∙ ap (counted (calls_of p)) all));
-    }

@@ -1,20 +1,19 @@
 -- From a head and a body to an answer.
-use Rattle.std.proofs.Common.{◌≡◌, ◌∙◌, sym, ap, subst, refl, inl, inr, ℕ, ◌≤◌, List, [], ◌++◌, length, take, drop, append_assoc, Option, Result, Ok, Err, arith}
+use Rattle.std.proofs.Common.{◌≡◌, ◌∙◌, sym, ap, subst, refl, inl, inr, ℕ, ◌≤◌, List, ◌++◌, length, take, drop, append_assoc, Option, Result, Ok, Err, arith}
 use Rattle.std.proofs.lemmas.List.{length-take, take-append-drop, drop-append-le}
-use Rattle.std.specs.Io.KnownBytes.{Consumes, IsAtEnd}
+use Rattle.std.specs.Io.KnownBytes.{Consumes}
 use Rattle.httparse.specs.Grammar.{RequestHead, print_request}
 use Rattle.std.proofs.KnownBytes.{Consumes-trans}
 use Rattle.thes_base.specs.declared.fault.Fault.TheVariants.{OutOfMemory}
 use Rattle.thes_head.specs.declared.problem.Problem.{Problem}
 use Rattle.thes_head.specs.declared.problem.Problem.TheVariants.{BadHead}
 use Rattle.thes_http.specs.declared.response.Response.{Response}
-use Rattle.thes_head.specs.Heads.{head_limit, HasHead, IsCutHead, IsBadHead}
+use Rattle.thes_head.specs.Heads.{head_limit, HasHead, IsBadHead}
 use Rattle.thes_head.specs.Inbox.{Takes, ReadsBody, CutsBody, Asks}
 use Rattle.thes_head.specs.Wants.{Wants}
 use Rattle.thes_http.specs.Responses.{problem_response, fault_response}
 use Rattle.thes_http.specs.Serving.{Doing, DoesOrFails}
 use Rattle.thes_http.specs.Connection.{IsAnswer, IsCutOff}
-use Rattle.thes_head.proofs.InboxLemmas.{consumes_nil}
 
 -- a head at the front, with what follows it in all the bytes
 pub has_more : (bytes : List ℕ) (h : RequestHead) (rest more : List ℕ) → HasHead bytes h rest → HasHead (bytes ++ more) h (rest ++ more)
@@ -23,10 +22,6 @@ has_more bytes h rest more has = record {
   short = has.short;
   few = has.few;
 }
-
--- nothing was read, for want of memory
-pub answer_nothing : {S : Type 0} (d : Doing S) (known : Option (List ℕ)) (old : S) → IsAnswer d known known old (fault_response OutOfMemory) old
-answer_nothing d known old = record { bytes = []; taken = consumes_nil known [] refl; answers = inr (inr (refl, refl)) }
 
 pub answer_bad : {S : Type 0} (d : Doing S) (known left : Option (List ℕ)) (old : S) (bytes : List ℕ) → Consumes known left bytes → IsBadHead bytes → IsAnswer d known left old (problem_response BadHead) old
 answer_bad d known left old bytes t b = record { bytes = bytes; taken = t; answers = inl (b, (refl, refl)) }
@@ -76,9 +71,6 @@ answer_done d known mid left old new bytes rest body w r t a b does =
       }
       | inr failed ↦ record { bytes = bytes ++ b.more; taken = taken; answers = inr (inr failed) }
     ]
-
-pub cut_head : (known left : Option (List ℕ)) (bytes : List ℕ) → Consumes known left bytes → IsCutHead bytes → IsAtEnd left → IsCutOff known left
-cut_head known left bytes t c e = record { bytes = bytes; taken = t; at_end = e; cut = inl c }
 
 pub cut_body : (known mid left : Option (List ℕ)) (bytes rest : List ℕ) (w : Wants) → Consumes known mid bytes → Asks bytes rest (Ok w) → CutsBody mid left rest w.body → IsCutOff known left
 cut_body known mid left bytes rest w t a c = record {

@@ -1,12 +1,12 @@
 -- Records of a file, field by field and one after another.
-use Rattle.std.proofs.Common.{◌≡◌, ◌∙◌, ◌↔◌, sym, ap, refl, subst, ℕ, zero, suc, ◌+◌, ◌<◌, Bool, true, false, List, [], ◌∷◌, ◌++◌, length, get_or, map, take, drop, Option, None, Some, IsTrue, arith, rules, true≢false}
+use Rattle.std.proofs.Common.{◌≡◌, ◌∙◌, ◌↔◌, sym, ap, refl, subst, ℕ, zero, suc, ◌+◌, ◌<◌, Bool, true, false, List, [], ◌∷◌, ◌++◌, length, get_or, map, take, Option, None, Some, IsTrue, arith, rules, true≢false}
 use Rattle.std.specs.Prelude.{slice_get, IsSome, MatchBool, option_map}
 use Rattle.std.specs.List.{AllZip}
 use Rattle.std.proofs.lemmas.List.{map-append, take_more}
 use Rattle.std.proofs.lemmas.Option.{slice_get-get_or}
 use Rattle.csv.specs.Records.{Row as Record, field_at, fields_of}
 use Rattle.thes_import.specs.declared.row.Row.{Row}
-use Rattle.thes_import.specs.PostingFile.{BeginsWithHeader, HasRecords, IsPostingFile, IsRow, header}
+use Rattle.thes_import.specs.PostingFile.{BeginsWithHeader, IsRow, header}
 
 pub field_there : (fs : List (List ℕ)) (i : ℕ) → field_at fs i ≡ slice_get fs i
 unfolding field_at
@@ -55,17 +55,3 @@ rows_more rs i r old new row below at so_far one e =
 pub some_record : (rs : List Record) → BeginsWithHeader (map fields_of rs) → 0 < length rs
 some_record [] w = absurd (let bad : [] ≡ header ∷ w.0 = w.1 in cc)
 some_record (r ∷ rs) w = omega arith
-
-pub begins_so : (b : Bool) (P : Type 0) → b ≡ true → MatchBool b P (¬ P) → P
-begins_so true P e m = m
-begins_so false P e m = absurd (true≢false (sym e))
-
-pub begins_not : (b : Bool) (P : Type 0) → b ≡ false → MatchBool b P (¬ P) → ¬ P
-begins_not true P e m = absurd (true≢false e)
-begins_not false P e m = m
-
-pub file_read : (bytes : List ℕ) (rs rest : List Record) (rows : List Row) → HasRecords bytes (map fields_of rs) → BeginsWithHeader (map fields_of rs) → rest ≡ drop 1 rs → AllZip IsRow (map fields_of rest) rows → IsPostingFile bytes rows
-file_read bytes [] rest rows has w e each = absurd (let bad : [] ≡ header ∷ w.0 = w.1 in cc)
-file_read bytes (r ∷ rs) rest rows has w e each =
-    let tails : map fields_of rs ≡ w.0 = (let q : fields_of r ∷ map fields_of rs ≡ header ∷ w.0 = w.1 in cc) in
-    record { records = w.0; read = subst (HasRecords bytes) w.1 has; each = subst (λ (xs : List (List (List ℕ))). AllZip IsRow xs rows) (ap (map fields_of) e ∙ tails) each }

@@ -1,6 +1,6 @@
 -- A posting file that is imported again.
-use Rattle.std.proofs.Common.{◌≡◌, ◌⊎◌, ◌∙◌, ◌+◌, ◌≤◌, ◌++◌, ◌∷◌, [], ℕ, zero, suc, List, Option, None, Some, max, inl, inr, refl, sym, ap, subst, length, append_assoc, append-nil, length-append, arith}
-use Rattle.std.specs.Prelude.{slice_get, filter_map}
+use Rattle.std.proofs.Common.{◌≡◌, ◌⊎◌, ◌∙◌, ◌+◌, ◌≤◌, ◌++◌, ◌∷◌, [], ℕ, zero, suc, List, None, Some, max, inl, inr, refl, sym, ap, subst, length, append_assoc, append-nil, length-append, arith}
+use Rattle.std.specs.Prelude.{slice_get}
 use Rattle.std.specs.List.{AllByRecursion, AllZip}
 use Rattle.std.proofs.lemmas.List.Sums.{sum_by-append}
 use Rattle.thes_base.specs.declared.data.History.{History}
@@ -11,7 +11,7 @@ use Rattle.thes_base.specs.declared.request.Answer.{Answer}
 use Rattle.thes_base.specs.declared.request.Answer.TheVariants as reply
 use Rattle.thes_base.specs.declared.request.Command.{Command}
 use Rattle.thes_base.specs.declared.request.Command.TheVariants as request
-use Rattle.thes_base.specs.Changes.{histories_posted, new_history, posted}
+use Rattle.thes_base.specs.Changes.{new_history, posted}
 use Rattle.thes_base.specs.Legal.{LegalPostings}
 use Rattle.thes_base.specs.Machine.{Run, Step, row_of}
 use Rattle.thes_base.specs.Postings.{end_of, move_count}

@@ -1,5 +1,5 @@
 -- A posting keeps its number, key, record and first concept, whatever requests come.
-use Rattle.std.proofs.Common.{◌≡◌, ◌⊎◌, ◌∙◌, ◌+◌, ℕ, zero, suc, Bool, true, false, List, Option, None, Some, [], ◌∷◌, inl, inr, refl, sym, ap, subst, eqb, eqb-true, arith}
+use Rattle.std.proofs.Common.{◌≡◌, ◌∙◌, ◌+◌, ℕ, zero, suc, Bool, List, Option, None, Some, [], ◌∷◌, inl, inr, refl, sym, ap, subst, eqb, eqb-true}
 use borrow.Author.Tests.{eqb-false}
 use Rattle.std.proofs.lemmas.Bool.{cases_Bool}
 use Rattle.thes_base.specs.declared.data.History.{History}

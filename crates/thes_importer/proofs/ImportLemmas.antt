@@ -1,7 +1,7 @@
 -- Rows that are performed one after another.
-use Rattle.std.proofs.Common.{◌≡◌, ◌⊎◌, ◌∙◌, ◌+◌, ◌<◌, ◌++◌, ◌∷◌, [], ℕ, List, refl, sym, ap, subst, length, take, drop, take-append-drop, append-nil, arith, length-drop}
-use Rattle.std.specs.Prelude.{Result, Ok, Err, filter_map}
-use Rattle.std.specs.List.{AllByRecursion, AllZip}
+use Rattle.std.proofs.Common.{◌≡◌, ◌∙◌, ◌+◌, ◌<◌, ◌++◌, ◌∷◌, [], ℕ, List, refl, sym, ap, subst, length, take, drop, take-append-drop, append-nil, arith, length-drop}
+use Rattle.std.specs.Prelude.{Result, Ok, Err}
+use Rattle.std.specs.List.{AllByRecursion}
 use Rattle.std.proofs.lemmas.List.Elements.{filter_map-append}
 use Rattle.std.proofs.lemmas.Slice.Zip.{AllZip-long, all_zipped_more}
 use Rattle.thes_base.specs.declared.data.Limits.{Limits}
@@ -15,7 +15,7 @@ use Rattle.thes_base.specs.Headline.{IsInOrder}
 use Rattle.thes_rows.specs.Cells.{Raw}
 use Rattle.thes_import.specs.declared.row.Row.{Row}
 use Rattle.thes_import.specs.declared.row.Row.TheVariants as row
-use Rattle.thes_office.specs.Office.{ChangesNothing, Goes, GoesOn, Kept, Same, Steps}
+use Rattle.thes_office.specs.Office.{ChangesNothing, Goes, GoesOn, Kept, Steps}
 use Rattle.thes_office.specs.Shows.{Shows}
 use Rattle.thes_office.proofs.KeptLemmas.{goes_on_by, goes_on_none}
 use Rattle.thes_importer.specs.Imports.{AddsRow, ImportsRows, ImportsSome, PerformsRow, PerformsRows, TellsRow}

@@ -1,12 +1,11 @@
 -- What a report tells after one row more.
-use Rattle.std.proofs.Common.{◌≡◌, ◌∙◌, ◌+◌, ◌++◌, ◌∷◌, [], ℕ, List, Bool, true, false, refl, sym, ap, cond, length, append_assoc, append-nil, arith}
+use Rattle.std.proofs.Common.{◌≡◌, ◌∙◌, ◌+◌, ◌++◌, ◌∷◌, [], ℕ, List, refl, sym, ap, cond, length, append_assoc, append-nil, arith}
 use Rattle.std.specs.Prelude.{codes, count_by}
-use Rattle.std.proofs.lemmas.List.Sums.{sum_by-cons, sum_by_push}
+use Rattle.std.proofs.lemmas.List.Sums.{sum_by-cons}
 use Rattle.thes_base.specs.declared.request.Answer.TheVariants as reply
 use Rattle.thes_importer.specs.Outcomes.{Tells, counts_of, is_again, is_new, is_refused, outcome_line, outcome_lines, outcomes_text, row_count}
 use Rattle.thes_importer.specs.declared.outcome.Outcome.{Outcome}
 use Rattle.thes_importer.specs.declared.outcome.Outcome.TheVariants as outcome
-use Rattle.thes_importer.specs.declared.report.Counts.{Counts}
 use Rattle.thes_importer.specs.declared.report.Report.{Report}
 
 lines_more : (line : ℕ → Outcome → List ℕ) (lines : ℕ → List Outcome → List ℕ) → ((n : ℕ) → lines n [] ≡ []) → ((n : ℕ) (o : Outcome) (os : List Outcome) → lines n (o ∷ os) ≡ line n o ++ lines (n + 1) os)
@@ -44,13 +43,6 @@ row_count_all (o ∷ os) =
     let one = one_count o in
     let rest = row_count_all os in
     omega (arith, a, b, d, one, rest)
-
-pub counts_more : (os : List Outcome) (o : Outcome) (counts : Counts) → counts.posted ≡ count_by is_new os + cond (is_new o) 1 0 → counts.again ≡ count_by is_again os + cond (is_again o) 1 0 → counts.refused ≡ count_by is_refused os + cond (is_refused o) 1 0 → counts ≡ counts_of (os ++ o ∷ [])
-counts_more os o counts a b d = λ i. record {
-  posted = (a ∙ sym (sum_by_push (λ (x : Outcome). cond (is_new x) 1 0) os o)) i;
-  again = (b ∙ sym (sum_by_push (λ (x : Outcome). cond (is_again x) 1 0) os o)) i;
-  refused = (d ∙ sym (sum_by_push (λ (x : Outcome). cond (is_refused x) 1 0) os o)) i;
-}
 
 -- one line more
 pub tells_more : (os : List Outcome) (o : Outcome) (old new : Report) (n : ℕ) (line : List ℕ) → Tells os old → n ≡ row_count old.counts + 1 → line ≡ outcome_line n o → new.text.items ≡ old.text.items ++ line → new.counts ≡ counts_of (os ++ o ∷ []) → Tells (os ++ o ∷ []) new

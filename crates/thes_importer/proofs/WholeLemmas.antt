@@ -4,7 +4,7 @@ use Rattle.std.specs.Prelude.{Option}
 use Rattle.std.specs.Io.KnownBytes.{Consumes}
 use Rattle.std.proofs.KnownBytes.{Consumes-trans}
 use Rattle.std.proofs.lemmas.List.{length-take-le}
-use Rattle.thes_base.specs.Pipe.{PaysCalls, calls_of, counted, unread}
+use Rattle.thes_base.specs.Pipe.{unread}
 use Rattle.thes_base.specs.declared.pipe.Pipe.{Pipe}
 use Rattle.thes_importer.specs.Whole.{GivesMore, HasRead}
 
@@ -18,15 +18,3 @@ gives_more remaining limit start old new bytes buf count read more within beyond
       let b : length (take count buf) ≡ count = length-take-le count buf within in
       omega (arith, a, b);
 }
-
-counted_more : (calls m n : ℕ) → counted (counted calls m) n ≡ counted calls (m + n)
-counted_more calls m n = omega arith
-
-pub pays_nothing : {T : Type 0} (p : Pipe T) (left : ℕ) → PaysCalls p p left left
-pays_nothing p left = record { fell = omega arith; calls = omega arith }
-
-pub pays_then : {T : Type 0} {p q r : Pipe T} {a b c : ℕ} → PaysCalls p q a b → PaysCalls q r b c → PaysCalls p r a c
-pays_then {p = p} {a = a} {b = b} {c = c} f g =
-    let x = f.fell in let y = g.fell in let u = f.calls in let v = g.calls in
-    let more = counted_more (calls_of p) (a - b) (b - c) in
-    record { fell = omega (arith, x, y); calls = let e : a - b + (b - c) ≡ a - c = omega (arith, x, y) in cc }

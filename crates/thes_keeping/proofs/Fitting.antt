@@ -1,5 +1,5 @@
 -- Changes that fit, one after another.
-use Rattle.std.proofs.Common.{◌≡◌, ◌+◌, ◌≤◌, ◌++◌, inl, inr, ℕ, List, [], ◌∷◌, sym, ap, subst, arith}
+use Rattle.std.proofs.Common.{◌≡◌, ◌+◌, ◌++◌, inl, inr, ℕ, List, [], ◌∷◌, ap, subst, arith}
 use Rattle.thes_rows.specs.declared.change.Change.{Change}
 use Rattle.thes_rows.specs.declared.change.Change.TheVariants as change
 use Rattle.thes_rows.specs.declared.rows.MoveRow.{MoveRow}
@@ -8,9 +8,6 @@ use Rattle.thes_rows.specs.Tables.{Tables, IsIn}
 use Rattle.thes_rows.proofs.Sets.{in_append}
 use Rattle.thes_rows.proofs.Steps.{all_append, fit_append}
 use Rattle.thes_keeping.specs.Posted.{FitUpTo}
-
-pub fit_first : (source target : ℕ) (t : Tables) → t.move ≡ [] → FitUpTo (change.MoveAll source target ∷ []) t 0
-fit_first source target t none = record { fit = (tt, tt); below = λ row h. absurd (subst (IsIn row) none h) }
 
 pub fit_next : (changes : List Change) (t : Tables) (i : ℕ) (row : MoveRow) → row.number ≡ i + 1 → FitUpTo changes t i → FitUpTo (changes ++ change.AddMove row ∷ []) t (i + 1)
 fit_next changes t i row number fits = record {

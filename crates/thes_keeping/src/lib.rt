@@ -1,5 +1,6 @@
-//! Posts and merges over any keeper, for tests and benches.
+//! Posts and merges over any keeper, and its rows as text, for tests and benches.
 #![tactic(auto)]
 
 pub mod failure;
 pub mod keeping;
+pub mod rows;

@@ -1,12 +1,11 @@
 -- One list is written.
-use Rattle.std.proofs.Common.{ltb, ◌≡◌, ◌≢◌, ◌<◌, ◌≤◌, ◌+◌, ◌∷◌, ◌++◌, length, length-append, set, get_or, inl, inr, ℕ, true, false, [], Vec, Global, refl, sym, ap, subst, ◌∙◌, arith}
-use Rattle.std.specs.Prelude.{Option, Some, None, vec_len, slice_get}
+use Rattle.std.proofs.Common.{ltb, ◌≡◌, ◌≢◌, ◌<◌, ◌≤◌, length, set, get_or, inl, inr, ℕ, true, [], Vec, Global, sym, ap, subst, ◌∙◌, arith}
+use Rattle.std.specs.Prelude.{Some, vec_len, slice_get}
 use Rattle.std.specs.Option.{is_some, IsSomeAnd, option_map_or}
-use Rattle.std.specs.Vec.{vec_capacity}
+use Rattle.std.specs.Vec.{vec_capacity, with_item}
 use Rattle.std.proofs.lemmas.Bool.{cases_eq, cases_lt, ltb-true}
-use Rattle.std.specs.Vec.{with_item}
 use Rattle.std.proofs.lemmas.Grind.{get_or-set_at}
-use Rattle.std.proofs.lemmas.List.{get_or_push, get_or_append_left, get_or-set_other, length-set}
+use Rattle.std.proofs.lemmas.List.{get_or-set_other, length-set}
 use Rattle.std.proofs.lemmas.Option.{slice_get_past, slice_get-get_or}
 use Rattle.thes_lists.specs.declared.lists.Lists.{Lists}
 use Rattle.thes_lists.specs.Lists.{listed_at, HasList, HasSpare, AreSame, KeepsLists, KeepsRooms, ChangesAt}
@@ -47,19 +46,6 @@ module _ {A : Type 0} (old new : Lists A) (n : ℕ) (v : Vec A Global) (written 
 
   -- an empty list for a number that had none
 
-  no_list : is_some (slice_get old.lists.items n) ≡ false → slice_get old.lists.items n ≡ None
-  no_list none = go (slice_get old.lists.items n) none
-    where
-      go : (o : Option (Vec A Global)) → is_some o ≡ false → o ≡ None
-      go None e = refl
-      go (Some w) e = cc
-
-  pub same_opened : v.items ≡ [] → is_some (slice_get old.lists.items n) ≡ false → AreSame old new
-  same_opened empty none = same_written (empty ∙ sym (ap (λ o. option_map_or (λ (w : Vec A Global). w.items) o []) (no_list none)))
-
-  pub rooms_opened : is_some (slice_get old.lists.items n) ≡ false → KeepsRooms old new
-  rooms_opened none = rooms_written (λ room. absurd (subst (λ o. IsSomeAnd o IsRoomy) (no_list none) room))
-
   -- a list with more room
   module _ (before : Vec A Global) (was : Some before ≡ slice_get old.lists.items n) where
     same_grown : v.items ≡ before.items → AreSame old new
@@ -70,43 +56,6 @@ module _ {A : Type 0} (old new : Lists A) (n : ℕ) (v : Vec A Global) (written 
       where
         more : IsRoomy before → IsRoomy v
         more room = omega arith
-
--- an empty list behind the others
-module _ {A : Type 0} (old new : Lists A) (v : Vec A Global) (empty : v.items ≡ []) (pushed : new.lists.items ≡ old.lists.items ++ v ∷ []) where
-  last_written : slice_get new.lists.items (length old.lists.items) ≡ Some v
-  last_written =
-      ap (λ xs. slice_get xs (length old.lists.items)) pushed
-      ∙ slice_get-get_or (old.lists.items ++ v ∷ []) (length old.lists.items) v (omega (arith, length-append old.lists.items (v ∷ [])))
-      ∙ ap Some (get_or_push old.lists.items v v (length old.lists.items) refl)
-
-  before_last : (m : ℕ) → m ≢ length old.lists.items → slice_get new.lists.items m ≡ slice_get old.lists.items m
-  before_last m apart = ap (λ xs. slice_get xs m) pushed ∙ elim (cases_lt m (length old.lists.items)) [
-    | inl within ↦
-        slice_get-get_or (old.lists.items ++ v ∷ []) m v (omega (arith, within, length-append old.lists.items (v ∷ [])))
-        ∙ ap Some (get_or_append_left old.lists.items (v ∷ []) v m within)
-        ∙ sym (slice_get-get_or old.lists.items m v within)
-    | inr past ↦
-        slice_get_past (old.lists.items ++ v ∷ []) m (beyond past)
-        ∙ sym (slice_get_past old.lists.items m past)
-  ]
-    where
-      more : (m n : ℕ) → m ≢ n → n ≤ m → n + 1 ≤ m
-      more m n off past = grind arith
-
-      beyond : length old.lists.items ≤ m → length (old.lists.items ++ v ∷ []) ≤ m
-      beyond past = omega (arith, length-append old.lists.items (v ∷ []), more m (length old.lists.items) apart past)
-
-  none_last : is_some (slice_get old.lists.items (length old.lists.items)) ≡ false
-  none_last = ap is_some (slice_get_past old.lists.items (length old.lists.items) (omega arith))
-
-  pub same_pushed : AreSame old new
-  same_pushed = same_opened old new (length old.lists.items) v last_written before_last empty none_last
-
-  pub rooms_pushed : KeepsRooms old new
-  rooms_pushed = rooms_opened old new (length old.lists.items) v last_written before_last none_last
-
-  pub lists_pushed : KeepsLists old new
-  lists_pushed = lists_kept old new (length old.lists.items) v last_written before_last
 
 -- the list of a number that has one is written
 module _ {A : Type 0} (lists : Lists A) (n i : ℕ) (at : i ≡ n) (found : ltb i (length lists.lists.items) ≡ true) (v : Vec A Global) where

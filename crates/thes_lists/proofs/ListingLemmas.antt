@@ -7,14 +7,12 @@ use Rattle.std.specs.FinSet.{IsAntisymmetric}
 use Rattle.std.specs.BTreeMap.{is_at}
 use Rattle.std.specs.BTreeSet.{insert_key}
 use Rattle.std.specs.Set.{remove_key}
-use Rattle.std.specs.Prelude.{filter}
 use Rattle.std.proofs.lemmas.Map.Keys.{sorted_tail}
-use Rattle.std.proofs.lemmas.List.Kept.{IsStrictlySortedBy-filter}
 use Rattle.std.proofs.lemmas.Bool.{cases_eq}
 use Rattle.thes_base.specs.Listing.{IsListing}
 use Rattle.thes_lists.specs.declared.lists.Lists.{Lists}
 use Rattle.thes_lists.specs.Lists.{listed_at, AreSame, ChangesAt, AreListings}
-use Rattle.thes_lists.proofs.MemberLemmas.{Has, Has-from, Contains-from, filter_had, filter_keeps}
+use Rattle.thes_lists.proofs.MemberLemmas.{Has, Has-from, Contains-from}
 use Rattle.thes_lists.proofs.OrderLemmas.{sorted_none, above_head, insert_cases, insert_keeps, insert_sorted, remove_had, remove_sorted, never_below_itself}
 
 module _ {A : Type 0} (c : A → A → Ordering) where
@@ -24,23 +22,10 @@ module _ {A : Type 0} (c : A → A → Ordering) where
   pub listing_as : (P Q : A → Type 0) (xs : List A) → ((x : A) → P x → Q x) → ((x : A) → Q x → P x) → IsListing c P xs → IsListing c Q xs
   listing_as P Q xs to from is = record { rises = is.rises; sound = λ x has. to x (is.sound x has); complete = λ x q. is.complete x (from x q) }
 
-  pub listing_itself : (xs : List A) → IsStrictlySortedBy c xs → IsListing c (Has xs) xs
-  listing_itself xs sorted = record { rises = sorted; sound = Has-from xs; complete = Contains-from xs }
-
-  pub listing_filter : (P : A → Type 0) (p : A → Bool) (xs : List A) → IsListing c P xs → IsListing c (λ x. P x × (p x ≡ true)) (filter p xs)
-  listing_filter P p xs is = record {
-    rises = IsStrictlySortedBy-filter c p xs is.rises;
-    sound = λ x has. let had = filter_had p xs x (Has-from (filter p xs) x has) in (is.sound x (Contains-from xs x had.0), had.1);
-    complete = λ x q. Contains-from (filter p xs) x (filter_keeps p xs x (Has-from xs x (is.complete x q.0)) q.1);
-  }
-
   -- in each of the lists
 
   pub listings_same : (P Q : ℕ → A → Type 0) (old new : Lists A) → AreSame old new → ((n : ℕ) (x : A) → P n x → Q n x) → ((n : ℕ) (x : A) → Q n x → P n x) → AreListings c P old → AreListings c Q new
   listings_same P Q old new same to from are n = subst (IsListing c (Q n)) (sym (same n)) (listing_as (P n) (Q n) (listed_at old n) (to n) (from n) (are n))
-
-  pub changes_from : (old middle new : Lists A) (n : ℕ) (values : List A) → AreSame old middle → ChangesAt middle new n values → ChangesAt old new n values
-  changes_from old middle new n values same changes = record { here = changes.here; others = λ m apart. changes.others m apart ∙ same m }
 
   pub listings_changed : (P Q : ℕ → A → Type 0) (old new : Lists A) (n : ℕ) (values : List A) → ChangesAt old new n values → IsListing c (Q n) values
       → ((m : ℕ) → m ≢ n → (x : A) → P m x → Q m x) → ((m : ℕ) → m ≢ n → (x : A) → Q m x → P m x) → AreListings c P old → AreListings c Q new

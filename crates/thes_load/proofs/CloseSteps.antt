@@ -1,11 +1,11 @@
 -- The end of each table: what is known after it, or the fault that its end is.
-use Rattle.std.proofs.Common.{◌≡◌, ℕ, List, [], ◌∷◌, map, refl, sym, ap, ◌∙◌, subst, inr, Vec, Global}
+use Rattle.std.proofs.Common.{◌≡◌, ℕ, List, [], ◌∷◌, refl, sym, ap, ◌∙◌, subst, inr}
 use Rattle.std.specs.Prelude.{None, Some}
 use Rattle.std.proofs.lemmas.List.{append-nil}
 use Rattle.std.proofs.lemmas.Option.{same_Some}
 use Rattle.thes_base.specs.declared.data.Resource.{Resource}
 use Rattle.thes_base.specs.declared.fault.Fault.{Fault}
-use Rattle.thes_base.specs.declared.fault.Fault.TheVariants.{BadStore, NewerStore, OlderStore}
+use Rattle.thes_base.specs.declared.fault.Fault.TheVariants.{BadStore}
 use Rattle.thes_base.specs.declared.fault.Table.{Table}
 use Rattle.thes_base.specs.declared.fault.Table.TheVariants as table
 use Rattle.thes_base.specs.Labels.{EachHasPreferred}
@@ -17,10 +17,9 @@ use Rattle.thes_rows.proofs.Listing.{map_one, resources_one, outside_one, label_
 use Rattle.thes_vocab.specs.Vocabulary.{Vocabulary}
 use Rattle.thes_vocab.specs.Loading.{AreLabelsSoFar, HaveIris}
 use Rattle.thes_tables.specs.Rules.{ResourceRule, OutsideRule, LabelRule, HierRule}
-use Rattle.thes_tables.specs.Loads.{IsNewer, IsOlder}
 use Rattle.thes_tables.proofs.Judging.{judged}
 use Rattle.thes_load.specs.declared.stage.Stage.TheVariants as stage
-use Rattle.thes_load.specs.declared.meta.MetaRow.TheVariants.{Newer, Older, Base}
+use Rattle.thes_load.specs.declared.meta.MetaRow.TheVariants.{Base}
 use Rattle.thes_load.specs.declared.resources.ResourceLoad.{ResourceLoad}
 use Rattle.thes_load.specs.declared.names.OutsideLoad.{OutsideLoad}
 use Rattle.thes_load.specs.declared.linked.LinkedVocab.{LinkedVocab}
@@ -33,37 +32,9 @@ use Rattle.thes_load.specs.Taken.{HasPostings, HasMoves}
 use Rattle.thes_load.specs.Placed.{ArePlaced}
 use Rattle.thes_load.specs.Progress.{Grows, Extends, Closes, next_table}
 use Rattle.thes_load.proofs.ProgressLemmas.{meta_stays, resource_stays, outside_stays, link_stays}
-use Rattle.thes_load.proofs.RowSteps.{blank, meta_fault}
+use Rattle.thes_load.proofs.RowSteps.{blank}
 
 -- Meta.
-
-one_row : (queried raw : RawTable) (one cells : List Cell) → queried ≡ raw → raw ≡ Some (one ∷ []) → queried ≡ Some (cells ∷ []) → ◌≡◌ {A = List (List Cell)} (one ∷ []) (cells ∷ [])
-one_row queried raw one cells same is e = same_Some _ _ (sym is ∙ sym same ∙ e)
-
-pub meta_newer : Closes (stage.Meta (Some Newer)) (stage.Stopped NewerStore table.Resource)
-meta_newer = (
-  refl,
-  λ raw ((cells, is, (version, base, above, spelled)), after) more (same, grows).
-      let newer : IsNewer more.meta = (version, base, above, same ∙ is ∙ ap (λ (c : List Cell). Some (c ∷ [])) spelled) in
-      (judged more (blank [])).newer newer,
-)
-
-pub meta_older : Closes (stage.Meta (Some Older)) (stage.Stopped OlderStore table.Resource)
-meta_older = (
-  refl,
-  λ raw ((cells, is, (base, spelled)), after) more (same, grows).
-      let older : IsOlder more.meta = (1, base, refl, same ∙ is ∙ ap (λ (c : List Cell). Some (c ∷ [])) spelled) in
-      (judged more (blank [])).older older,
-)
-
-pub meta_none : Closes (stage.Meta None) (stage.Stopped (BadStore table.Meta) table.Resource)
-meta_none = (
-  refl,
-  λ raw (none, after) more (same, grows).
-      meta_fault more
-      (λ version base which e. let f = same_Some _ _ (sym (same ∙ none) ∙ e) in absurd (cc))
-      (λ base form e. let f = same_Some _ _ (sym (same ∙ none) ∙ e) in absurd (cc)),
-)
 
 pub meta_base : (base : List ℕ) (load : ResourceLoad) → load.resources.items ≡ [] → Closes (stage.Meta (Some (Base base))) (stage.Resource base load)
 meta_base base load none = (

@@ -37,9 +37,6 @@ module _ (rs : List Resource) (graph : Net) (l : Link) (marked : AreMarked rs gr
   pub legal_of : IsFitLink rs l → norm (is_marked graph) l ≡ l → IsLegalLink rs l
   legal_of fit ordered = record { ends = fit.ends; live = fit.live; two = fit.two; schemes = fit.schemes; ordered = sym same_norm ∙ ordered }
 
-  pub ordered_of : IsLegalLink rs l → norm (is_marked graph) l ≡ l
-  ordered_of legal = same_norm ∙ legal.ordered
-
 pub fit_of : (rs : List Resource) (l : Link) → IsLegalLink rs l → IsFitLink rs l
 fit_of rs l legal = record { ends = legal.ends; live = legal.live; two = legal.two; schemes = legal.schemes }
 

@@ -1,9 +1,10 @@
 -- One more row of move.
-use Rattle.std.proofs.Common.{◌≡◌, ◌≢◌, ◌<◌, ℕ, zero, suc, ◌-◌, ◌+◌, length, List, [], ◌∷◌, ◌++◌, map, refl, sym, ap, ◌∙◌, subst, arith, inl, inr, Bool, true, false, cond, eqb, eqb-true, length-append, lit<, ◌^◌}
+use Rattle.std.proofs.Common.{◌≡◌, ◌≢◌, ◌<◌, ℕ, zero, suc, ◌-◌, ◌+◌, length, List, [], ◌∷◌, ◌++◌, map, refl, sym, ap, ◌∙◌, subst, arith, inl, inr, false, eqb, eqb-true, length-append, lit<, ◌^◌}
 use Rattle.std.proofs.lemmas.Bool.{cases_Bool, eq-eqb, eqb-false}
-use Rattle.std.proofs.lemmas.List.{append-nil, length-map}
+use Rattle.std.proofs.lemmas.List.{append-nil, length-map, map-append}
+use Rattle.std.proofs.lemmas.List.Elements.{filter-append}
 use Rattle.std.proofs.lemmas.Option.{same_Some}
-use Rattle.std.specs.Prelude.{Some, slice_set}
+use Rattle.std.specs.Prelude.{Some, slice_set, ◌==◌}
 use Rattle.thes_base.specs.declared.data.Resource.{Resource}
 use Rattle.thes_base.specs.declared.data.Move.{Move}
 use Rattle.thes_base.specs.Resources.{IsConcept, numbered, set_numbered}
@@ -13,9 +14,9 @@ use Rattle.thes_base.proofs.NumberedLemmas.{set_same, set_other, numbered_bound}
 use Rattle.thes_base.proofs.MoveLemmas.{led_push, follows_push}
 use Rattle.thes_rows.specs.declared.rows.PostingRow.{PostingRow}
 use Rattle.thes_rows.specs.declared.rows.MoveRow.{MoveRow}
-use Rattle.thes_rows.specs.Tables.{IsIn, step_of}
+use Rattle.thes_rows.specs.Tables.{IsIn, step_of, moves_of}
 use Rattle.thes_rows.proofs.MoveRows.{map_numbered}
-use Rattle.thes_tables.specs.Rules.{AreInOrder, MoveRule, history_of, moves_of}
+use Rattle.thes_tables.specs.Rules.{AreInOrder, MoveRule, history_of}
 use Rattle.thes_tables.proofs.Lists.{in_numbered, numbered_in, numbered_some, numbered_unmap}
 use Rattle.thes_tables.proofs.MoveRows.{hit_is, miss_is, row_of_move, all_of_in}
 use Rattle.thes_load.specs.Forms.{HasMoveForm}
@@ -24,13 +25,8 @@ use Rattle.thes_load.proofs.Pushing.{numbered_next, in_next, each_push, order_pu
 
 -- The moves of a posting, of more rows.
 
-cond_append : (b : Bool) (x : Move) (xs ys : List Move) → cond b (x ∷ (xs ++ ys)) (xs ++ ys) ≡ cond b (x ∷ xs) xs ++ ys
-cond_append true x xs ys = refl
-cond_append false x xs ys = refl
-
 moves_append : (n : ℕ) (rows more : List MoveRow) → moves_of n (rows ++ more) ≡ moves_of n rows ++ moves_of n more
-moves_append n [] more = refl
-moves_append n (r ∷ rows) more = ap (λ l. cond (eqb r.posting n) (step_of r ∷ l) l) (moves_append n rows more) ∙ cond_append (eqb r.posting n) (step_of r) (moves_of n rows) (moves_of n more)
+moves_append n rows more = ap (map step_of) (filter-append (λ (row : MoveRow). row.posting == n) rows more) ∙ map-append step_of _ _
 
 moves_next : (n : ℕ) (rows : List MoveRow) (r : MoveRow) (more : List MoveRow) → r.posting ≡ n → moves_of n (rows ++ r ∷ more) ≡ moves_of n rows ++ step_of r ∷ moves_of n more
 moves_next n rows r more e = moves_append n rows (r ∷ more) ∙ ap (λ l. moves_of n rows ++ l) (hit_is n r more (eq-eqb r.posting n e))

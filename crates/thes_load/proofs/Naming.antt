@@ -2,8 +2,7 @@
 use Rattle.std.proofs.Common.{◌≡◌, ◌<◌, ◌≤◌, ℕ, List, [], ◌∷◌, ◌++◌, refl, sym, ap, ◌∙◌, subst, arith, inl, inr, Bool, true, false, true≢false}
 use Rattle.std.proofs.lemmas.Map.Lookups.{exact_unsigned}
 use Rattle.std.specs.Prelude.{None, Some}
-use Rattle.std.specs.Ordering.{nat_cmp, eq_by_cmp, is_eq}
-use Rattle.std.specs.Cmp.{nat_cmp_total, tied_itself, Equal-is}
+use Rattle.std.specs.Cmp.{nat_cmp_total}
 use Rattle.std.specs.FinMap as dict
 use Rattle.std.specs.FinSet as set
 use Rattle.thes_base.specs.declared.data.Resource.{Resource}
@@ -32,10 +31,6 @@ Row = ℕ × List ℕ
 ascends_push : (above : ℕ) (rows : List Row) (x : Row) → Ascends above rows → above < x.0 → EachRow (λ r. r.0 < x.0) rows → Ascends above (rows ++ x ∷ [])
 ascends_push above [] x up lt below = (lt, tt)
 ascends_push above (r ∷ rows) x up lt below = (up.0, ascends_push r.0 rows x up.1 (below r (inl refl)) (λ y h. below y (inr h)))
-
-ascends_front : (above : ℕ) (rows more : List Row) → Ascends above (rows ++ more) → Ascends above rows
-ascends_front above [] more up = tt
-ascends_front above (r ∷ rows) more up = (up.0, ascends_front r.0 rows more up.1)
 
 -- a row stands after those before it
 after_rows : (above : ℕ) (rows : List Row) (x : Row) (more : List Row) → Ascends above (rows ++ x ∷ more) → (above < x.0) × EachRow (λ r. r.0 < x.0) rows

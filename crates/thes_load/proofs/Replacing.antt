@@ -1,7 +1,7 @@
 -- What fits is legal, and chains of replacements as chains of links.
 use Rattle.std.proofs.Common.{◌≡◌, ◌≢◌, ◌⊎◌, ◌<◌, ◌≤◌, ◌^◌, ℕ, zero, suc, ◌+◌, length, List, refl, sym, ap, ◌∙◌, subst, arith, inl, inr, true, false}
 use Rattle.std.proofs.lemmas.Option.{same_Some}
-use Rattle.std.specs.Prelude.{Option, Some, None, option_and_then}
+use Rattle.std.specs.Prelude.{Option, Some, None}
 use Rattle.std.specs.FinSet.{empty, insert, contains-empty}
 use Rattle.thes_base.specs.declared.data.Resource.{Resource}
 use Rattle.thes_base.specs.declared.data.ResourceKind.{ResourceKind}
@@ -19,6 +19,7 @@ use Rattle.thes_base.proofs.LinkSets.{links_total, links_exact, link_inserted_ca
 use Rattle.thes_base.proofs.SetMembers.{inserted_new, inserted_kept}
 use Rattle.thes_base.proofs.ResourceLemmas.{same_or_not}
 use Rattle.thes_base.proofs.ResourcesKept.{path_map}
+use Rattle.thes_base.proofs.Forwarding.{next_is, is_next}
 use Rattle.thes_tables.specs.Rules.{ResourceRule}
 use Rattle.thes_load.specs.Fitting.{SchemeFits, ReplacementFits, Fits, EachFits, AreApart, HasReturn, HasReplacements, is_cycle}
 
@@ -69,19 +70,8 @@ module _ (rs : List Resource) where
   pub fits_legal : ((n : ℕ) (r : Resource) → numbered rs n ≡ Some r → IsLegalResource rs n r) → EachFits rs
   fits_legal each n r e = fits_of n r (each n r e)
 
-  -- a replacement is a resource's
-  pub replaced_at : (n m : ℕ) → replacement_of rs n ≡ Some m → IsReplacedBy rs n m
-  replaced_at n m e = go (numbered rs n) refl e
-    where
-      go : (o : Option Resource) → numbered rs n ≡ o → option_and_then (λ (r : Resource). r.replaced) o ≡ Some m → IsReplacedBy rs n m
-      go None at e = absurd (cc)
-      go (Some r) at e = (r, at, e)
-
-  pub replacement_at : (n m : ℕ) → IsReplacedBy rs n m → replacement_of rs n ≡ Some m
-  replacement_at n m is = ap (option_and_then (λ (r : Resource). r.replaced)) is.1 ∙ is.2
-
   pub apart_of : EachFits rs → AreApart rs
-  apart_of each n m e same = let is = replaced_at n m e in (subst (ReplacementFits rs n is.0) is.2 (each n is.0 is.1).2).1 (sym same)
+  apart_of each n m e same = let is = next_is rs n m e in (subst (ReplacementFits rs n is.0) is.2 (each n is.0 is.1).2).1 (sym same)
 
   -- Replacements as links.
 
@@ -103,7 +93,7 @@ module _ (rs : List Resource) where
     where
       either : (m n : ℕ) → m ≤ i + 1 → IsReplacedBy rs m n → (m ≡ i + 1) ⊎ (m ≢ i + 1) → HeldIn links (record { kind = Broader; a = m; b = n })
       either m n le is (inl same) =
-          let f : None ≡ Some n = sym none ∙ ap (replacement_of rs) (sym same) ∙ replacement_at m n is in
+          let f : None ≡ Some n = sym none ∙ ap (replacement_of rs) (sym same) ∙ is_next rs m n is in
           absurd (cc)
       either m n le is (inr differ) = has.complete m n (omega (arith, le, differ)) is
 
@@ -114,12 +104,12 @@ module _ (rs : List Resource) where
   }
     where
       sound_at : (l : Link) → (l ≡ record { kind = Broader; a = i + 1; b = by }) ⊎ HeldIn links l → (l.kind ≡ Broader) × IsReplacedBy rs l.a l.b
-      sound_at l (inl is) = subst (λ (x : Link). (x.kind ≡ Broader) × IsReplacedBy rs x.a x.b) (sym is) (refl, replaced_at (i + 1) by is_by)
+      sound_at l (inl is) = subst (λ (x : Link). (x.kind ≡ Broader) × IsReplacedBy rs x.a x.b) (sym is) (refl, next_is rs (i + 1) by is_by)
       sound_at l (inr held) = has.sound l held
 
       either : (m n : ℕ) → m ≤ i + 1 → IsReplacedBy rs m n → (m ≡ i + 1) ⊎ (m ≢ i + 1) → HeldIn (insert links (record { kind = Broader; a = i + 1; b = by })) (record { kind = Broader; a = m; b = n })
       either m n le is (inl same) =
-          let f : Some by ≡ Some n = sym is_by ∙ ap (replacement_of rs) (sym same) ∙ replacement_at m n is in
+          let f : Some by ≡ Some n = sym is_by ∙ ap (replacement_of rs) (sym same) ∙ is_next rs m n is in
           let new = inserted_new links_total links_exact links (record { kind = Broader; a = i + 1; b = by }) in
           subst (λ (p : ℕ × ℕ). HeldIn (insert links (record { kind = Broader; a = i + 1; b = by })) (record { kind = Broader; a = p.0; b = p.1 })) (λ j. (sym same j, same_Some _ _ f j)) new
       either m n le is (inr differ) = inserted_kept links_total links_exact links _ _ (has.complete m n (omega (arith, le, differ)) is)

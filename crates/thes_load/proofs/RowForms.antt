@@ -1,5 +1,5 @@
 -- Rows that meet their rules have their forms.
-use Rattle.std.proofs.Common.{◌≡◌, ◌<◌, ◌^◌, ℕ, length, List, [], refl, sym, ap, ◌∙◌, subst, arith, inl, inr, ◌≢◌}
+use Rattle.std.proofs.Common.{◌≡◌, ◌<◌, ◌^◌, ℕ, length, List, refl, sym, ap, ◌∙◌, subst, arith, inl, inr, ◌≢◌}
 use Rattle.std.specs.Prelude.{Option, None, Some}
 use Rattle.std.proofs.lemmas.Option.{same_Some}
 use Rattle.thes_base.specs.declared.data.Resource.{Resource}
@@ -17,9 +17,9 @@ use Rattle.thes_base.proofs.ResourceLemmas.{owner_exists}
 use Rattle.thes_rows.specs.declared.rows.HierRow.{HierRow}
 use Rattle.thes_rows.specs.declared.rows.PostingRow.{PostingRow}
 use Rattle.thes_rows.specs.declared.rows.MoveRow.{MoveRow}
-use Rattle.thes_rows.specs.Tables.{IsIn, hier_link, step_of}
+use Rattle.thes_rows.specs.Tables.{IsIn, hier_link, step_of, moves_of}
 use Rattle.thes_rows.proofs.MoveRows.{in_all}
-use Rattle.thes_tables.specs.Rules.{ResourceRule, OutsideRule, LabelRule, LinkRule, HierRule, PostingRule, MoveRule, moves_of}
+use Rattle.thes_tables.specs.Rules.{ResourceRule, OutsideRule, LabelRule, LinkRule, HierRule, PostingRule, MoveRule}
 use Rattle.thes_tables.proofs.Lists.{in_numbered, numbered_in, in_set}
 use Rattle.thes_tables.proofs.LinkTables.{hier_held}
 use Rattle.thes_tables.proofs.MoveRows.{row_of_move, move_of_row, all_of_in}

@@ -1,5 +1,5 @@
 -- A row at each stage: taken, or the fault.
-use Rattle.std.proofs.Common.{◌≡◌, ◌≢◌, ◌⊎◌, ◌<◌, ◌^◌, ℕ, length, List, [], ◌∷◌, ◌++◌, map, refl, sym, ap, ◌∙◌, subst, inl, inr, Bool, true, false, Vec, Global, append_assoc}
+use Rattle.std.proofs.Common.{◌≡◌, ◌≢◌, ◌⊎◌, ◌<◌, ◌^◌, ℕ, length, List, [], ◌∷◌, ◌++◌, map, refl, sym, ap, ◌∙◌, subst, inl, inr, Bool, true, false, append_assoc}
 use Rattle.std.specs.Prelude.{None, Some, Err, option_map}
 use Rattle.std.proofs.lemmas.Option.{same_Some}
 use Rattle.thes_base.specs.declared.data.Resource.{Resource}
@@ -50,22 +50,12 @@ pub meta_fault : (more : Raw)
 meta_fault more none no_base =
     (judged more (blank [])).meta (λ (v, b, lt, e). none v b (inl lt) e) (λ (v, b, is, e). none v b (inr is) e) (λ base (e, form). no_base base form e)
 
--- two rows, or none
-grown_one : (one two cells : List Cell) (rows : List (List Cell)) (queried : RawTable) → Grows (Some (one ∷ two ∷ rows)) queried → queried ≢ Some (cells ∷ [])
-grown_one one two cells rows queried (inl none) e = let f = sym none ∙ e in absurd (cc)
-grown_one one two cells rows queried (inr (more, is)) e = let f = same_Some _ _ (sym is ∙ e) in absurd (cc)
-
 grown_is : (one cells : List Cell) (queried : RawTable) → Grows (Some (one ∷ [])) queried → queried ≡ Some (cells ∷ []) → one ≡ cells
 grown_is one cells queried (inl none) e = let f = sym none ∙ e in absurd (cc)
 grown_is one cells queried (inr (more, is)) e = head_one (same_Some _ _ (sym is ∙ e))
 
 abbrev with_cells : List Cell → RawTable → RawTable
 with_cells cells queried = option_map (λ (rows : List (List Cell)). rows ++ cells ∷ []) queried
-
-pub meta_second : (row : MetaRow) (cells : List Cell) → ReadsRow (stage.Meta (Some row)) (stage.Meta (Some row)) cells false
-meta_second row cells raw ((first, is, spells), after) more grown =
-    let grows = subst (λ (q : RawTable). Grows q more.meta) (ap (with_cells cells) is) grown in
-    meta_fault more (λ version base which e. grown_one first cells _ [] more.meta grows e) (λ base form e. grown_one first cells _ [] more.meta grows e)
 
 pub meta_row : (row : MetaRow) (cells : List Cell) → SpellsMeta cells (Some row) → ReadsRow (stage.Meta None) (stage.Meta (Some row)) cells true
 meta_row row cells spells = (refl, λ raw (none, after). ((cells, ap (with_cells cells) none, spells), after))

@@ -6,7 +6,6 @@ use Rattle.thes_base.specs.declared.fault.Table.{Table}
 use Rattle.thes_base.specs.declared.fault.Table.TheVariants as table
 use Rattle.thes_rows.specs.declared.cells.Cell.{Cell}
 use Rattle.thes_rows.specs.Cells.{Raw, RawTable}
-use Rattle.thes_tables.specs.Loads.{IsTable}
 use Rattle.thes_tables.specs.Laws.{HasNone}
 use Rattle.thes_tables.proofs.Judging.{judged}
 use Rattle.thes_load.specs.declared.stage.Stage.{Stage}

@@ -6,7 +6,7 @@ use Rattle.thes_base.specs.declared.fault.Fault.{Fault}
 use Rattle.thes_base.specs.declared.fault.Table.{Table}
 use Rattle.thes_base.specs.declared.fault.Table.TheVariants as table
 use Rattle.thes_rows.specs.Cells.{Raw}
-use Rattle.thes_store.specs.Handing.{handed, handed_of}
+use Rattle.thes_store.specs.Handing.{handed_of}
 use Rattle.thes_store.specs.Handing as hands
 use Rattle.thes_store.proofs.Handed.{takes_then}
 use Rattle.thes_load.specs.Progress.{table_no, no_rows}

@@ -13,17 +13,13 @@ use Rattle.thes_base.specs.Resources.{numbered}
 use Rattle.thes_base.specs.State.{State}
 use Rattle.thes_rows.specs.declared.rows.PostingRow.{PostingRow}
 use Rattle.thes_rows.specs.Cells.{Raw}
-use Rattle.thes_rows.specs.Tables.{Tables, IsIn, posting_row}
+use Rattle.thes_rows.specs.Tables.{IsIn, posting_row}
 use Rattle.thes_core.specs.declared.facts.Facts.{Facts}
 use Rattle.thes_core.specs.Facts.{AreFacts, IsRowOfKey, row_at, standing_numbers}
 use Rattle.thes_store.specs.Handing.{Takes}
-use Rattle.thes_store.specs.Reading.{Told, IsFound, IsTold, standing_rows}
+use Rattle.thes_store.specs.Reading.{IsFound, standing_rows}
 use Rattle.thes_office.specs.Asks.{Asks, PushesNumber, TellsRow, TellsRows}
 use Rattle.thes_office.specs.Shows.{Shows}
-
--- the rows of the postings that a state has
-postings_shown : (raw : Raw) (base : List ℕ) (s : State) (x : Shows raw base s) → x.tables.posting ≡ map posting_row s.histories
-postings_shown raw base s x = x.holds.posting
 
 -- a row among them is a history's
 in_rows : (hs : List History) (row : PostingRow) → IsIn row (map posting_row hs) → (i : ℕ) × (h : History) × (slice_get hs i ≡ Some h) × (row ≡ posting_row h)
@@ -55,10 +51,6 @@ numbered_map f xs zero = refl
 numbered_map f [] (suc n) = refl
 numbered_map f (x ∷ xs) (suc zero) = refl
 numbered_map f (x ∷ xs) (suc (suc n)) = numbered_map f xs (suc n)
-
-pub told_row : (s : State) (t : Tables) (n : ℕ) (told : Option Told) → t.posting ≡ map posting_row s.histories → IsTold n t told → option_map (λ (x : Told). x.row) told ≡ row_at s.histories n
-told_row s t n (Some told) is at = sym at.0 ∙ ap (λ (rows : List PostingRow). numbered rows n) is ∙ numbered_map posting_row s.histories n
-told_row s t n None is at = sym at ∙ ap (λ (rows : List PostingRow). numbered rows n) is ∙ numbered_map posting_row s.histories n
 
 -- those that stand at a concept, by their rows and by their histories
 pub standing_shown : (concept : ℕ) (hs : List History) → standing_rows concept (map posting_row hs) ≡ map posting_row (filter (stands_at concept) hs)
@@ -94,9 +86,6 @@ pub record Telling {K : Type 0} (rows : K → Raw) (is_up : K → Type 0) (faile
   pub was : is_up now → is_up old
   pub count : failed now ≡ failed old
   pub told_all : is_up now → TellsRows (rows old) ns told
-
-pub telling_none : {K : Type 0} (rows : K → Raw) (is_up : K → Type 0) (failed : K → ℕ) (now : K) (told : List (Option PostingRow)) → told ≡ [] → Telling rows is_up failed now now [] told
-telling_none rows is_up failed now told none = record { same = λ up. refl; was = λ up. up; count = refl; told_all = λ up base s x. none }
 
 pub telling_more : {K : Type 0} (rows : K → Raw) (is_up : K → Type 0) (failed : K → ℕ) (old mid new : K) (ns more : List ℕ) (told last : List (Option PostingRow)) (n : ℕ) (row : Option PostingRow) → Telling rows is_up failed old mid ns told
     → Asks rows is_up failed mid new (let x : Result (Option PostingRow) Fault = Ok row in x) → (is_up new → TellsRow (rows mid) n row) → more ≡ ns ++ n ∷ [] → last ≡ told ++ row ∷ [] → Telling rows is_up failed old new more last

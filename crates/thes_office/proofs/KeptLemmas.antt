@@ -14,7 +14,7 @@ use Rattle.thes_base.specs.State.{State}
 use Rattle.thes_base.proofs.MachineLemmas.{legal_is_in_order}
 use Rattle.thes_rows.specs.Cells.{Raw}
 use Rattle.thes_core.specs.Kept as core
-use Rattle.thes_store.specs.Causes.{HasCause, most}
+use Rattle.thes_store.specs.Causes.{HasCause, IsCounted}
 use Rattle.thes_tables.specs.Loads.{Loads}
 use Rattle.thes_office.specs.Asks.{IsRead}
 use Rattle.thes_office.specs.Office.{AreLimits, Goes, GoesOn, IsConsistent, IsCopy, Kept, Performed, RanAll, RanPart, Readied, Same, Steps, setting}
@@ -37,13 +37,15 @@ goes_on_none limits raw base s shows in_order = record {
 -- The count of failures never falls, whatever a call answers.
 pub never_falls : {T : Type 0} (before now : ℕ) (result : Result T Fault) → HasCause before now result → before ≤ now
 never_falls before now (Ok x) cause = omega (arith, cause)
-never_falls before now (Err fault) cause = cause.0
+never_falls before now (Err fault) (inl (memory, same)) = omega (arith, same)
+never_falls before now (Err fault) (inr (store, inl more)) = omega (arith, more)
+never_falls before now (Err fault) (inr (store, inr (at_most, same))) = omega (arith, same)
 
 -- a fault of the store is counted
-pub has_failed : (before now : ℕ) (fault : Fault) → (before ≤ now) × ((fault ≡ faults.OutOfMemory) ⊎ ((fault ≡ faults.Store) × ((before < now) ⊎ (before ≡ most)))) → fault ≡ faults.Store → 0 < now
-has_failed before now fault (later, inl memory) is = absurd (cc)
-has_failed before now fault (later, inr (e, inl more)) is = omega (arith, more)
-has_failed before now fault (later, inr (e, inr at_most)) is = omega (arith, later, at_most)
+pub has_failed : (before now : ℕ) (fault : Fault) → IsCounted before now fault → fault ≡ faults.Store → 0 < now
+has_failed before now fault (inl (memory, same)) is = absurd (cc)
+has_failed before now fault (inr (e, inl more)) is = omega (arith, more)
+has_failed before now fault (inr (e, inr (at_most, same))) is = omega (arith, at_most, same)
 
 module _ {K : Type 0} (rows : K → Raw) (is_up : K → Type 0) (failed : K → ℕ) where
   -- after a load

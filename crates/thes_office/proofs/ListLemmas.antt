@@ -1,6 +1,6 @@
 -- What is read of postings, and what it says of their histories.
-use Rattle.std.proofs.Common.{◌≡◌, ◌-◌, ℕ, List, [], ◌∷◌, Bool, true, false, refl, sym, ap, subst, ◌∙◌, inl, map}
-use Rattle.std.specs.Prelude.{Option, None, Some, Result, cond, filter, ◌==◌, option_map}
+use Rattle.std.proofs.Common.{◌≡◌, ◌-◌, ℕ, List, [], ◌∷◌, refl, sym, ap, subst, ◌∙◌, inl, map}
+use Rattle.std.specs.Prelude.{Option, None, Some, Result, option_map}
 use Rattle.thes_base.specs.declared.data.History.{History}
 use Rattle.thes_base.specs.declared.data.Move.{Move}
 use Rattle.thes_base.specs.declared.fault.Fault.{Fault}
@@ -13,13 +13,12 @@ use Rattle.thes_base.specs.Resources.{numbered, IsConcept}
 use Rattle.thes_base.specs.Rows.{accepted}
 use Rattle.thes_base.specs.State.{State}
 use Rattle.thes_base.specs.Views.{totals_of}
-use Rattle.thes_rows.specs.declared.rows.MoveRow.{MoveRow}
 use Rattle.thes_rows.specs.declared.rows.PostingRow.{PostingRow}
 use Rattle.thes_rows.specs.Cells.{Raw}
-use Rattle.thes_rows.specs.Tables.{step_of}
+use Rattle.thes_rows.specs.Tables.{moves_of}
 use Rattle.thes_core.specs.Kept as core
 use Rattle.thes_store.specs.Handing.{Takes, TakesSome}
-use Rattle.thes_store.specs.Reading.{Told, IsTold, standing_rows, moves_of}
+use Rattle.thes_store.specs.Reading.{Told, IsTold, standing_rows}
 use Rattle.thes_tables.specs.Rules as tables
 use Rattle.thes_tables.proofs.Holding.{held_loads}
 use Rattle.thes_office.specs.Asks.{InShown}
@@ -29,15 +28,6 @@ use Rattle.thes_office.specs.Shows.{Shows}
 use Rattle.thes_office.proofs.FactLemmas.{numbered_map, standing_shown}
 use Rattle.thes_office.proofs.ShowLemmas.{shows_one}
 
-moves_same : (n : ℕ) (rows : List MoveRow) → moves_of n rows ≡ tables.moves_of n rows
-moves_same n [] = refl
-moves_same n (row ∷ rows) = go (row.posting == n) (moves_same n rows)
-  where
-    go : (b : Bool) → moves_of n rows ≡ tables.moves_of n rows
-        → map step_of (cond b (row ∷ filter (λ (m : MoveRow). m.posting == n) rows) (filter (λ (m : MoveRow). m.posting == n) rows)) ≡ cond b (step_of row ∷ tables.moves_of n rows) (tables.moves_of n rows)
-    go true e = ap (λ (l : List Move). step_of row ∷ l) e
-    go false e = e
-
 -- a posting that is told with its moves is a history
 pub told_history : (raw : Raw) (base : List ℕ) (s : State) (x : Shows raw base s) (n : ℕ) (told : Told) → IsTold n x.tables (Some told)
     → Some (record { number = told.row.number; key = told.row.key; rec = told.row.rec; first = told.row.first; moves = told.moves; withdrawn = told.row.withdrawn }) ≡ numbered s.histories n
@@ -46,7 +36,7 @@ told_history raw base s x n told is =
     let at : Some (tables.history_of x.tables.move told.row) ≡ numbered s.histories n =
     ap (option_map (tables.history_of x.tables.move)) (sym is.0) ∙ sym (numbered_map (tables.history_of x.tables.move) x.tables.posting n) ∙ ap (λ (l : List History). numbered l n) hs in
     let number : told.row.number ≡ n = (x.legal.postings.sound n (tables.history_of x.tables.move told.row) (sym at)).number in
-    let moves : told.moves ≡ tables.moves_of told.row.number x.tables.move = is.1 ∙ moves_same n x.tables.move ∙ ap (λ (k : ℕ). tables.moves_of k x.tables.move) (sym number) in
+    let moves : told.moves ≡ moves_of told.row.number x.tables.move = is.1 ∙ ap (λ (k : ℕ). moves_of k x.tables.move) (sym number) in
     ap (λ (ms : List Move). Some (record { number = told.row.number; key = told.row.key; rec = told.row.rec; first = told.row.first; moves = ms; withdrawn = told.row.withdrawn })) moves ∙ at
 
 -- and where none is told there is none

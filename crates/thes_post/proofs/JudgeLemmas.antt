@@ -1,14 +1,12 @@
 -- Rows of refusals: what a walk over the postings listed finds, and what an accepted row says.
-use Rattle.std.proofs.Common.{◌≡◌, ◌<◌, ℕ, ◌+◌, length, List, [], ◌∷◌, refl, sym, ap, ◌∙◌, subst, ⊎_elim, Bool, true, false, not, ◌&&◌, eqb, ◌||◌, get_or, take}
+use Rattle.std.proofs.Common.{◌≡◌, ◌<◌, ℕ, ◌+◌, length, List, refl, sym, ap, ◌∙◌, subst, ⊎_elim, Bool, true, false, not, ◌||◌, get_or, take}
 use Rattle.std.specs.Prelude.{Some, None}
 use Rattle.thes_base.specs.declared.data.History.{History}
 use Rattle.thes_base.specs.Resources.{numbered}
-use Rattle.thes_base.specs.Postings.{place, stands_at}
 use Rattle.thes_base.specs.Rows.{accepted}
-use Rattle.thes_base.specs.Refusals.{EachOnce, EachListed, PostingPasses, unless_standing, unless_listed}
+use Rattle.thes_base.specs.Refusals.{EachListed, PostingPasses, unless_standing}
 use Rattle.thes_base.proofs.RowLemmas.{passed_unless}
 use Rattle.std.proofs.lemmas.Bool.{cases_Bool, not-true}
-use Rattle.std.proofs.lemmas.Option.{same_Some}
 use Rattle.thes_post.proofs.EachLemmas.{each_more, each_at}
 
 -- A mark that is set where one of a list fails a test.
@@ -41,19 +39,3 @@ passed_standing hs n row =
     let known = passed_unless row in
     let passes = (passed_unless known.1).0 in
     (passes.0, passes.1, not-true passes.0.withdrawn passes.2)
-
-stands_listed : (hs : List History) (source : ℕ) (ns : List ℕ) → EachListed (PostingPasses hs (λ h. not h.withdrawn)) ns → EachListed (PostingPasses hs (λ h. eqb (place h) source)) ns → EachListed (PostingPasses hs (stands_at source)) ns
-stands_listed hs source [] stays here = tt
-stands_listed hs source (n ∷ ns) stays here =
-    let same : here.0.0 ≡ stays.0.0 = same_Some here.0.0 stays.0.0 (sym here.0.1 ∙ stays.0.1) in (
-      (stays.0.0, stays.0.1, (λ i. stays.0.2 i && (ap (λ (x : History). eqb (place x) source) (sym same) ∙ here.0.2) i)),
-      stands_listed hs source ns stays.1 here.1,
-    )
-
-pub passed_listed : (hs : List History) (source : ℕ) (ns : List ℕ) → unless_listed hs source ns accepted None → EachOnce ns × EachListed (PostingPasses hs (stands_at source)) ns
-passed_listed hs source ns row =
-    let once = passed_unless row in
-    let known = passed_unless once.1 in
-    let stays = passed_unless known.1 in
-    let here = passed_unless stays.1 in
-    (once.0, stands_listed hs source ns stays.0 here.0)

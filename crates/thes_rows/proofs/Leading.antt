@@ -1,6 +1,6 @@
 -- The changes of a request lead to the rows of the next state.
 use Rattle.std.proofs.Common.{◌≡◌, ◌≢◌, ◌<◌, ◌≤◌, inl, inr, ℕ, suc, ◌+◌, ◌-◌, length, List, [], ◌∷◌, ◌++◌, refl, sym, ap, ◌∙◌, subst, arith, true, false, Bool, cond, map, append_assoc}
-use Rattle.std.proofs.lemmas.List.{map-append}
+use Rattle.std.proofs.lemmas.List.{map-append, append-nil}
 use Rattle.std.specs.Prelude.{Some, None, Option, slice_get, if◌then◌else◌}
 use Rattle.std.specs.Ordering.{nat_cmp, eq_by_cmp, is_eq}
 use Rattle.std.specs.Cmp.{nat_cmp_total, tied_itself}
@@ -37,7 +37,6 @@ use Rattle.thes_rows.specs.Tables.{Tables, IsRowsOf, IsIn, Lists, IsLabelOf, Are
 use Rattle.thes_rows.specs.Rows.{changed, all_changed, FitAll, without_row, with_posting, withdrawn_row, placed_row, moved_row}
 use Rattle.thes_rows.specs.Changes.{changes_of, changes_made, changes_relabelled, new_moves, move_row, add_link, drop_link, coming, without_all, links_going}
 use Rattle.thes_rows.specs.Leads.{Leads}
-use Rattle.std.proofs.lemmas.List.{append-nil}
 use Rattle.std.proofs.lemmas.Bool.{cases_Bool}
 use Rattle.thes_base.proofs.SetMembers.{inserted_cases, removed_cases}
 use Rattle.thes_base.proofs.ListedLemmas.{NumberedFrom, numbered_from}

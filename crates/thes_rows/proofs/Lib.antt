@@ -4,3 +4,4 @@ pub mod LinkRows
 pub mod MoveRows
 pub mod Leading
 pub mod Listing
+pub mod OldRowLemmas

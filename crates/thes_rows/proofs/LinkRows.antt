@@ -18,7 +18,7 @@ use Rattle.thes_rows.specs.declared.change.Change.{Change}
 use Rattle.thes_rows.specs.declared.change.Change.TheVariants as change
 use Rattle.thes_rows.specs.Tables.{Tables, IsRowsOf, Lists, IsHierOf, IsLinkOf, hier_kind, hier_link, hier_type}
 use Rattle.thes_rows.specs.Rows.{changed, all_changed, FitAll, Fits}
-use Rattle.thes_rows.specs.Changes.{hier_row, add_link, drop_link, coming, without_all, links_going, links_changed}
+use Rattle.thes_rows.specs.Changes.{hier_row, add_link, drop_link, coming, without_all, links_going}
 use Rattle.std.proofs.lemmas.Bool.{cases_Bool, not-true, not_from_false}
 use Rattle.thes_base.proofs.SetMembers.{inserted_cases, inserted_kept, inserted_new, removed_cases, removed_kept}
 use Rattle.thes_rows.proofs.Sets.{clash, tied, inserted, Absent, coming_same, coming_absent, turned, lists_push, lists_filter, lists_drop, lists_same}

@@ -58,6 +58,16 @@ in_map f y [] h = absurd h
 in_map f y (x ∷ xs) (inl e) = (x, inl refl, e)
 in_map f y (x ∷ xs) (inr h) = let later = in_map f y xs h in (later.0, inr later.1, later.2)
 
+-- elements that stand once stay so where no two become one
+pub once_map : {A B : Type 0} (f : A → B) (xs : List A)
+    → ((x y : A) → IsIn x xs → IsIn y xs → f x ≡ f y → x ≡ y) → Once xs → Once (map f xs)
+once_map f [] one once = tt
+once_map f (x ∷ xs) one once = (
+  λ h. let at = in_map f (f x) xs h in
+      once.0 (subst (λ y. IsIn y xs) (sym (one x at.0 (inl refl) (inr at.1) at.2)) at.1),
+  once_map f xs (λ y z hy hz. one y z (inr hy) (inr hz)) once.1,
+)
+
 pub map_in : {A B : Type 0} (f : A → B) (x : A) (xs : List A) → IsIn x xs → IsIn (f x) (map f xs)
 map_in f x [] h = absurd h
 map_in f x (y ∷ xs) (inl e) = inl (ap f e)

@@ -1,5 +1,5 @@
 -- The tables in which a state is kept.
-use Rattle.std.specs.Prelude.{◌≡◌, ◌⊎◌, ◌<◌, ℕ, List, [], ◌∷◌, Option, None, Some, map, true, ◌==◌, ◌&&◌, Bool, not}
+use Rattle.std.specs.Prelude.{◌≡◌, ◌⊎◌, ◌<◌, ℕ, List, [], ◌∷◌, Option, None, Some, map, filter, true, ◌==◌, ◌&&◌, Bool, not}
 use Rattle.std.specs.FinSet as set
 use Rattle.std.specs.FinMap as dict
 use Rattle.thes_base.specs.declared.data.Resource.{Resource}
@@ -95,6 +95,10 @@ posting_row h = record { number = h.number; key = h.key; rec = h.rec; first = h.
 
 abbrev pub step_of : MoveRow → Move
 step_of row = record { number = row.number; source = row.source; target = row.target }
+
+-- the moves of a posting, in order
+abbrev pub moves_of : ℕ → List MoveRow → List Move
+moves_of n rows = map step_of (filter (λ (row : MoveRow). row.posting == n) rows)
 
 -- the posting isn't withdrawn, and stands at the concept
 abbrev pub is_standing : ℕ → PostingRow → Bool

@@ -1,7 +1,5 @@
 -- What an INSERT of one row makes of a table of a store.
-use Rattle.std.proofs.Common.{arith, ◌≡◌, inl, inr, ℕ, ℤ, ◌+ℤ◌, suc, pos, List, [], ◌∷◌, ◌++◌, ◌<◌, ◌+◌}
-use Rattle.std.proofs.Common.{◌/◌, length, map, filter, fold, slice_get, Bool, cond, false, Option, None}
-use Rattle.std.proofs.Common.{Some, Ok, refl, sym, ap, subst, ◌∙◌}
+use Rattle.std.proofs.Common.{arith, ◌≡◌, inl, inr, ℕ, ℤ, ◌+ℤ◌, suc, pos, List, [], ◌∷◌, ◌++◌, ◌<◌, ◌+◌, ◌/◌, length, map, filter, fold, slice_get, Bool, cond, false, Option, None, Some, Ok, refl, sym, ap, subst, ◌∙◌}
 use Rattle.std.proofs.lemmas.Int.{ints}
 use Rattle.std.specs.Prelude.{IsUtf8}
 use Rattle.sqlite.specs.declared.types.Value.{Value}
@@ -34,21 +32,16 @@ use Rattle.thes_rows.specs.declared.rows.HierRow.{HierRow}
 use Rattle.thes_rows.specs.declared.rows.PostingRow.{PostingRow}
 use Rattle.thes_rows.specs.declared.rows.MoveRow.{MoveRow}
 use Rattle.thes_rows.specs.Tables.{Tables, IsIn}
-use Rattle.thes_rows.specs.Cells.{resource_kind_no, optional_cell, hier_type_no, resource_cells, outside_cells}
-use Rattle.thes_rows.specs.Cells.{posting_cells, move_cells}
+use Rattle.thes_rows.specs.Cells.{resource_kind_no, optional_cell, hier_type_no, resource_cells, outside_cells, posting_cells, move_cells}
 use Rattle.thes_sql.specs.Schema.{resource, outside, label, link, hier, posting, move, store_schema}
-use Rattle.thes_sql.specs.Stored.{Keeps, Rising, AreKeyed, AreHidden, AreNumbered, hidden_row, values, numbered_from}
-use Rattle.thes_sql.specs.Stored.{stored_resource, stored_outside, stored_posting, stored_move, label_values}
-use Rattle.thes_sql.specs.Stored.{link_values, hier_values, value_of}
-use Rattle.thes_sql.specs.Stored.{IsSpelledOutside, IsSpelledLabel, IsSpelledPosting}
+use Rattle.thes_sql.specs.Stored.{Keeps, Rising, AreKeyed, AreHidden, AreNumbered, hidden_row, values, numbered_from, stored_resource, stored_outside, stored_posting, stored_move, label_values, link_values, hier_values, value_of, IsSpelledOutside, IsSpelledLabel, IsSpelledPosting}
 use Rattle.thes_sql.proofs.Texts.{Means}
 use Rattle.thes_sql.proofs.Texts as text
 use Rattle.thes_sql.proofs.Writing.{IsQuietTable, inserted, cast_int, cast_null}
 use Rattle.thes_sql.proofs.Keyed.{keyed_push}
 use Rattle.thes_sql.proofs.Elements.{all_push}
 use Rattle.thes_sql.proofs.Statements.{Rewrites, retold}
-use Rattle.thes_sql.proofs.Holding.{keeps_resource, keeps_outside, keeps_label, keeps_link, keeps_hier, keeps_posting}
-use Rattle.thes_sql.proofs.Holding.{keeps_move}
+use Rattle.thes_sql.proofs.Holding.{keeps_resource, keeps_outside, keeps_label, keeps_link, keeps_hier, keeps_posting, keeps_move}
 
 -- one row is put into the tree: the source of it with a number, if it has none
 pub puts : (at : ℕ) (table : Table) (sql : List ℕ) (terms : List Term) (width : ℕ) (params source : Row)

@@ -1,6 +1,5 @@
 -- What each change does.
-use Rattle.std.proofs.Common.{◌≡◌, ℕ, pos, List, [], ◌∷◌, ◌<◌, ◌==◌, map, filter, slice_get, Bool, not, ◌&&◌}
-use Rattle.std.proofs.Common.{if◌then◌else◌, Some, None, Option, Ok, Err, Result, OnOk, refl, sym, subst}
+use Rattle.std.proofs.Common.{◌≡◌, ℕ, pos, List, [], ◌∷◌, ◌<◌, ◌==◌, map, filter, slice_get, Bool, not, ◌&&◌, if◌then◌else◌, Some, None, Option, Ok, Err, Result, OnOk, refl, sym, subst}
 use Rattle.std.specs.List.{list_all}
 use Rattle.std.specs.Prelude.{IsUtf8}
 use Rattle.std.specs.Ordering.{eq_by_cmp}
@@ -25,20 +24,16 @@ use Rattle.thes_rows.specs.declared.change.Change.{Change}
 use Rattle.thes_rows.specs.declared.change.Change.TheVariants as change
 use Rattle.thes_rows.specs.Tables.{Tables, hier_link}
 use Rattle.thes_rows.specs.Cells.{resource_cells, outside_cells, posting_cells, move_cells}
-use Rattle.thes_rows.specs.Rows.{changed, Fits, withdrawn_row, placed_row, without_row}
-use Rattle.thes_rows.specs.Rows.{without_hier}
+use Rattle.thes_rows.specs.Rows.{changed, Fits, withdrawn_row, placed_row, without_row, without_hier}
 use Rattle.thes_sql.specs.Schema.{resource, label, link, hier, posting, store_schema}
-use Rattle.thes_sql.specs.Stored.{Keeps, AreKeyed, AreHidden, hidden_row, stored_resource}
-use Rattle.thes_sql.specs.Stored.{stored_posting, label_values, link_values, hier_values, values, numbered_from}
-use Rattle.thes_sql.specs.Stored.{IsSpelledLabel, IsSpelledPosting}
+use Rattle.thes_sql.specs.Stored.{Keeps, AreKeyed, AreHidden, hidden_row, stored_resource, stored_posting, label_values, link_values, hier_values, values, numbered_from, IsSpelledLabel, IsSpelledPosting}
 use Rattle.thes_sql.specs.Does.{Does}
 use Rattle.thes_sql.proofs.Texts.{plain_query, whole, Means}
 use Rattle.thes_sql.proofs.Texts as text
 use Rattle.thes_sql.proofs.Writing.{IsQuietTable}
 use Rattle.thes_sql.proofs.Statements.{Rewrites, retold, updates, deletes}
 use Rattle.thes_sql.proofs.Holding.{keeps_resource, keeps_label, keeps_link, keeps_hier, keeps_posting}
-use Rattle.thes_sql.proofs.Adding.{cast_resource, cast_posting, hidden_drop, adds_resource, adds_outside, adds_label}
-use Rattle.thes_sql.proofs.Adding.{adds_link, adds_hier, adds_posting, adds_move}
+use Rattle.thes_sql.proofs.Adding.{cast_resource, cast_posting, hidden_drop, adds_resource, adds_outside, adds_label, adds_link, adds_hier, adds_posting, adds_move}
 use Rattle.thes_sql.proofs.Elements.{all_left, all_turned}
 use Rattle.thes_sql.proofs.Testing.{by_resource, by_number, by_place, by_label, by_link, by_hier}
 use Rattle.thes_sql.proofs.Places.{dead_is, posting_is, still_numbered}

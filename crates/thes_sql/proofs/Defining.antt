@@ -1,7 +1,5 @@
 -- What the texts that make the tables mean.
-use Rattle.std.proofs.Common.{arith, ◌≡◌, ◌≢◌, Option, ℕ, suc, zero, ◌<◌, List, [], ◌∷◌, codes, length, take, drop, slice_get}
-use Rattle.std.proofs.Common.{Some, None, Ok, Err, Result, OnOk, inl, inr, refl, sym, ap, subst, subst₂, ◌∙◌}
-use Rattle.std.proofs.Common.{◌||◌, ◌++◌, true, false, lit<, IsTrue}
+use Rattle.std.proofs.Common.{arith, ◌≡◌, ◌≢◌, Option, ℕ, suc, zero, ◌<◌, List, [], ◌∷◌, codes, length, take, drop, slice_get, Some, None, Ok, Err, Result, OnOk, inl, inr, refl, sym, ap, subst, subst₂, ◌∙◌, ◌||◌, ◌++◌, true, false, lit<, IsTrue}
 use Rattle.std.specs.List.{AllByRecursion}
 use Rattle.sqlite.specs.Schema.{Schema}
 use Rattle.sqlite.specs.Table.{Table}
@@ -16,36 +14,29 @@ use Rattle.sqlite.specs.Tree.{Trees}
 use Rattle.sqlite.specs.declared.error.Error.{Error}
 use Rattle.sqlite_tied.specs.Compute.{everything}
 use Rattle.sqlite.specs.Listing.{understood}
-use Rattle.sqlite.specs.Effect.{Database}
-use Rattle.sqlite.specs.State.{State, mode_of, Runs, RunsCommand, Executes, ExecutesIn, shows_rows, IsUnchanged, IsNoStatement, ExecutesInside}
-use Rattle.sqlite.specs.State.{IsNotRun, store_error}
+use Rattle.sqlite.specs.Effect.{Database, alter_error, is_query}
+use Rattle.sqlite.specs.State.{State, mode_of, Runs, RunsCommand, Executes, ExecutesIn, shows_rows, IsUnchanged, IsNoStatement, ExecutesInside, IsNotRun}
 use Rattle.sqlite.specs.Clock.{timed}
 use Rattle.sqlite.specs.declared.run.Mode.{Mode}
 use Rattle.sqlite.specs.declared.error.Error.TheVariants.{SqlInputError}
 use Rattle.sqlite_resolve.specs.declared.error.CompileError.{CompileError}
-use Rattle.sqlite_trees.specs.declared.error.StoreError.{StoreError}
-use Rattle.sqlite_trees.specs.declared.error.StoreError.TheVariants as cause
 use Rattle.sqlite_catalog.specs.declared.error.Refusal.{Refusal}
 use Rattle.sqlite_catalog.specs.declared.error.Refusal.TheVariants as refusal
 use Rattle.sqlite_catalog.specs.Calls.{RefusesIndex}
-use Rattle.sqlite.specs.Effect.{alter_error}
 use Rattle.std.proofs.lemmas.Bool.{cases_Bool}
-use Rattle.sqlite.specs.Effect.{is_query}
 use Rattle.sqlite.specs.Batch.{first_len, RunInTurn, ExecutesAllInside}
 use Rattle.sqlite.specs.Held.{Held, state}
 use Rattle.sqlite.specs.Command.{Command}
 use Rattle.sqlite_trees.specs.declared.store.Store.{Ghosts}
 use Rattle.sqlite.proofs.Callers.{IsPlain, command_of, statement_of, runs_as}
 use Rattle.sqlite_trees.proofs.ListLemmas.{all-append}
-use Rattle.thes_sql.specs.Schema.{meta, resource, outside, label, link, hier, posting, move, posting_at, move_posting}
-use Rattle.thes_sql.specs.Schema.{schema_0, schema_1, schema_2, schema_3, schema_4, schema_5, schema_6, schema_7}
-use Rattle.thes_sql.specs.Schema.{schema_8, schema_9, store_schema}
+use Rattle.thes_sql.specs.Schema.{meta, resource, outside, label, link, hier, posting, move, posting_at, move_posting, schema_0, schema_1, schema_2, schema_3, schema_4, schema_5, schema_6, schema_7, schema_8, schema_9, store_schema}
 use Rattle.thes_rows.specs.Tables.{Tables}
-use Rattle.thes_sql.specs.Stored.{HoldResources, HoldOutside, HoldPostings, HoldMoves, AreHidden, label_values}
-use Rattle.thes_sql.specs.Stored.{link_values}
+use Rattle.thes_sql.specs.Stored.{HoldResources, HoldOutside, HoldPostings, HoldMoves, AreHidden, label_values, link_values}
 use Rattle.thes_sql.specs.Older.{old_schema, KeepsOld, KeepsAs, IsOldStore, IsEnlarged}
 use Rattle.thes_sql.specs.Does.{IsEmpty, Turns, TurnsEach, Extends, Tries}
 use Rattle.thes_sql.proofs.Writing.{went, same_value}
+use Rattle.thes_sql.proofs.Leaving.{no_cause}
 
 -- in this schema the text makes the table
 abbrev MakesTable : Schema → List ℕ → Table → Type 0
@@ -259,22 +250,14 @@ module _ {S : Type 0} (g : Ghosts S) (new : Held S) {Goal : Type 0} where
 
 -- What an index is of is there, so its text is understood.
 module _ (text : List ℕ) (old new : State) (fault : CompileError) where
-  no_cause : (cause : StoreError) → SqlInputError fault ≢ store_error cause
-  no_cause cause.OutOfMemory told = cc
-  no_cause cause.Io told = cc
-  no_cause cause.Corrupt told = cc
-  no_cause cause.Full told = cc
-  no_cause cause.Broken told = cc
-  no_cause cause.Unstorable told = cc
-
   -- a text that is not understood changes nothing
   pub refused_unchanged : Executes text [] old new (Err (SqlInputError fault)) → IsUnchanged old new
   unfolding ExecutesIn IsNotRun
   refused_unchanged (inl (inl none)) = none.1
-  refused_unchanged (inl (inr fails)) = absurd (no_cause fails.0 fails.1)
+  refused_unchanged (inl (inr fails)) = absurd (no_cause fault fails.0 fails.1)
   refused_unchanged (inr h) = elim (cases_Bool (shows_rows false h.0)) [
     | inl shows ↦ (rw shows at h.2).1
-    | inr runs ↦ elim (rw runs at h.2) [ inl refused ↦ refused.1 | inr fails ↦ absurd (no_cause fails.0 fails.1) ]
+    | inr runs ↦ elim (rw runs at h.2) [ inl refused ↦ refused.1 | inr fails ↦ absurd (no_cause fault fails.0 fails.1) ]
   ]
 
   module _ (from : Schema) (at : ℕ) (table : Table) (index : Index) (is : AddsIndex from text at table index)
@@ -316,7 +299,7 @@ module _ (text : List ℕ) (old new : State) (fault : CompileError) where
     pub not_refused : Executes text [] old new (Err (SqlInputError fault)) → ⊥
     unfolding ExecutesIn IsNotRun
     not_refused (inl (inl none)) = no_statement none.0
-    not_refused (inl (inr fails)) = no_cause fails.0 fails.1
+    not_refused (inl (inr fails)) = no_cause fault fails.0 fails.1
     not_refused (inr h) =
         let known = sym h.1.is ∙ ap (λ s. understood s text) has in
         let bare = subst IsPlain (sym known) is.2 in
@@ -332,7 +315,7 @@ module _ (text : List ℕ) (old new : State) (fault : CompileError) where
             | inr done ↦ not_made (mode_of old) (subst₂ (λ s t. Does old.step_limit (mode_of old) [] (record old.now { schema = s }) t None (CreateIndex at) (Err (Some (SqlInputError fault)))) has (ap (statement_of text) known)
                 (rw (bare.0, bare.1, same) at done.1))
           ]
-          | inr fails ↦ no_cause fails.0 fails.1
+          | inr fails ↦ no_cause fault fails.0 fails.1
         ]
 
 pub tries_refused : (text : List ℕ) (old new : State) (fault : CompileError)

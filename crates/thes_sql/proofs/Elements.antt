@@ -1,6 +1,5 @@
 -- Lists by membership, and tables: rows in the order of their numbers.
-use Rattle.std.proofs.Common.{arith, ◌≡◌, inl, inr, ℕ, ℤ, pos, ◌==◌, List, [], ◌∷◌, map, filter, Bool, true}
-use Rattle.std.proofs.Common.{false, not, cond, ◌++◌, if◌then◌else◌, refl, sym, ap, subst, ◌∙◌, Less, is_eq}
+use Rattle.std.proofs.Common.{arith, ◌≡◌, inl, inr, ℕ, ℤ, pos, ◌==◌, List, [], ◌∷◌, map, filter, Bool, true, false, not, cond, ◌++◌, if◌then◌else◌, refl, sym, ap, subst, ◌∙◌, Less, is_eq}
 use Rattle.std.specs.List.{AllByRecursion}
 use Rattle.std.specs.List.Sorted.{IsPermutation}
 use Rattle.std.proofs.lemmas.Bool.{not-true}
@@ -20,11 +19,9 @@ use Rattle.sqlite_rules.proofs.TableLemmas.{without_all_has}
 use Rattle.sqlite_trees.proofs.TreeLemmas.{IsTable-put_row}
 use Rattle.sqlite_trees.proofs.ListLemmas.{ascending-filter}
 use Rattle.sqlite_keyed.proofs.ListLemmas.{along_permutation}
+use Rattle.thes_rows.proofs.Sets.{clash}
 
 -- Elements of lists.
-
-pub clash : {A : Type 0} (b : Bool) → b ≡ true → b ≡ false → A
-clash b e f = absurd (cc)
 
 pub perm_has : {A : Type 0} (xs ys : List A) → IsPermutation xs ys → (x : A) → Has xs x → Has ys x
 perm_has {A} = along_permutation (λ (xs ys : List A). (x : A) → Has xs x → Has ys x)
@@ -147,9 +144,6 @@ given_same rows (r ∷ rs) = ap (λ l. r ∷ l) (given_same (put_row r rows) rs)
 
 pub test_id : (m n : ℕ) → is_eq (value_cmp (Int (pos m)) (Int (pos n))) ≡ (m == n)
 test_id m n = ap is_eq (value_cmp-Int (pos m) (pos n)) ∙ grind (arith, ints, nat_tests)
-
-pub same_num : (m n : ℕ) → (m == n) ≡ true → m ≡ n
-same_num m n h = grind (arith, nat_tests)
 
 pub num_same : (n : ℕ) → (n == n) ≡ true
 num_same n = grind (arith, nat_tests)

@@ -13,9 +13,7 @@ use Rattle.thes_rows.specs.declared.rows.HierRow.{HierRow}
 use Rattle.thes_rows.specs.declared.rows.PostingRow.{PostingRow}
 use Rattle.thes_rows.specs.declared.rows.MoveRow.{MoveRow}
 use Rattle.thes_rows.specs.Tables.{Tables}
-use Rattle.thes_sql.specs.Stored.{Hold, Keeps, AreHidden, AreNumbered, HoldResources, HoldOutside, HoldPostings}
-use Rattle.thes_sql.specs.Stored.{HoldMoves, label_values, link_values, hier_values, stored_meta, AreSpelled}
-use Rattle.thes_sql.specs.Stored.{IsSpelledOutside, IsSpelledLabel, IsSpelledPosting}
+use Rattle.thes_sql.specs.Stored.{Hold, Keeps, AreHidden, AreNumbered, HoldResources, HoldOutside, HoldPostings, HoldMoves, label_values, link_values, hier_values, stored_meta, AreSpelled, IsSpelledOutside, IsSpelledLabel, IsSpelledPosting}
 use Rattle.thes_sql.specs.Reads.{tree_of}
 use Rattle.thes_sql.proofs.Statements.{Rewrites, Untouched}
 

@@ -1,10 +1,9 @@
 -- Rows of a table whose numbers rise, and what edits by number make of them.
-use Rattle.std.proofs.Common.{arith, ◌≡◌, ◌⊎◌, inl, inr, ℕ, ℤ, pos, ◌<◌, ◌≤◌, ◌==◌, List, [], ◌∷◌, ◌++◌, map, filter}
-use Rattle.std.proofs.Common.{Bool, true, false, not, cond, if◌then◌else◌, refl, sym, ap, subst, ◌∙◌, Less}
+use Rattle.std.proofs.Common.{arith, ◌≡◌, inl, inr, ℕ, ℤ, pos, ◌<◌, ◌≤◌, ◌==◌, List, [], ◌∷◌, ◌++◌, map, filter, Bool, true, false, not, cond, if◌then◌else◌, refl, sym, ap, subst, ◌∙◌, Less}
 use Rattle.std.specs.List.{AllByRecursion}
 use Rattle.std.specs.List.Sorted.{IsPermutation}
 use Rattle.std.proofs.lemmas.List.Sorted.{IsPermutation-sym}
-use Rattle.std.proofs.lemmas.Bool.{cases_Bool, not-true}
+use Rattle.std.proofs.lemmas.Bool.{cases_Bool, not-true, eqb-true}
 use Rattle.std.proofs.lemmas.Bool.Decides.{nat_tests}
 use Rattle.std.proofs.lemmas.Int.{ints}
 use Rattle.sqlite.specs.declared.types.Value.TheVariants.{Int}
@@ -17,9 +16,8 @@ use Rattle.sqlite_rules.specs.Edit.{put_all, without_all, numbered, are_fresh, i
 use Rattle.sqlite_rules.specs.Lists.{Has}
 use Rattle.sqlite_rules.proofs.TableLemmas.{put_all_has, put_all_keeps, put_all_adds, without_all_has}
 use Rattle.thes_sql.specs.Stored.{Rising, AreKeyed}
-use Rattle.thes_sql.proofs.Elements.{clash, perm_has, map_has, has_map, filter_has, has_filter}
-use Rattle.thes_sql.proofs.Elements.{same_rows, table_put, table_left, left_not, left_has, given_same, test_id}
-use Rattle.thes_sql.proofs.Elements.{same_num, num_same}
+use Rattle.thes_sql.proofs.Elements.{perm_has, map_has, has_map, filter_has, has_filter, same_rows, table_put, table_left, left_not, left_has, given_same, test_id, num_same}
+use Rattle.thes_rows.proofs.Sets.{clash}
 
 pub lower : (m n : ℕ) → m < n → value_cmp (Int (pos m)) (Int (pos n)) ≡ Less
 lower m n h = value_cmp-Int (pos m) (pos n) ∙ grind (arith, ints, nat_tests)
@@ -140,7 +138,7 @@ module _ {X : Type 0} (num : X → ℕ) where
       kept x h t = left_has ids (map stored xs) (stored x) (has_map stored xs x h)
           (λ id m. let k = id_of id m in elim (cases_Bool (has_rowid id (stored x))) [
             | inl hit ↦
-                let same = once 0 xs up x k.0 h k.1 (same_num (num x) (num k.0) (sym (has_num (num k.0) x)
+                let same = once 0 xs up x k.0 h k.1 (eqb-true (num x) (num k.0) (sym (has_num (num k.0) x)
                 ∙ ap (λ j. has_rowid j (stored x)) (sym k.3) ∙ hit)) in
                 clash (p x) (ap p same ∙ k.2) t
             | inr miss ↦ miss

@@ -1,6 +1,5 @@
 -- A read leaves the tables.
-use Rattle.std.proofs.Common.{◌≡◌, ◌⊎◌, inl, inr, ℕ, List, Ok, Err, Result, IfOk, IfErr, false, IsTrue, sym, ap}
-use Rattle.std.proofs.Common.{◌≢◌, true, refl, OnOk, [], subst, ◌∙◌, arith, append-nil}
+use Rattle.std.proofs.Common.{◌≡◌, ◌⊎◌, inl, inr, ℕ, List, Ok, Err, Result, IfOk, IfErr, false, IsTrue, sym, ap, ◌≢◌, true, refl, OnOk, [], subst, ◌∙◌, append-nil, Option, None, Some}
 use Rattle.sqlite.specs.Order.{Row}
 use Rattle.sqlite.specs.Effect.{Database, RefusesQuery, RefusesToRead}
 use Rattle.sqlite.specs.Command.TheVariants.{Select}
@@ -12,18 +11,16 @@ use Rattle.sqlite_trees.specs.declared.error.StoreError.TheVariants as cause
 use Rattle.sqlite.specs.Listing.{understood}
 use Rattle.sqlite.specs.Outline.{Outline}
 use Rattle.sqlite.specs.Steps.{Outlines}
-use Rattle.sqlite.specs.State.{State, HasCleanDisk, Shown, ShowsRows, FailsToQuery, FailsToShow, IsNotRun, IsUnchanged}
-use Rattle.sqlite.specs.State.{IsNoStatement, store_error, IsRolledBack, Survives, CommitsShowing}
+use Rattle.sqlite.specs.State.{State, HasCleanDisk, Shown, ShowsRows, FailsToQuery, FailsToShow, IsNotRun, IsUnchanged, IsNoStatement, store_error, IsRolledBack, Survives, CommitsShowing}
 use Rattle.sqlite.specs.Held.{Held, state}
 use Rattle.sqlite.specs.declared.error.Error.{Error}
 use Rattle.sqlite_schema.specs.declared.command.Returning.{Returning}
 use Rattle.sqlite_resolve.specs.declared.compiled.Compiled.{Compiled}
 use Rattle.sqlite_trees.specs.declared.store.Store.{Ghosts}
-use Rattle.std.proofs.Common.{Option, None, Some}
 use Rattle.sqlite.proofs.StateLemmas.{survives_weaker}
 use Rattle.sqlite.proofs.Callers.{IsPlain, command_of, never_commits}
 use Rattle.thes_sql.specs.Schema.{store_schema}
-use Rattle.thes_sql.specs.Reads.{LeavesTables, LeavesAlone}
+use Rattle.thes_sql.specs.Reads.{LeavesAlone}
 use Rattle.thes_sql.specs.Older.{old_schema, HasKnownSchema, IsUnderstood, Asks, KeepsKnown, LeavesKnown}
 
 shows_open : (old new : State) (sql : List ℕ) (c : Compiled) (params : Row) (rows : List Row) (o : Option Returning)
@@ -135,6 +132,15 @@ module _ {S : Type 0} (g : Ghosts S) (sql : List ℕ) (params : Row) (old new : 
   keeps_known = kept r ok
 
 -- What is only prepared leaves the database.
+-- a text that is not understood fails for no cause of the store's
+pub no_cause : (fault : CompileError) (cause : StoreError) → SqlInputError fault ≢ store_error cause
+no_cause fault cause.OutOfMemory told = cc
+no_cause fault cause.Io told = cc
+no_cause fault cause.Corrupt told = cc
+no_cause fault cause.Full told = cc
+no_cause fault cause.Broken told = cc
+no_cause fault cause.Unstorable told = cc
+
 module _ {S : Type 0} (g : Ghosts S) (sql : List ℕ) (old new : Held S) where
   -- so it is, where the text was not understood, or where nothing is known of the failure
   prepared_so : (e : Error) → ((params : Row) → IsNotRun (state g old) (state g new) sql params e)
@@ -146,15 +152,7 @@ module _ {S : Type 0} (g : Ghosts S) (sql : List ℕ) (old new : Held S) where
       → IsNotRun (state g old) (state g new) sql params (SqlInputError fault))
       → IsUnchanged (state g old) (state g new)
   unfolding IsNotRun
-  not_understood fault h = elim (h []) [ inl refused ↦ refused.1 | inr fails ↦ absurd (no_input fails.0 fails.1) ]
-    where
-      no_input : (cause : StoreError) → SqlInputError fault ≢ store_error cause
-      no_input cause.OutOfMemory told = cc
-      no_input cause.Io told = cc
-      no_input cause.Corrupt told = cc
-      no_input cause.Full told = cc
-      no_input cause.Broken told = cc
-      no_input cause.Unstorable told = cc
+  not_understood fault h = elim (h []) [ inl refused ↦ refused.1 | inr fails ↦ absurd (no_cause fault fails.0 fails.1) ]
 
   open_before : IsUnchanged (state g old) (state g new) ⊎ IsRolledBack (state g old) (state g new)
       → IsTrue (state g new).is_open → IsTrue (state g old).is_open
@@ -198,14 +196,6 @@ module _ {S : Type 0} (g : Ghosts S) (sql : List ℕ) (old new : Held S) where
       → (HasCleanDisk (state g new) → IsUnchanged (state g old) (state g new)) → Asks {E = Error} g sql old new (Ok true)
   asked s shape so clean = (understood_so (understood (state g old).now.schema sql) s refl (shape clean), (so clean).0.now_is)
 
-  no_failure : (fault : CompileError) (cause : StoreError) → SqlInputError fault ≢ store_error cause
-  no_failure fault cause.OutOfMemory told = cc
-  no_failure fault cause.Io told = cc
-  no_failure fault cause.Corrupt told = cc
-  no_failure fault cause.Full told = cc
-  no_failure fault cause.Broken told = cc
-  no_failure fault cause.Unstorable told = cc
-
   not_so : (fault : CompileError) → IsNoStatement (state g old) sql [] (SqlInputError fault)
       → IsUnderstood (state g old).now.schema sql false
   not_so fault (inl h) = (h.0, h.1)
@@ -220,7 +210,7 @@ module _ {S : Type 0} (g : Ghosts S) (sql : List ℕ) (old new : Held S) where
   unfolding IsNotRun
   not_asked fault h clean = elim (h clean []) [
     | inl none ↦ (not_so fault none.0, none.1.0.now_is)
-    | inr fails ↦ absurd (no_failure fault fails.0 fails.1)
+    | inr fails ↦ absurd (no_cause fault fails.0 fails.1)
   ]
 
 -- A query that the schema of a store understands doesn't fail as a text that isn't understood.
@@ -240,14 +230,6 @@ module _ (sql : List ℕ) (params : Row) (old new : State) (q : Program) (names 
     | inr more ↦ elim more [ inl b ↦ let k = sym b.1 ∙ same in cc | inr c ↦ let k = sym c.1 ∙ same in cc ]
   ]
 
-  no_cause : (cause : StoreError) → e ≡ store_error cause → e ≢ SqlInputError fault
-  no_cause cause.OutOfMemory told same = let k = sym told ∙ same in cc
-  no_cause cause.Io told same = let k = sym told ∙ same in cc
-  no_cause cause.Corrupt told same = let k = sym told ∙ same in cc
-  no_cause cause.Full told same = let k = sym told ∙ same in cc
-  no_cause cause.Broken told same = let k = sym told ∙ same in cc
-  no_cause cause.Unstorable told same = let k = sym told ∙ same in cc
-
   no_refusal : (db : Database) → RefusesQuery old.step_limit db q params e → e ≢ SqlInputError fault
   no_refusal db (inl h) same = let k = sym h.0 ∙ same in cc
   no_refusal db (inr (inl h)) same = let k = sym h.0 ∙ same in cc
@@ -256,28 +238,12 @@ module _ (sql : List ℕ) (params : Row) (old new : State) (q : Program) (names 
   pub is_understood : FailsToQuery sql params old new e → e ≢ SqlInputError fault
   unfolding FailsToQuery IsNotRun
   is_understood (inl (inl refused)) same = no_statement refused.0 same
-  is_understood (inl (inr fails)) same = no_cause fails.0 fails.1 same
+  is_understood (inl (inr fails)) same = no_cause fault fails.0 (sym same ∙ fails.1)
   is_understood (inr h) same =
       let simple = subst IsPlain h.1.is bare in
       let it = rw (simple.0, simple.1, append-nil params) at h.2 in
       no_refusal it.0 (subst (λ k. RefusesToRead old.step_limit k it.0 params e)
       (sym (ap command_of h.1.is) ∙ here) it.2) same
-
--- after one read comes another
-pub leaves_twice : {S : Type 0} (g : Ghosts S) (old mid new : Held S) → LeavesTables g old mid → LeavesTables g mid new
-    → LeavesTables g old new
-leaves_twice g old mid new first second =
-    let clean_mid : HasCleanDisk (state g new) → HasCleanDisk (state g mid) = λ clean. omega (arith, second.clean, clean) in
-    record {
-      mode = λ idle. second.mode (first.mode idle);
-      was = λ clean opened. first.was (clean_mid clean) (second.was clean opened);
-      clean = omega (arith, first.clean, second.clean);
-      same = λ has clean opened settled.
-          let one = first.same has (clean_mid clean) (second.was clean opened) settled in
-          let two = second.same (ap (λ (db : Database). db.schema) one.0 ∙ has) clean opened
-          (one.0 ∙ settled ∙ sym one.1) in
-          (two.0 ∙ one.0, two.1 ∙ one.1);
-    }
 
 -- what is known of the failure, where the call failed
 pub if_failed : {V : Type 0} (r : Result V Error) {P Q : Error → Type 0} → ((e : Error) → P e → Q e) → IfErr r P → IfErr r Q

@@ -14,5 +14,4 @@ pub mod Creating
 pub mod Reading
 pub mod Leaving
 pub mod Renewing
-pub mod OldRowLemmas
 pub mod Knowing

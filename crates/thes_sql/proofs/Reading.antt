@@ -1,7 +1,5 @@
 -- What a SELECT of one table in the order of its rows' numbers shows.
-use Rattle.std.proofs.Common.{arith, ◌≡◌, ℕ, pos, List, [], ◌∷◌, ◌<◌, ◌≤◌, ◌==◌, ◌&&◌, map, filter}
-use Rattle.std.proofs.Common.{inl, inr, flat_map, codes, Bool, true, false, not, cond, refl, sym, ap}
-use Rattle.std.proofs.Common.{◌+◌, subst, ◌∙◌, Less, lit<}
+use Rattle.std.proofs.Common.{arith, ◌≡◌, ℕ, pos, List, [], ◌∷◌, ◌<◌, ◌≤◌, ◌==◌, ◌&&◌, map, filter, inl, inr, flat_map, codes, Bool, true, false, not, cond, refl, sym, ap, ◌+◌, subst, ◌∙◌, Less, lit<}
 use Rattle.std.proofs.Math.Bool.{and-true}
 use Rattle.std.specs.List.{AllByRecursion, list_all}
 use Rattle.std.specs.List.Sorted.{IsPermutation}
@@ -32,16 +30,12 @@ use Rattle.thes_rows.specs.declared.cells.Cell.{Cell}
 use Rattle.thes_rows.specs.declared.rows.PostingRow.{PostingRow}
 use Rattle.thes_rows.specs.declared.rows.MoveRow.{MoveRow}
 use Rattle.thes_rows.specs.Tables.{Tables}
-use Rattle.thes_rows.specs.Cells.{resource_rows, resource_cells, outside_cells, label_cells, link_cells, hier_cells}
-use Rattle.thes_rows.specs.Cells.{posting_cells, move_cells, meta_cells}
+use Rattle.thes_rows.specs.Cells.{resource_rows, resource_cells, outside_cells, label_cells, link_cells, hier_cells, posting_cells, move_cells, meta_cells, number_cell}
 use Rattle.thes_sql.specs.Schema.{store_schema}
-use Rattle.thes_sql.specs.Stored.{Keeps, Rising, AreKeyed, AreHidden, hidden_row, numbered_from, values, stored_meta}
-use Rattle.thes_sql.specs.Stored.{stored_resource, stored_outside, stored_posting, stored_move}
+use Rattle.thes_sql.specs.Stored.{Keeps, Rising, AreKeyed, AreHidden, hidden_row, numbered_from, values, stored_meta, stored_resource, stored_outside, stored_posting, stored_move}
 use Rattle.thes_sql.specs.Older.{old_schema, HasVersion, stored_version, version_row}
 use Rattle.thes_rows.specs.declared.cells.Cell.TheVariants as cells
-use Rattle.thes_rows.specs.Cells.{number_cell}
-use Rattle.thes_sql.specs.Reads.{rows_of, read_text, keyed_as, numbered_as, standing_at, moves_of}
-use Rattle.thes_sql.specs.Reads.{tree_of, places_of, shown_rows, IsReadable}
+use Rattle.thes_sql.specs.Reads.{rows_of, read_text, keyed_as, numbered_as, standing_at, moves_of, tree_of, places_of, shown_rows, IsReadable}
 use Rattle.thes_sql.proofs.Texts.{plain_query, whole, same}
 use Rattle.thes_sql.proofs.Keyed.{lower, rising_filter}
 use Rattle.thes_sql.proofs.Statements.{picked, no_lets}

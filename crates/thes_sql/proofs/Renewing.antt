@@ -1,6 +1,5 @@
 -- How a store of version 1 becomes one of version 2, statement by statement.
-use Rattle.std.proofs.Common.{arith, ◌≡◌, ◌≢◌, ◌+ℤ◌, ℕ, pos, negsuc, List, [], ◌∷◌, ◌++◌, map, filter, codes, Bool, true, false, not}
-use Rattle.std.proofs.Common.{None, Ok, Err, Result, OnOk, refl, sym, ap, subst, ◌∙◌, append-nil, append_assoc, lit<}
+use Rattle.std.proofs.Common.{arith, ◌≡◌, ◌≢◌, ℕ, pos, List, [], ◌∷◌, ◌++◌, map, filter, codes, true, not, Ok, Err, Result, OnOk, refl, sym, ap, subst, ◌∙◌, append-nil, append_assoc, lit<}
 use Rattle.std.proofs.Math.Bool.{and-true}
 use Rattle.std.specs.List.{list_all}
 use Rattle.sqlite.specs.declared.types.Value.{Value}
@@ -35,10 +34,9 @@ use Rattle.thes_rows.specs.declared.rows.HierRow.{HierRow}
 use Rattle.thes_rows.specs.Tables.{Tables}
 use Rattle.thes_rows.specs.Cells.{number_cell, hier_type_no}
 use Rattle.thes_sql.specs.Schema.{meta, link, hier, store_schema}
-use Rattle.thes_sql.specs.Stored.{Keeps, Rising, AreKeyed, AreHidden, AreNumbered, AreSpelled, hidden_row, values}
-use Rattle.thes_sql.specs.Stored.{HoldResources, HoldOutside, HoldPostings, HoldMoves, label_values, link_values, hier_values}
-use Rattle.thes_sql.specs.Older.{HoldAs, KeepsAs, stored_version, is_broader, untyped, copied, renewed}
-use Rattle.thes_sql.specs.Older.{IsEnlarged, IsCopied, IsMoved, IsRenewed}
+use Rattle.thes_sql.specs.Stored.{Keeps, AreHidden, AreNumbered, AreSpelled, hidden_row, values, HoldResources, HoldOutside, HoldPostings, HoldMoves, label_values, link_values, hier_values}
+use Rattle.thes_rows.specs.OldRows.{is_broader, untyped, renewed}
+use Rattle.thes_sql.specs.Older.{KeepsAs, stored_version, copied, IsEnlarged, IsCopied, IsMoved, IsRenewed}
 use Rattle.thes_sql.specs.Does.{TurnsEach}
 use Rattle.thes_sql.specs.Reads.{tree_of}
 use Rattle.thes_sql.proofs.Texts.{plain_query, whole, same, Means}

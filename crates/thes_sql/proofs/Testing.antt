@@ -1,9 +1,8 @@
 -- Which rows the WHERE of a statement lets through.
-use Rattle.std.proofs.Common.{arith, ◌≡◌, ℕ, pos, List, [], ◌∷◌, ◌==◌, Bool, true, false, not, ◌&&◌, cond, Some, refl}
-use Rattle.std.proofs.Common.{sym, ap, ◌∙◌, Ordering, Less, Equal, Greater, is_eq, nat_cmp}
+use Rattle.std.proofs.Common.{arith, ◌≡◌, ℕ, pos, List, [], ◌∷◌, ◌==◌, Bool, true, false, not, ◌&&◌, cond, Some, refl, sym, ap, ◌∙◌, is_eq, nat_cmp}
 use Rattle.std.proofs.Math.Bool.{and-true}
 use Rattle.std.specs.List.{list_all}
-use Rattle.std.specs.Ordering.{ordering_then, eq_by_cmp}
+use Rattle.std.specs.Ordering.{eq_by_cmp}
 use Rattle.std.specs.Cmp.Lexicographic.{slice_cmp}
 use Rattle.std.proofs.lemmas.Bool.Decides.{nat_tests}
 use Rattle.sqlite.specs.declared.types.Value.TheVariants.{Int, Text as Words}
@@ -18,6 +17,7 @@ use Rattle.thes_base.specs.declared.data.Link.{Link}
 use Rattle.thes_base.specs.declared.data.Resource.{Resource}
 use Rattle.thes_base.specs.Labels.{Label, label_kind_no, label_cmp}
 use Rattle.thes_base.specs.Links.{link_kind_no, link_cmp}
+use Rattle.thes_base.proofs.SetMembers.{both_equal}
 use Rattle.thes_rows.specs.declared.rows.HierRow.{HierRow}
 use Rattle.thes_rows.specs.declared.rows.HierType.{HierType}
 use Rattle.thes_rows.specs.declared.rows.HierType.TheVariants as typ
@@ -25,8 +25,7 @@ use Rattle.thes_rows.specs.declared.rows.PostingRow.{PostingRow}
 use Rattle.thes_rows.specs.Tables.{hier_link, hier_kind}
 use Rattle.thes_rows.specs.Cells.{hier_type_no}
 use Rattle.thes_sql.specs.Stored.{hidden_row, stored_resource, stored_posting, label_values, link_values, hier_values}
-use Rattle.thes_sql.proofs.Texts.{retire_query, set_place_query, move_all_query, drop_label_query, drop_link_query}
-use Rattle.thes_sql.proofs.Texts.{drop_hier_query}
+use Rattle.thes_sql.proofs.Texts.{retire_query, set_place_query, move_all_query, drop_label_query, drop_link_query, drop_hier_query}
 use Rattle.thes_sql.proofs.Elements.{test_id}
 
 truth_is : (b : Bool) → is_true (from_truth (Some b)) ≡ b
@@ -44,11 +43,6 @@ pub same_words : (a b : List ℕ) → is_true (binary (by.Compare Eq Binary) (Wo
     (slice_cmp nat_cmp a b)
 unfolding binary
 same_words a b = truth_is _ ∙ ap is_eq (value_cmp-Text a b)
-
-both_equal : (a b : Ordering) → is_eq (ordering_then a b) ≡ (is_eq a && is_eq b)
-both_equal Less b = refl
-both_equal Equal b = refl
-both_equal Greater b = refl
 
 pub by_resource : (params : Row) (n : ℕ) (row : ℕ × Resource)
     → list_all (holds ((Int (pos n) ∷ params) ∷ stored_resource row ∷ [])) retire_query.filter ≡ (row.0 == n)

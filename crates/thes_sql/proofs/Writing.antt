@@ -1,6 +1,5 @@
 -- What a write leaves, in a schema with no foreign key, AUTOINCREMENT or default that reads the time.
-use Rattle.std.proofs.Common.{◌≡◌, ◌⊎◌, inl, inr, ℕ, ℤ, List, [], slice_get, Bool, true}
-use Rattle.std.proofs.Common.{false, cond, Option, Some, None, Ok, Err, Result, refl, sym, ap, subst, ◌∙◌}
+use Rattle.std.proofs.Common.{◌≡◌, ◌⊎◌, inl, inr, ℕ, ℤ, List, [], slice_get, Bool, true, false, cond, Option, Some, None, Ok, Err, Result, refl, sym, ap, subst, ◌∙◌}
 use Rattle.sqlite.specs.declared.types.Value.{Value}
 use Rattle.sqlite.specs.declared.types.Value.TheVariants.{Null, Int}
 use Rattle.sqlite.specs.Order.{Row}
@@ -16,8 +15,7 @@ use Rattle.sqlite.specs.Cast.{cast}
 use Rattle.sqlite.specs.Rowids.{Rowids}
 use Rattle.sqlite.specs.Rowids.TheVariants.{Chosen, Given}
 use Rattle.sqlite.specs.Does.{Tally, Does, OnRows, WritesRows, Concludes, AtPlace}
-use Rattle.sqlite.specs.Rows.{Written, Task, stamped, Queried, Sourced, Edited, Counter, Counts, count_of}
-use Rattle.sqlite.specs.Rows.{rowids_for, Inserts, Then, Gives}
+use Rattle.sqlite.specs.Rows.{Written, Task, stamped, Queried, Sourced, Edited, Counts, count_of, rowids_for, Inserts, Then, Gives}
 use Rattle.sqlite.specs.declared.run.Mode.{Mode}
 use Rattle.sqlite.specs.Tree.{Trees}
 use Rattle.sqlite.specs.Effect.{Database, Answers}
@@ -51,11 +49,6 @@ same_value e = cc
 -- no foreign key acts, whatever is taken out
 abbrev pub IsQuietTable : Schema → Table → Type 0
 IsQuietTable schema table = (olds news : List Row) → works schema Enforced 0 table.tree olds news ≡ []
-
--- the rows that an INSERT was given went into the table
-counter_none : (task : Task) (db : Trees) (c : Option Row) → task.table.is_counted ≡ false → Counter task db (Ok c)
-    → c ≡ None
-counter_none task db c uncounted h = let k = rw uncounted at h in same_value k
 
 count_same : (task : Task) (db next : Trees) (c : Option Row) (top : _) → task.table.is_counted ≡ false
     → Counts task db c top (Ok next) → next ≡ db

@@ -1,5 +1,5 @@
 -- A store of version 1, and what becomes of it in version 2.
-use Rattle.std.specs.Prelude.{◌≡◌, ◌≤◌, ◌⊎◌, ◌==◌, ℕ, List, [], ◌∷◌, map, filter, codes, Bool, not, true, false, IsTrue, Result, Ok, Err, IfOk}
+use Rattle.std.specs.Prelude.{◌≡◌, ◌≤◌, ◌⊎◌, ℕ, List, [], ◌∷◌, map, filter, codes, Bool, true, false, IsTrue, Result, Ok, Err, IfOk}
 use Rattle.sqlite.specs.State.{HasCleanDisk}
 use Rattle.sqlite.specs.Held.{Held, state}
 use Rattle.sqlite_trees.specs.View.{doubt}
@@ -11,16 +11,12 @@ use Rattle.sqlite.specs.Schema.{Schema}
 use Rattle.sqlite.specs.Listing.{understood}
 use Rattle.sqlite_resolve.specs.declared.compiled.Compiled.{Compiled}
 use Rattle.sqlite_resolve.specs.declared.error.CompileError.{CompileError}
-use Rattle.thes_base.specs.declared.data.Link.{Link}
-use Rattle.thes_base.specs.Links.{link_kind_no}
-use Rattle.thes_rows.specs.declared.rows.HierRow.{HierRow}
-use Rattle.thes_rows.specs.declared.rows.HierType.TheVariants as typ
 use Rattle.thes_rows.specs.declared.cells.Cell.TheVariants.{Text}
 use Rattle.thes_rows.specs.Cells.{number_cell}
+use Rattle.thes_rows.specs.OldRows.{is_broader, untyped, renewed}
 use Rattle.thes_rows.specs.Tables.{Tables}
 use Rattle.thes_sql.specs.Schema.{schema_7, store_schema}
-use Rattle.thes_sql.specs.Stored.{Keeps, keyed, values, HoldResources, HoldOutside, HoldPostings, HoldMoves, AreHidden}
-use Rattle.thes_sql.specs.Stored.{AreNumbered, AreSpelled, label_values, link_values, hier_values}
+use Rattle.thes_sql.specs.Stored.{Keeps, keyed, values, HoldResources, HoldOutside, HoldPostings, HoldMoves, AreHidden, AreNumbered, AreSpelled, label_values, link_values, hier_values}
 
 -- the seven tables of version 1: there is no hier, and no plain index
 abbrev pub old_schema : Schema
@@ -53,23 +49,12 @@ pub record KeepsAs (version : ℕ) (db : Database) (t : Tables) : Type 0 where
   pub hold : HoldAs version db.trees t
   pub hier : AreHidden hier_values t.hier (db.trees 11)
 
--- a link of kind broader, the one hierarchical kind of version 1
-abbrev pub is_broader : Link → Bool
-is_broader l = link_kind_no l.kind == 1
-
-abbrev pub untyped : Link → HierRow
-untyped l = record { a = l.a; b = l.b; typ = typ.Untyped }
-
 -- hier is there, and empty; then it has the links of kind broader, which table link still has; then it alone has them
 abbrev pub enlarged : Tables → Tables
 enlarged t = record t { hier = [] }
 
 abbrev pub copied : Tables → Tables
 copied t = record t { hier = map untyped (filter is_broader t.link) }
-
--- what version 2 has of the tables: links of kind broader stand in hier, untyped, and all others in link
-abbrev pub renewed : Tables → Tables
-renewed t = record t { link = filter (λ l. not (is_broader l)) t.link; hier = map untyped (filter is_broader t.link) }
 
 -- the steps of a store of version 1 with these tables on its way
 abbrev pub IsOldStore : Tables → Database → Type 0

@@ -15,8 +15,7 @@ use Rattle.thes_rows.specs.declared.rows.MoveRow.{MoveRow}
 use Rattle.thes_rows.specs.declared.cells.Cell.{Cell}
 use Rattle.thes_rows.specs.declared.cells.Cell.TheVariants as cells
 use Rattle.thes_rows.specs.Tables.{Tables}
-use Rattle.thes_rows.specs.Cells.{resource_cells, label_cells, link_cells, hier_cells, posting_cells, move_cells}
-use Rattle.thes_rows.specs.Cells.{outside_cells, meta_cells}
+use Rattle.thes_rows.specs.Cells.{resource_cells, label_cells, link_cells, hier_cells, posting_cells, move_cells, outside_cells, meta_cells}
 use Rattle.thes_sql.specs.Schema.{store_schema}
 
 -- what the database holds of a cell

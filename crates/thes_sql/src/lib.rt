@@ -3,7 +3,6 @@
 
 pub mod commit;
 pub mod create;
-pub mod laws;
 pub mod migrate;
 pub mod reads;
 mod values;

@@ -6,7 +6,7 @@ mod filling;
 mod lines;
 mod showing;
 
-use crate::filling::fill;
+use crate::filling::{Failure, fill};
 use crate::lines::Lines;
 use crate::showing::{load, look_up};
 use sqlite::{Alter, Connection};
@@ -18,7 +18,7 @@ use thes_sqlite::keeper::SqlKeeper;
 
 // Takes over a database, and tells what is read there; with the look-ups, if they are wanted.
 fn read<S: Alter>(
-    rt: &HostRuntime,
+    alloc: Global,
     conn: Connection<S>,
     looks_up: bool,
     lines: &mut Lines,
@@ -26,9 +26,9 @@ fn read<S: Alter>(
     if !conn.is_autocommit() {
         return conn;
     }
-    let mut keeper = SqlKeeper::adopt(rt.alloc(), conn);
+    let mut keeper = SqlKeeper::adopt(alloc, conn);
     if load(&mut keeper, lines).is_ok() && looks_up {
-        let _ = look_up(rt.alloc(), &mut keeper, lines);
+        let _ = look_up(alloc, &mut keeper, lines);
     }
     keeper.into_connection()
 }
@@ -44,18 +44,29 @@ fn created<S: Alter>(alloc: Global, conn: Connection<S>, base: &Base) -> Connect
     }
 }
 
-// Makes a store, and prints what is read in it.
-fn make(rt: &HostRuntime, path: &str) -> io::Result<()> {
-    let Ok(base) = Base::read(rt.alloc(), "https://thesaurus.example/id/") else {
-        return println!(rt; "no base");
+// Makes a store if there is a base for it, with changes of each kind, and tells what is read in it.
+fn work<S: Alter>(
+    alloc: Global,
+    conn: Connection<S>,
+    base: Option<&Base>,
+    lines: &mut Lines,
+) -> (Result<(), Failure>, Connection<S>) {
+    let Some(base) = base else {
+        return (Ok(()), read(alloc, conn, false, lines));
     };
+    let mut conn = created(alloc, conn, base);
+    let filled = fill(alloc, &mut conn);
+    (filled, read(alloc, conn, true, lines))
+}
+
+// Works in a file, and prints what is told.
+fn work_in(rt: &HostRuntime, path: &str, base: Option<&Base>) -> io::Result<()> {
     let Ok(conn) = Connection::open(rt, path) else {
         return println!(rt; "not opened");
     };
-    let mut conn = created(rt.alloc(), conn, &base);
-    let filled = fill(rt.alloc(), &mut conn);
     let mut lines = Lines::new(rt.alloc());
-    let closed = read(rt, conn, true, &mut lines).close().is_ok();
+    let (filled, conn) = work(rt.alloc(), conn, base, &mut lines);
+    let closed = conn.close().is_ok();
     if let Err(failure) = filled {
         println!(rt; "{failure:?}")?;
     }
@@ -63,16 +74,18 @@ fn make(rt: &HostRuntime, path: &str) -> io::Result<()> {
     println!(rt; "closed: {closed}")
 }
 
+// Makes a store, and prints what is read in it.
+fn make(rt: &HostRuntime, path: &str) -> io::Result<()> {
+    let Ok(base) = Base::read(rt.alloc(), "https://thesaurus.example/id/") else {
+        return println!(rt; "no base");
+    };
+    work_in(rt, path, Some(&base))
+}
+
 // Prints what is read in a file.
 fn show(rt: &HostRuntime, path: &str) -> io::Result<()> {
     println!(rt; "{path}:")?;
-    let Ok(conn) = Connection::open(rt, path) else {
-        return println!(rt; "not opened");
-    };
-    let mut lines = Lines::new(rt.alloc());
-    let closed = read(rt, conn, false, &mut lines).close().is_ok();
-    print!(rt; "{}", lines.as_str())?;
-    println!(rt; "closed: {closed}")
+    work_in(rt, path, None)
 }
 
 fn main(rt: HostRuntime) -> io::Result<()> {

@@ -1,6 +1,5 @@
 -- A keeper stays one.
-use Rattle.std.proofs.Common.{arith, inl, inr, ◌≡◌, ℕ, ◌+◌, List, [], ◌∷◌, map, Bool, Option, None, Some}
-use Rattle.std.proofs.Common.{Result, refl, sym, ap, subst, ◌∙◌, IsTrue}
+use Rattle.std.proofs.Common.{arith, inl, inr, ◌≡◌, ℕ, ◌+◌, List, [], ◌∷◌, map, Bool, Option, None, Some, Result, refl, sym, ap, subst, ◌∙◌, IsTrue}
 use Rattle.std.specs.Prelude.{IsUtf8}
 use Rattle.std.specs.List.{AllByRecursion}
 use Rattle.sqlite.specs.Order.{Row, column}
@@ -22,13 +21,9 @@ use Rattle.thes_rows.specs.declared.rows.PostingRow.{PostingRow}
 use Rattle.thes_rows.specs.declared.rows.MoveRow.{MoveRow}
 use Rattle.thes_rows.specs.Tables.{Tables}
 use Rattle.thes_rows.specs.Rows.{FitAll, all_changed}
-use Rattle.thes_rows.specs.Cells.{listed, number_cell, flag_cell, resource_kind_no, optional_cell, resource_rows}
-use Rattle.thes_rows.specs.Cells.{meta_cells, outside_cells, label_cells, link_cells, hier_cells, posting_cells}
-use Rattle.thes_rows.specs.Cells.{move_cells}
+use Rattle.thes_rows.specs.Cells.{listed, number_cell, flag_cell, resource_kind_no, optional_cell, resource_rows, meta_cells, outside_cells, label_cells, link_cells, hier_cells, posting_cells, move_cells}
 use Rattle.thes_rows.proofs.Listing.{listed_one}
-use Rattle.thes_sql.specs.Stored.{Keeps, Hold, AreHidden, hidden_row, value_of, numbered_from, stored_resource}
-use Rattle.thes_sql.specs.Stored.{stored_outside, stored_posting, stored_move, label_values, link_values, hier_values}
-use Rattle.thes_sql.specs.Stored.{stored_meta, IsSpelledOutside, IsSpelledLabel, IsSpelledPosting}
+use Rattle.thes_sql.specs.Stored.{Keeps, Hold, AreHidden, hidden_row, value_of, numbered_from, stored_resource, stored_outside, stored_posting, stored_move, label_values, link_values, hier_values, stored_meta, IsSpelledOutside, IsSpelledLabel, IsSpelledPosting}
 use Rattle.thes_sql.specs.Does.{IsOwnTransaction}
 use Rattle.thes_sql.specs.Reads.{tree_of, places_of, IsReadable, LeavesTables}
 use Rattle.thes_sql.proofs.Keyed.{is_table}
@@ -147,29 +142,6 @@ pub before_read : {S : Type 0} (g : Ghosts S) (old new : Held S) → LeavesTable
     → IsUp (state g old)
 before_read g old new leaves up = (omega (arith, leaves.clean, up.0), leaves.was up.0 up.1)
 
--- A database that is read is served as before.
-pub kept_left : {S : Type 0} (g : Ghosts S) (first : State) (old new : Held S) → IsKept first (state g old)
-    → LeavesTables g old new → IsKept first (state g new)
-kept_left g first old new kept leaves = record { autocommit = leaves.mode kept.autocommit; served = served }
-  where
-    served : IsStore first → IsUp (state g new) → IsServed (state g new)
-    served known up =
-        let s = kept.served known (before_read g old new leaves up) in
-        let same = leaves.same s.keeps.1.schema up.0 up.1 s.settled in
-        record {
-          settled = same.0 ∙ s.settled ∙ sym same.1;
-          keeps = (s.keeps.0, subst (λ (db : Database). Keeps db s.keeps.0) (sym same.0) s.keeps.1);
-        }
-
--- its rows stay
-pub same_left : {S : Type 0} (g : Ghosts S) (first : State) (old new : Held S) → IsKept first (state g old)
-    → LeavesTables g old new → IsStore first → IsUp (state g new)
-    → raw_in (state g new).now.trees ≡ raw_in (state g old).now.trees
-same_left g first old new kept leaves known up =
-    let s = kept.served known (before_read g old new leaves up) in
-    let same = leaves.same s.keeps.1.schema up.0 up.1 s.settled in
-    ap (λ (db : Database). raw_in db.trees) same.0
-
 -- what is told of the tables that the database keeps is told of those whose rows it shows
 pub told : {S : Type 0} (g : Ghosts S) (first : State) (start old new : Held S) → start ≡ old
     → IsKept first (state g start) → LeavesTables g start new → {P : Tables → Type 0}
@@ -219,21 +191,6 @@ kept_ok first old new changes kept before mode fits did settled = (
   where
     made : IsStore first → IsUp new → (t : Tables) → Keeps old.now t → Keeps new.now (all_changed changes t)
     made known up t keeps = did up t keeps (fits known (before up) t (raw_of old.now.trees t keeps.hold))
-
--- what failed has changed nothing
-pub kept_none : (first : State) (old new : State) → IsKept first old → (IsUp new → IsUp old)
-    → new.in_transaction ≡ old.in_transaction
-    → (IsUp new → (new.now ≡ old.now) × (new.committed ≡ old.committed)) → IsKept first new
-kept_none first old new kept before mode none = record {
-  autocommit = mode ∙ kept.autocommit;
-  served = λ known up.
-      let s = kept.served known (before up) in
-      let same = none up in
-      record {
-        settled = same.0 ∙ s.settled ∙ sym same.1;
-        keeps = (s.keeps.0, subst (λ (db : Database). Keeps db s.keeps.0) (sym same.0) s.keeps.1);
-      };
-}
 
 -- An open store is left as it shows.
 

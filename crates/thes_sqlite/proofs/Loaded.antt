@@ -1,6 +1,5 @@
 -- Rows of the database, handed out table after table.
-use Rattle.std.proofs.Common.{◌≡◌, ◌<◌, ◌+◌, ℕ, List, [], ◌∷◌, length, take, get_or, append-nil, Option, Result, Ok}
-use Rattle.std.proofs.Common.{Err, refl, sym, ap, subst, ◌∙◌}
+use Rattle.std.proofs.Common.{◌≡◌, ◌<◌, ◌+◌, ℕ, List, [], ◌∷◌, length, take, get_or, append-nil, Option, Result, Ok, Err, refl, sym, ap, subst, ◌∙◌}
 use Rattle.sqlite.specs.Tree.{Trees}
 use Rattle.sqlite.specs.State.{State, HasCleanDisk}
 use Rattle.sqlite.specs.Held.{Held, state}

@@ -1,12 +1,11 @@
 -- The postings that look-ups find.
-use Rattle.std.proofs.Common.{◌≡◌, inl, inr, ℕ, List, [], ◌∷◌, ◌++◌, ◌<◌, length, map, filter, take, suc, Bool}
-use Rattle.std.proofs.Common.{true, false, cond, None, Some, slice_get, get_or, refl, sym, ap, subst, ◌∙◌, arith}
-use Rattle.std.proofs.Common.{zero, ◌+◌, ◌-◌, ◌≤◌, ◌==◌}
+use Rattle.std.proofs.Common.{◌≡◌, inl, inr, ℕ, List, [], ◌∷◌, ◌++◌, ◌<◌, length, map, filter, take, suc, Bool, true, false, cond, None, Some, slice_get, get_or, refl, sym, ap, subst, ◌∙◌, arith, zero, ◌+◌, ◌-◌, ◌≤◌, ◌==◌}
 use Rattle.std.proofs.Math.Seq.{take-suc}
 use Rattle.std.proofs.lemmas.List.{map-append}
 use Rattle.std.proofs.lemmas.Option.{slice_get_past, same_Some}
 use Rattle.std.proofs.lemmas.Map.Text.{is_eq-slice_cmp}
 use Rattle.std.proofs.lemmas.Slice.Eq.{bytes_eq-Decides}
+use Rattle.std.proofs.lemmas.Bool.{eqb-true}
 use Rattle.std.specs.Ordering.{nat_cmp, eq_by_cmp}
 use Rattle.std.specs.Cmp.Lexicographic.{slice_cmp}
 use Rattle.sqlite.specs.declared.types.Value.{Value}
@@ -25,7 +24,7 @@ use Rattle.thes_rows.specs.Cells.{posting_cells, move_cells}
 use Rattle.thes_rows.proofs.Listing.{map_one, posting_one, move_one}
 use Rattle.thes_sql.specs.Stored.{value_of, values, AreNumbered}
 use Rattle.thes_sql.specs.Reads.{numbered_as, moves_of}
-use Rattle.thes_sql.proofs.Elements.{filter_has, has_filter, same_num, num_same}
+use Rattle.thes_sql.proofs.Elements.{filter_has, has_filter, num_same}
 use Rattle.thes_sql.proofs.Adding.{in_has}
 use Rattle.thes_store.specs.Reading.{IsFound, IsTold}
 use Rattle.thes_store.proofs.Places.{take_one}
@@ -110,7 +109,7 @@ numbered_head n k (p ∷ ps) num le = go (numbered_head n (k + 1) ps num.1) (p.n
     go : (k + 1 ≤ n → slice_get rest 0 ≡ slice_get ps (n - (k + 1))) → (b : Bool) → (p.number == n) ≡ b
         → slice_get (cond b (p ∷ rest) rest) 0 ≡ slice_get (p ∷ ps) (n - k)
     go later true e =
-        let here = same_num p.number n e in
+        let here = eqb-true p.number n e in
         let own = num.0 in
         let none : 0 ≡ n - k = omega (arith, here, own) in
         ap (slice_get (p ∷ ps)) none
@@ -130,7 +129,7 @@ none_below k (p ∷ ps) num some = go (none_below (k + 1) ps num.1 (omega arith)
     rest = filter (λ (x : PostingRow). x.number == 0) ps
 
     go : slice_get rest 0 ≡ None → (b : Bool) → (p.number == 0) ≡ b → slice_get (cond b (p ∷ rest) rest) 0 ≡ None
-    go later true e = absurd (let here = same_num p.number 0 e in let own = num.0 in omega (arith, here, own, some))
+    go later true e = absurd (let here = eqb-true p.number 0 e in let own = num.0 in omega (arith, here, own, some))
     go later false e = later
 
 -- the first posting with a number is the one that stands in its place

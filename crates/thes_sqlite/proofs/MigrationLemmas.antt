@@ -1,8 +1,6 @@
 -- What a migration refuses, and the state that it leaves.
-use Rattle.std.proofs.Common.{arith, inl, inr, ◌≡◌, ◌⊎◌, ◌≤◌, ℕ, List, [], ◌∷◌, map, refl, sym, ap, subst, ◌∙◌}
-use Rattle.std.proofs.Common.{Result, Ok, Err, OnOk, IfErr, Bool, true, false, cond}
+use Rattle.std.proofs.Common.{arith, inl, inr, ◌≡◌, ◌⊎◌, ◌≤◌, ℕ, List, [], ◌∷◌, map, refl, sym, ap, subst, ◌∙◌, Result, Ok, Err, OnOk, IfErr, Bool, true, false, cond}
 use Rattle.sqlite.specs.Order.{Row}
-use Rattle.sqlite.specs.Tree.{Trees}
 use Rattle.sqlite.specs.Effect.{Database}
 use Rattle.sqlite.specs.State.{HasCleanDisk, Shown}
 use Rattle.sqlite.specs.Held.{Held, state}
@@ -14,23 +12,21 @@ use Rattle.thes_base.specs.declared.fault.Fault.TheVariants as faults
 use Rattle.thes_base.specs.declared.fault.Table.TheVariants as table
 use Rattle.thes_base.specs.Legal.{Legal}
 use Rattle.thes_base.specs.State.{State}
-use Rattle.thes_rows.specs.declared.cells.Cell.{Cell}
 use Rattle.thes_rows.specs.declared.cells.Cell.TheVariants as cells
 use Rattle.thes_rows.specs.Tables.{Tables, IsRowsOf}
-use Rattle.thes_rows.specs.Cells.{listed}
 use Rattle.thes_rows.proofs.Listing.{head_one, tail_one, number_one}
 use Rattle.thes_tables.specs.Rules.{state_of}
 use Rattle.thes_tables.specs.Loads.{Loads}
 use Rattle.thes_tables.proofs.Holding.{held_loads}
-use Rattle.thes_sql.specs.Stored.{Keeps, Hold}
-use Rattle.thes_sql.specs.Older.{KeepsOld, HasKnownSchema, HasVersion, KeepsKnown, LeavesKnown, version_row, old_schema, renewed}
-use Rattle.thes_sql.specs.OldRows.{IsOldRowsOf}
+use Rattle.thes_sql.specs.Stored.{Keeps}
+use Rattle.thes_sql.specs.Older.{KeepsOld, HasKnownSchema, HasVersion, KeepsKnown, LeavesKnown, version_row, old_schema}
+use Rattle.thes_rows.specs.OldRows.{renewed}
 use Rattle.thes_sql.specs.Reads.{read_text}
-use Rattle.thes_sql.proofs.OldRowLemmas.{renews}
+use Rattle.thes_rows.proofs.OldRowLemmas.{renews}
 use Rattle.thes_sqlite.specs.Faults.{IsKeeperFault}
 use Rattle.thes_sqlite.specs.Kept.{raw_in}
 use Rattle.thes_sqlite.specs.Migrated.{IsMigrateFault, IsMetaFault, IsTableFault, IsCause, IsWhole, Migrates}
-use Rattle.thes_sqlite.specs.MigrationLaws.{HoldsOldState, HoldsState, FindsState, MigratesState, MigratesStates}
+use Rattle.thes_sqlite.specs.MigrationLaws.{HoldsOldState, HoldsState, MigratesState, MigratesStates}
 use Rattle.thes_sqlite.specs.ValueCells.{cell_of}
 use Rattle.thes_sqlite.proofs.Keeping.{raw_of}
 

@@ -15,7 +15,8 @@ use Rattle.thes_rows.specs.Tables.{Tables}
 use Rattle.thes_rows.specs.Cells.{number_cell}
 use Rattle.thes_sql.specs.Stored.{Keeps, Hold}
 use Rattle.thes_sql.specs.Reads.{read_text}
-use Rattle.thes_sql.specs.Older.{KeepsOld, HasKnownSchema, IsUnderstood, links_text, hier_text, renewed}
+use Rattle.thes_sql.specs.Older.{KeepsOld, HasKnownSchema, IsUnderstood, links_text, hier_text}
+use Rattle.thes_rows.specs.OldRows.{renewed}
 use Rattle.thes_sqlite.specs.Kept.{IsUp}
 use Rattle.thes_sqlite.specs.Faults.{IsKeeperFault}
 use Rattle.thes_sqlite.specs.ValueCells.{cell_of}

@@ -13,7 +13,7 @@ use Rattle.thes_tables.specs.Rules.{state_of}
 use Rattle.thes_tables.specs.Loads.{Loads}
 use Rattle.thes_sql.specs.Stored.{Keeps, Hold}
 use Rattle.thes_sql.specs.Older.{KeepsOld}
-use Rattle.thes_sql.specs.OldRows.{IsOldRowsOf}
+use Rattle.thes_rows.specs.OldRows.{IsOldRowsOf}
 use Rattle.thes_sqlite.specs.Kept.{raw_in}
 use Rattle.thes_sqlite.specs.Migrated.{Migrates}
 

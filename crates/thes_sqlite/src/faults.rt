@@ -1,6 +1,7 @@
 //! The faults of a keeper.
 ghost use Rattle.std.specs.Prelude.{◌≡◌, ◌≢◌, ◌≤◌, ◌+◌};
-ghost use Rattle.thes_sqlite.specs.Faults.{IsKeeperFault, IsCounted};
+ghost use Rattle.thes_store.specs.Causes.{IsCounted};
+ghost use Rattle.thes_sqlite.specs.Faults.{IsKeeperFault};
 
 use sqlite::{Error, ErrorCode};
 use thes_base::fault::Fault;
@@ -23,7 +24,6 @@ pub(crate) fn count_fault(failures: &mut u64, fault: Fault) -> Fault
     ensures same { result ≡ fault }
     ensures counted { IsCounted failures.old failures.new result }
     ensures once { failures.new ≤ failures.old + 1 }
-    ensures memory { fault ≡ Fault.OutOfMemory → failures.new ≡ failures.old }
 {
     if fault == Fault::Store {
         *failures = failures.saturating_add(1);

@@ -2,7 +2,7 @@
 use Rattle.std.proofs.Common.{◌≡◌, ◌⊎◌, ◌+◌, ◌-◌, ◌<◌, ◌≤◌, ◌∙◌, inl, inr, ℕ, zero, suc, List, [], ◌∷◌, length, map, Bool, true, false, cond, take, get_or, refl, sym, ap, subst, arith, length-append}
 use Rattle.std.specs.Prelude.{Option, None, Some, Result, slice_get, slice_set, not, ◌&&◌, ◌==◌}
 use Rattle.std.specs.declared.alloc.AllocError.{AllocError}
-use Rattle.std.proofs.lemmas.Bool.{cases_eq, cases_lt}
+use Rattle.std.proofs.lemmas.Bool.{cases_eq, cases_lt, eqb-true}
 use Rattle.std.proofs.lemmas.Option.{same_Some}
 use Rattle.std.proofs.lemmas.List.{take_all}
 use Rattle.thes_base.specs.Resources.{numbered, set_numbered}
@@ -43,11 +43,8 @@ map_cases f (x ∷ xs) (suc (suc m)) y e = map_cases f xs (suc m) y e
 
 -- A moved row is at the target, if it was at the source; else it is as it was.
 moved_cases : (source target : ℕ) (row : PostingRow) → ((row.place ≡ source) × ((moved_row source target row).place ≡ target)) ⊎ ((moved_row source target row).place ≡ row.place)
-moved_cases source target row = go (not row.withdrawn) (row.place == source) (λ e. same row.place source e)
+moved_cases source target row = go (not row.withdrawn) (row.place == source) (λ e. eqb-true row.place source e)
   where
-    same : (a b : ℕ) → (a == b) ≡ true → a ≡ b
-    same a b e = grind (arith)
-
     go : (b d : Bool) → (d ≡ true → row.place ≡ source) → ((row.place ≡ source) × ((cond (b && d) (placed_row target row) row).place ≡ target)) ⊎ ((cond (b && d) (placed_row target row) row).place ≡ row.place)
     go true true is = inl (is refl, refl)
     go true false is = inr refl

@@ -1,8 +1,9 @@
 -- What is found by the indexes.
-use Rattle.std.proofs.Common.{◌≡◌, inl, inr, ◌∙◌, ℕ, suc, List, [], ◌∷◌, Bool, true, false, sym, ap, subst, arith}
+use Rattle.std.proofs.Common.{◌≡◌, inl, inr, ◌∙◌, ℕ, suc, List, [], ◌∷◌, true, sym, ap, subst}
+use Rattle.std.proofs.lemmas.Bool.{eqb-true}
 use Rattle.std.specs.Borrow.{Bor}
 use Rattle.std.specs.Option.{option_copied}
-use Rattle.std.specs.Prelude.{Option, None, Some, IfSome, IfNone, slice_get, filter, not, ◌&&◌, ◌==◌}
+use Rattle.std.specs.Prelude.{Option, None, Some, IfSome, IfNone, slice_get, filter, not, ◌==◌}
 use Rattle.std.specs.BTreeMap.{get}
 use Rattle.std.specs.Cmp.Lexicographic.{slice_cmp}
 use Rattle.std.specs.Ordering.{nat_cmp}
@@ -16,6 +17,7 @@ use Rattle.thes_store.specs.Keys.{LeadsTo, digest_of}
 use Rattle.thes_store.specs.Picked.{is_move_of, picked}
 use Rattle.thes_store.specs.Reading.{IsFound, standing_rows}
 use Rattle.thes_store.proofs.Places.{picked_all}
+use Rattle.thes_base.proofs.ResourceLemmas.{right_true}
 
 in_get : (xs : List PostingRow) (row : PostingRow) → IsIn row xs → (i : ℕ) × (slice_get xs i ≡ Some row)
 in_get [] row h = absurd h
@@ -42,15 +44,8 @@ pub found_by_text : (x : Keys) (rows : List PostingRow) (key : List ℕ) (place 
 found_by_text x rows key place None is leads by_number some none = none_found x rows key leads by_number (λ i row at. none i row (is ∙ at))
 found_by_text x rows key place (Some row) is leads by_number some none = some
 
-equal : (a b : ℕ) → (a == b) ≡ true → a ≡ b
-equal a b e = grind (arith)
-
 stands_there : (concept : ℕ) (row : PostingRow) → is_standing concept row ≡ true → row.place ≡ concept
-stands_there concept row e = equal row.place concept (second (not row.withdrawn) (row.place == concept) e)
-  where
-    second : (b d : Bool) → (b && d) ≡ true → d ≡ true
-    second true d e = e
-    second false d e = absurd (cc)
+stands_there concept row e = eqb-true row.place concept (right_true (not row.withdrawn) (row.place == concept) e)
 
 pub standing_all : (x : Indexes) (t : Tables) (concept : ℕ) (places : List ℕ) → Covers x t → ArePlaces x.standing concept places → picked (is_standing concept) t.posting places ≡ standing_rows concept t.posting
 standing_all x t concept places covers are =
@@ -60,4 +55,4 @@ standing_all x t concept places covers are =
 pub moves_all : (x : Indexes) (t : Tables) (n : ℕ) (places : List ℕ) → Covers x t → ArePlaces x.moves n places → picked (is_move_of n) t.move places ≡ filter (is_move_of n) t.move
 moves_all x t n places covers are =
     picked_all (is_move_of n) t.move places are.rises
-    (λ i row at passes. are.complete i (subst (λ m. IsAt x.moves m i) (equal row.posting n passes) (covers.moves i row at)))
+    (λ i row at passes. are.complete i (subst (λ m. IsAt x.moves m i) (eqb-true row.posting n passes) (covers.moves i row at)))

@@ -1,11 +1,12 @@
 -- All rows at a concept are moved, where their places are known.
-use Rattle.std.proofs.Common.{◌≡◌, ◌≢◌, ◌⊎◌, ◌-◌, ◌∙◌, inl, inr, ℕ, zero, suc, List, [], ◌∷◌, ◌++◌, map, Bool, true, false, cond, refl, sym, ap, subst, arith}
+use Rattle.std.proofs.Common.{◌≡◌, ◌≢◌, ◌⊎◌, ◌-◌, ◌∙◌, inl, inr, ℕ, zero, suc, List, [], ◌∷◌, ◌++◌, map, Bool, true, false, cond, refl, sym, ap, subst}
 use Rattle.std.specs.Prelude.{Option, None, Some, slice_get, slice_set, not, ◌&&◌, ◌==◌}
 use Rattle.std.specs.Option.{IsSomeAnd}
 use Rattle.std.specs.Ordering.{nat_cmp}
 use Rattle.std.specs.BTreeMap.{get}
 use Rattle.std.specs.BTreeSet.{BTreeSet, contains}
 use Rattle.std.proofs.lemmas.Option.{same_Some}
+use Rattle.std.proofs.lemmas.Bool.{eqb-true}
 use Rattle.thes_rows.specs.declared.rows.PostingRow.{PostingRow}
 use Rattle.thes_rows.specs.Tables.{IsIn}
 use Rattle.thes_rows.specs.Rows.{placed_row, moved_row}
@@ -81,11 +82,8 @@ moved_again source target row = go (not row.withdrawn && row.place == source) re
     go false e = ap (λ b. cond b (placed_row target row) row) e
 
 moved_or_stays : (source target : ℕ) (row : PostingRow) → (moved_row source target row ≡ row) ⊎ (row.place ≡ source)
-moved_or_stays source target row = go (not row.withdrawn) (row.place == source) (λ e. same row.place source e)
+moved_or_stays source target row = go (not row.withdrawn) (row.place == source) (λ e. eqb-true row.place source e)
   where
-    same : (a b : ℕ) → (a == b) ≡ true → a ≡ b
-    same a b e = grind (arith)
-
     go : (b d : Bool) → (d ≡ true → row.place ≡ source) → (cond (b && d) (placed_row target row) row ≡ row) ⊎ (row.place ≡ source)
     go true true is = inr (is refl)
     go true false is = inl refl

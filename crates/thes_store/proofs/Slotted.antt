@@ -5,8 +5,7 @@ use Rattle.std.specs.List.{filter_map}
 use Rattle.std.specs.Vec.{vec_capacity}
 use Rattle.std.proofs.lemmas.Bool.{cases_Bool}
 use Rattle.std.proofs.lemmas.List.Elements.{filter_map-append}
-use Rattle.std.proofs.lemmas.Option.{same_Some}
-use Rattle.std.proofs.lemmas.Option.{slice_get_within}
+use Rattle.std.proofs.lemmas.Option.{same_Some, slice_get_within}
 use Rattle.std.specs.Option.{IsSomeAnd}
 use Rattle.std.specs.Ordering.{nat_cmp}
 use Rattle.std.specs.BTreeMap.{get}
@@ -15,7 +14,7 @@ use Rattle.thes_base.proofs.NumberedLemmas.{push_cases, slice_set_cases}
 use Rattle.thes_rows.specs.Tables.{IsIn}
 use Rattle.thes_store.proofs.Places.{in_keys}
 use Rattle.thes_store.specs.declared.slots.Slots.{Slots}
-use Rattle.thes_store.specs.Index.{IsAt, KeepsPlaces, KeepsOthers}
+use Rattle.thes_store.specs.Index.{IsAt, KeepsOthers}
 use Rattle.thes_store.specs.Picked.{with_row}
 use Rattle.thes_store.specs.Slots.{rows_in, AreFound, IsReady, is_same_row}
 
@@ -70,11 +69,7 @@ module _ {A : Type 0} where
       expected = λ k row e.
           subst (λ n. IsAt new.places (number row) (n + k)) (sym len) (keeps (number row) (vec_len old.rows + k) (λ same. absurd (omega (arith, within, same))) (ready.expected k row e));
     }
-
     -- Places are added alone.
-
-    pub found_kept : new.rows ≡ old.rows → KeepsPlaces old.places new.places → AreFound number old → AreFound number new
-    found_kept rows keeps found i row e = keeps (number row) i (found i row (sym (ap (λ (v : _). slice_get v.items i) rows) ∙ e))
 
   module _ (p : A → Bool) where
     pub filter_emptied : (slots : List (Option A)) (i : ℕ) (x : A) → slice_get slots i ≡ Some (Some x) → p x ≡ false → filter p (left (slice_set slots i None)) ≡ filter p (left slots)

@@ -1,5 +1,5 @@
 -- Where the rows of a number may stand.
-use Rattle.std.specs.Prelude.{◌≡◌, ◌≢◌, ℕ, List, true, IsSome}
+use Rattle.std.specs.Prelude.{◌≡◌, ◌≢◌, ℕ, List, true}
 use Rattle.std.specs.Option.{IsSomeAnd}
 use Rattle.std.specs.Ordering.{nat_cmp}
 use Rattle.std.specs.List.Sorted.{IsStrictlySortedBy}
@@ -11,10 +11,6 @@ use Rattle.thes_store.specs.declared.index.Index.{Index}
 -- the number has this place
 abbrev pub IsAt : Index → ℕ → ℕ → Type 0
 IsAt index n place = IsSomeAnd (get nat_cmp index.sets n) (λ set. contains nat_cmp set place ≡ true)
-
--- the number has a set, if only an empty one
-abbrev pub IsOpen : Index → ℕ → Type 0
-IsOpen index n = IsSome (get nat_cmp index.sets n)
 
 -- each number has the places that it had
 abbrev pub KeepsPlaces : Index → Index → Type 0

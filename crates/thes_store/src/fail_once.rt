@@ -1,7 +1,7 @@
 //! A keeper that fails when it is told to, for tests.
-ghost use Rattle.std.specs.Prelude.{◌≡◌, ◌≤◌, ◌<◌, ◌⊎◌};
+ghost use Rattle.std.specs.Prelude.{◌≡◌};
 ghost use Rattle.thes_base.specs.declared.fault.Fault.{Fault};
-ghost use Rattle.thes_store.specs.Causes.{most};
+ghost use Rattle.thes_store.specs.Causes.{IsCounted};
 
 use crate::keeper::{Keeper, Posting};
 use crate::mem::MemKeeper;
@@ -36,8 +36,7 @@ impl FailOnce {
     fn fail(&mut self) -> Fault
         ensures fault { result ≡ Fault.Store }
         ensures same { self.new.keeper ≡ self.old.keeper }
-        ensures later { self.old.failures ≤ self.new.failures }
-        ensures counted { (self.old.failures < self.new.failures) ⊎ (self.old.failures ≡ most) }
+        ensures counted { IsCounted self.old.failures self.new.failures result }
     {
         self.next = Next::Nothing;
         self.failures = self.failures.saturating_add(1);

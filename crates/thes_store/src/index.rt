@@ -1,11 +1,11 @@
 //! Where the rows of a number stand.
-ghost use Rattle.std.specs.Prelude.{◌≡◌, ℕ, true, IfOk, OnOk};
+ghost use Rattle.std.specs.Prelude.{◌≡◌, ℕ, true, false, None, IfOk, OnOk};
 ghost use Rattle.std.specs.List.Sorted.{IsStrictlySortedBy};
 ghost use Rattle.std.specs.BTreeMap.{get};
 ghost use Rattle.std.specs.Option.{option_copied};
 ghost use Rattle.std.specs.Ordering.{nat_cmp};
 ghost use Rattle.thes_rows.specs.Tables.{IsIn};
-ghost use Rattle.thes_store.specs.Index.{IsAt, IsOpen, KeepsPlaces, KeepsOthers, ArePlaces};
+ghost use Rattle.thes_store.specs.Index.{IsAt, KeepsPlaces, KeepsOthers, ArePlaces};
 
 use std::alloc::{AllocError, Global};
 use std::collections::{BTreeMap, BTreeSet};
@@ -35,19 +35,18 @@ impl Index {
         if self.insert_in(n, place)? {
             return Ok(());
         }
-        self.open(n)?;
-        self.insert_in(n, place)?;
-        Ok(())
+        self.open(n, place)
     }
 
-    // Makes an empty set for a number that has none.
-    fn open(&mut self, n: u32) -> Result<(), AllocError>
+    // Makes a set of one place for a number that has none.
+    fn open(&mut self, n: u32, place: usize) -> Result<(), AllocError>
+        requires { get nat_cmp self.old.sets n ≡ None }
         ensures keeps { KeepsPlaces self.old self.new }
-        ensures ok { OnOk result (IsOpen self.new n) }
+        ensures ok { OnOk result (IsAt self.new n place) }
     {
-        if !self.sets.contains_key(&n) {
-            self.sets.insert(n, BTreeSet::new(self.alloc))?;
-        }
+        let mut places = BTreeSet::new(self.alloc);
+        places.insert(place)?;
+        self.sets.insert(n, places)?;
         Ok(())
     }
 
@@ -55,7 +54,7 @@ impl Index {
     fn insert_in(&mut self, n: u32, place: usize) -> Result<bool, AllocError>
         ensures keeps { KeepsPlaces self.old self.new }
         ensures ok { IfOk result (λ has. has ≡ true → IsAt self.new n place) }
-        ensures open { OnOk result (IsOpen self.old n → IsAt self.new n place) }
+        ensures none { IfOk result (λ has. has ≡ false → get nat_cmp self.new.sets n ≡ None) }
     {
         match self.sets.get_mut(&n) {
             Some(set) => {

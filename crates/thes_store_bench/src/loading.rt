@@ -148,8 +148,13 @@ fn hand_all<S: RowSink>(alloc: Global, size: Size, sink: &mut S) -> Result<(), F
 // Makes a core of the rows.
 fn load(alloc: Global, size: Size) -> Result<Core, Fault> {
     let mut loader = Loader::new(alloc, Limits::default());
-    hand_all(alloc, size, &mut loader)?;
-    loader.finish()
+    match hand_all(alloc, size, &mut loader) {
+        Ok(_) => loader.finish(),
+        Err(fault) => {
+            drop(loader);
+            Err(fault)
+        }
+    }
 }
 
 /// Makes so many cores of the rows, and keeps them until all are made.

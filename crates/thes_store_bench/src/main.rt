@@ -139,14 +139,6 @@ fn time_stores<R: Clock + Print + Alloc<A = Global>, S: Alter>(
     tell(rt, "stored_merge", &begun)
 }
 
-// Times a new database.
-fn time_database(rt: &HostRuntime, posts: u32, path: &str) -> Result<(), Failure> {
-    let mut conn = Connection::open(rt, path)?;
-    let timed = time_stores(rt, &mut conn, posts);
-    drop(conn);
-    timed
-}
-
 // Times the look-ups and a load of a store, and hands its connection back.
 fn time_store<R: Clock + Print + Alloc<A = Global>, S: Alter>(
     rt: &R,
@@ -175,10 +167,24 @@ fn time_idle<R: Clock + Print + Alloc<A = Global>, S: Alter>(
     }
 }
 
-// Times the look-ups and a load of a store in a file.
+// Times commits where no look-ups are asked for, and otherwise these and a load.
+fn time_conn<R: Clock + Print + Alloc<A = Global>, S: Alter>(
+    rt: &R,
+    mut conn: Connection<S>,
+    posts: u32,
+    looks: u32,
+) -> (Result<(), Failure>, Connection<S>) {
+    if looks == 0 {
+        let timed = time_stores(rt, &mut conn, posts);
+        return (timed, conn);
+    }
+    time_idle(rt, conn, posts, looks)
+}
+
+// Times a database in a file.
 fn time_file(rt: &HostRuntime, posts: u32, looks: u32, path: &str) -> Result<(), Failure> {
     let conn = Connection::open(rt, path)?;
-    let (timed, conn) = time_idle(rt, conn, posts, looks);
+    let (timed, conn) = time_conn(rt, conn, posts, looks);
     drop(conn);
     timed
 }
@@ -225,7 +231,6 @@ fn time_keepers(rt: &HostRuntime, words: &[String]) -> Result<(), Failure> {
     let (posts, looks) = (number(words, 1), number(words, 2));
     match words.get(3) {
         _ if posts == 0 => Ok(()),
-        Some(path) if looks == 0 => time_database(rt, posts, path.as_str()),
         Some(path) => time_file(rt, posts, looks, path.as_str()),
         None => time_memory(rt, posts, looks),
     }

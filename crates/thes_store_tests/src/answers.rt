@@ -1,5 +1,4 @@
 //! What the calls of a keeper answer, as lines of text.
-use crate::rows::Rows;
 use std::alloc::{AllocError, Global};
 use std::fmt::Write;
 use thes_base::fault::Fault;
@@ -7,6 +6,7 @@ use thes_base::number::{PostNo, ResNo};
 use thes_base::text::Key;
 use thes_keeping::failure::Failure;
 use thes_keeping::keeping::commit_one;
+use thes_keeping::rows::Rows;
 use thes_rows::change::Change;
 use thes_store::keeper::{Keeper, Posting};
 

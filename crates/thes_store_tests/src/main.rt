@@ -3,7 +3,6 @@
 
 mod answers;
 mod failing;
-mod rows;
 
 use crate::answers::answers;
 use crate::failing::{failing_once, filled};

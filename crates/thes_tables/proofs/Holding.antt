@@ -19,10 +19,10 @@ use Rattle.thes_base.proofs.PostingsKept.{place_concept}
 use Rattle.thes_base.proofs.Sound.{forms_of_legal}
 use Rattle.thes_rows.specs.declared.rows.PostingRow.{PostingRow}
 use Rattle.thes_rows.specs.declared.rows.MoveRow.{MoveRow}
-use Rattle.thes_rows.specs.Tables.{Tables, IsIn, Ascends, IsRowsOf, posting_row, step_of}
+use Rattle.thes_rows.specs.Tables.{Tables, IsIn, Ascends, IsRowsOf, posting_row, step_of, moves_of}
 use Rattle.thes_rows.specs.Cells.{listed}
 use Rattle.thes_rows.proofs.MoveRows.{map_numbered, in_all}
-use Rattle.thes_tables.specs.Rules.{iris_of, moves_of, history_of, state_of, OutsideRule, PostingRule, MoveRule}
+use Rattle.thes_tables.specs.Rules.{iris_of, history_of, state_of, OutsideRule, PostingRule, MoveRule}
 use Rattle.thes_tables.specs.Loads.{Loads}
 use Rattle.thes_tables.proofs.Lists.{in_numbered, numbered_unmap, set_of_lists}
 use Rattle.thes_tables.proofs.LinkTables.{same_links}

@@ -11,9 +11,9 @@ use Rattle.thes_base.specs.Postings.{Follows, move_count}
 use Rattle.thes_base.specs.Legal.{LegalPostings, IsLegalHistory}
 use Rattle.thes_base.proofs.NumberedLemmas.{numbered_bound}
 use Rattle.thes_rows.specs.declared.rows.MoveRow.{MoveRow}
-use Rattle.thes_rows.specs.Tables.{IsIn, Rises, AreMoves, step_of}
+use Rattle.thes_rows.specs.Tables.{IsIn, Rises, AreMoves, step_of, moves_of}
 use Rattle.thes_rows.proofs.MoveRows.{bounded}
-use Rattle.thes_tables.specs.Rules.{AreInOrder, moves_of}
+use Rattle.thes_tables.specs.Rules.{AreInOrder}
 use Rattle.thes_tables.proofs.MoveRows.{hit_is, miss_is, row_of_move, move_of_row, in_of_has, counted}
 
 -- the numbers run on from this one

@@ -1,7 +1,7 @@
 -- Rows of move, and the moves of the histories that they tell.
-use Rattle.std.proofs.Common.{◌≡◌, ◌⊎◌, ◌<◌, ◌≤◌, ℕ, suc, ◌+◌, length, List, [], ◌∷◌, refl, sym, ap, ◌∙◌, subst, arith, inl, inr, Bool, true, false, cond, eqb, eqb-true, ne_eqb}
+use Rattle.std.proofs.Common.{◌≡◌, ◌⊎◌, ◌<◌, ◌≤◌, ℕ, suc, ◌+◌, length, List, [], ◌∷◌, refl, sym, ap, ◌∙◌, subst, arith, inl, inr, Bool, true, false, cond, eqb, eqb-true, ne_eqb, map}
 use Rattle.std.proofs.lemmas.Bool.{cases_Bool, eq-eqb, eqb-false}
-use Rattle.std.specs.Prelude.{Some, count_by, sum_by, slice_get}
+use Rattle.std.specs.Prelude.{Some, count_by, sum_by, slice_get, filter, ◌==◌}
 use Rattle.std.proofs.lemmas.List.Sums.{sum_by-cons}
 use Rattle.thes_base.specs.declared.data.History.{History}
 use Rattle.thes_base.specs.declared.data.Move.{Move}
@@ -10,15 +10,19 @@ use Rattle.thes_base.specs.Postings.{move_count}
 use Rattle.thes_base.specs.Legal.{AllMoves, HasMove}
 use Rattle.thes_base.proofs.ListedLemmas.{NumberedFrom, numbered_from}
 use Rattle.thes_rows.specs.declared.rows.MoveRow.{MoveRow}
-use Rattle.thes_rows.specs.Tables.{IsIn, step_of}
-use Rattle.thes_tables.specs.Rules.{EachRow, moves_of}
+use Rattle.thes_rows.specs.Tables.{IsIn, step_of, moves_of}
+use Rattle.thes_tables.specs.Rules.{EachRow}
+
+-- the rows of a posting
+abbrev own : ℕ → List MoveRow → List MoveRow
+own n rows = filter (λ (row : MoveRow). row.posting == n) rows
 
 -- the first row is the posting's, or another's
 pub hit_is : (n : ℕ) (m : MoveRow) (rows : List MoveRow) → eqb m.posting n ≡ true → moves_of n (m ∷ rows) ≡ step_of m ∷ moves_of n rows
-hit_is n m rows e = ap (λ b. cond b (step_of m ∷ moves_of n rows) (moves_of n rows)) e
+hit_is n m rows e = ap (λ b. map step_of (cond b (m ∷ own n rows) (own n rows))) e
 
 pub miss_is : (n : ℕ) (m : MoveRow) (rows : List MoveRow) → eqb m.posting n ≡ false → moves_of n (m ∷ rows) ≡ moves_of n rows
-miss_is n m rows e = ap (λ b. cond b (step_of m ∷ moves_of n rows) (moves_of n rows)) e
+miss_is n m rows e = ap (λ b. map step_of (cond b (m ∷ own n rows) (own n rows))) e
 
 -- A move of a posting has a row, and the other way round.
 
@@ -104,7 +108,7 @@ sum_more m rows (h ∷ hs) =
     let one = split (eqb m.posting h.number) in
     omega (arith, a, b, c, ih, one)
   where
-    split : (b : Bool) → length (cond b (step_of m ∷ moves_of h.number rows) (moves_of h.number rows)) ≡ cond b 1 0 + length (moves_of h.number rows)
+    split : (b : Bool) → length (map step_of (cond b (m ∷ own h.number rows) (own h.number rows))) ≡ cond b 1 0 + length (moves_of h.number rows)
     split true = let e : suc (length (moves_of h.number rows)) ≡ 1 + length (moves_of h.number rows) = omega arith in e
     split false = let e : length (moves_of h.number rows) ≡ 0 + length (moves_of h.number rows) = omega arith in e
 

@@ -15,10 +15,10 @@ use Rattle.thes_base.proofs.NumberedLemmas.{numbered_bound}
 use Rattle.thes_base.proofs.Sound.{legal_of_sound}
 use Rattle.thes_rows.specs.declared.rows.PostingRow.{PostingRow}
 use Rattle.thes_rows.specs.declared.rows.MoveRow.{MoveRow}
-use Rattle.thes_rows.specs.Tables.{Tables, IsIn, IsRowsOf, AreMoves, IsMoveOf, posting_row, step_of}
+use Rattle.thes_rows.specs.Tables.{Tables, IsIn, IsRowsOf, AreMoves, IsMoveOf, posting_row, step_of, moves_of}
 use Rattle.thes_rows.specs.Cells.{Raw, listed}
 use Rattle.thes_rows.proofs.MoveRows.{map_numbered}
-use Rattle.thes_tables.specs.Rules.{moves_of, history_of, state_of, PostingRule, MoveRule}
+use Rattle.thes_tables.specs.Rules.{history_of, state_of, PostingRule, MoveRule}
 use Rattle.thes_tables.specs.Loads.{Loads}
 use Rattle.thes_tables.proofs.Lists.{numbered_some, numbered_in, in_numbered, numbered_unmap, row_of, lists_own, iri_row}
 use Rattle.thes_tables.proofs.LinkTables.{link_lists, hier_lists}

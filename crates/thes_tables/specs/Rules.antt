@@ -1,11 +1,10 @@
 -- What the rows of each table must be, in the sight of the tables before it, and the state that all tables tell.
-use Rattle.std.specs.Prelude.{◌≡◌, ◌≢◌, ◌<◌, ◌^◌, ◌==◌, ℕ, List, [], ◌∷◌, ◌++◌, false, true, None, Some, length, map, if◌then◌else◌}
+use Rattle.std.specs.Prelude.{◌≡◌, ◌≢◌, ◌<◌, ◌^◌, ℕ, List, ◌++◌, false, true, None, Some, length, map}
 use Rattle.std.specs.FinSet as set
 use Rattle.std.specs.FinMap as dict
 use Rattle.thes_base.specs.declared.data.Resource.{Resource}
 use Rattle.thes_base.specs.declared.data.Link.{Link}
 use Rattle.thes_base.specs.declared.data.History.{History}
-use Rattle.thes_base.specs.declared.data.Move.{Move}
 use Rattle.thes_base.specs.Forms.{IsIri}
 use Rattle.thes_base.specs.Texts.{IsLabelForm, IsPostingForm}
 use Rattle.thes_base.specs.Resources.{Iris, numbered, IsConcept, IsReplacedBy, is_live_concept}
@@ -17,7 +16,7 @@ use Rattle.thes_base.specs.State.{State}
 use Rattle.thes_rows.specs.declared.rows.HierRow.{HierRow}
 use Rattle.thes_rows.specs.declared.rows.PostingRow.{PostingRow}
 use Rattle.thes_rows.specs.declared.rows.MoveRow.{MoveRow}
-use Rattle.thes_rows.specs.Tables.{Tables, IsIn, Once, Ascends, hier_link, hier_type, step_of}
+use Rattle.thes_rows.specs.Tables.{Tables, IsIn, Once, Ascends, hier_link, hier_type, moves_of}
 
 -- what holds of each row
 abbrev pub EachRow : {A : Type 0} → (A → Type 0) → List A → Type 0
@@ -38,11 +37,6 @@ labels_of rows = set.from_list rows
 -- the links of both tables
 abbrev pub links_of : List Link → List HierRow → Links
 links_of links hier = set.from_list (links ++ map hier_link hier)
-
--- the moves of a posting, in order
-abbrev pub moves_of : ℕ → List MoveRow → List Move
-moves_of n [] = []
-moves_of n (row ∷ rows) = if row.posting == n then step_of row ∷ moves_of n rows else moves_of n rows
 
 -- a posting with its moves
 abbrev pub history_of : List MoveRow → PostingRow → History

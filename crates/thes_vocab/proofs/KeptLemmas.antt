@@ -8,15 +8,13 @@ use Rattle.std.specs.FinSet as set
 use Rattle.std.specs.FinMap as dict
 use Rattle.std.proofs.lemmas.Cmp.{nat_list_cmp_total}
 use Rattle.std.proofs.lemmas.Map.Lookups.{exact_bytes}
-use Rattle.std.proofs.lemmas.Bool.{true≢false}
 use Rattle.thes_base.specs.declared.data.Resource.{Resource}
 use Rattle.thes_base.specs.declared.data.ResourceKind.{ResourceKind}
 use Rattle.thes_base.specs.declared.data.ResourceKind.TheVariants as kinds
 use Rattle.thes_base.specs.declared.data.LabelKind.{LabelKind}
 use Rattle.thes_base.specs.declared.data.LabelKind.TheVariants.{Pref, Alt, Hidden, Scope}
-use Rattle.thes_base.specs.Resources.{Iris, numbered, set_numbered, IsConcept, IsLive, IsLiveConcept, IsReplacedBy, BeginsWith, CanOwn, scheme_of, is_concept_kind, is_outside_kind, is_scheme_kind, is_collection_kind}
-use Rattle.thes_base.specs.Labels.{Label, Labels, label_cmp, HasLabel, IsTaken, UniquePreferred, S13, S14}
-use Rattle.thes_base.specs.Links.{Path}
+use Rattle.thes_base.specs.Resources.{Iris, numbered, set_numbered, IsConcept, IsLive, IsLiveConcept, BeginsWith, CanOwn, scheme_of, is_concept_kind, is_outside_kind, is_scheme_kind, is_collection_kind}
+use Rattle.thes_base.specs.Labels.{Label, Labels, HasLabel, IsTaken, UniquePreferred, S13, S14}
 use Rattle.thes_base.specs.Legal.{LegalResources, LegalLabels}
 use Rattle.thes_base.specs.Changes.{label, dead, renamed, labels_relabelled, outside_resource, concept_resource, taken_labels}
 use Rattle.thes_base.specs.Data.{LabelData}

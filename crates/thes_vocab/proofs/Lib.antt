@@ -1,4 +1,4 @@
-mod OwnLemmas
+pub mod OwnLemmas
 mod TableLemmas
 mod AnswerLemmas
 mod NameLemmas

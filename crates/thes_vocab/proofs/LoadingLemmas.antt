@@ -5,14 +5,14 @@ use Rattle.std.specs.Option.{MatchOption, is_some}
 use Rattle.std.specs.Ordering.{nat_cmp, eq_by_cmp}
 use Rattle.std.specs.FinSet as set
 use Rattle.std.specs.FinMap as dict
-use Rattle.std.proofs.lemmas.Bool.{cases_Bool, or_cases, true≢false}
+use Rattle.std.proofs.lemmas.Bool.{cases_Bool, or_cases}
 use Rattle.std.proofs.lemmas.List.Folds.{list_any_at}
 use Rattle.thes_base.specs.declared.data.Resource.{Resource}
 use Rattle.thes_base.specs.declared.data.LabelKind.{LabelKind}
 use Rattle.thes_base.specs.declared.data.LabelKind.TheVariants.{Pref, Alt, Hidden, Scope}
 use Rattle.thes_base.specs.Data.{LabelData}
 use Rattle.thes_base.specs.Resources.{Iris, is_concept_kind, IsOutside, CanOwn, BeginsWith}
-use Rattle.thes_base.specs.Labels.{Label, Labels, label_cmp, EachHasPreferred, is_name}
+use Rattle.thes_base.specs.Labels.{Label, Labels, EachHasPreferred, is_name}
 use Rattle.thes_base.specs.Changes.{has_name}
 use Rattle.thes_base.specs.Machine.{owned}
 use Rattle.thes_base.proofs.LabelSets.{inserted_cases, no_label}

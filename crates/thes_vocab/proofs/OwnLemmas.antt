@@ -9,22 +9,23 @@ use Rattle.std.specs.BTreeMap.{is_at}
 use Rattle.std.specs.BTreeSet.{insert_key}
 use Rattle.std.specs.Set.{remove_key}
 use Rattle.std.proofs.Math.Bool.{or-true}
-use Rattle.std.proofs.lemmas.Bool.{cases_lt}
+use Rattle.std.proofs.lemmas.Bool.{cases_lt, or_cases}
 use Rattle.std.proofs.lemmas.Map.Keys.{Less-from_sorted}
 use Rattle.std.proofs.lemmas.List.Sorted.{searchable_from_sorted}
 use Rattle.std.specs.Ordering.{nat_cmp, eq_by_cmp, is_eq, is_lt, ordering_reverse, ordering_then}
 use Rattle.std.specs.Cmp.{IsTotalOrder, nat_cmp_total, tied_itself, Equal-is}
 use Rattle.std.specs.List.{AllByRecursion, insert, remove}
 use Rattle.std.specs.List.Sorted.{IsStrictlySortedBy, IsBinarySearchResult, IsSearchInRange, IsPartitionPoint}
+use Rattle.std.specs.Cmp.Lexicographic.{slice_cmp}
 use Rattle.std.proofs.lemmas.Cmp.{then_total, on_total, nat_list_cmp_total}
 use Rattle.std.proofs.lemmas.List.Folds.{list_any_at}
-use Rattle.std.proofs.lemmas.Bool.{or_cases}
 use Rattle.thes_base.specs.declared.data.LabelKind.{LabelKind}
 use Rattle.thes_base.specs.declared.data.LabelKind.TheVariants.{Pref, Alt, Hidden, Scope}
 use Rattle.thes_base.specs.Data.{LabelData}
 use Rattle.thes_base.specs.Labels.{label_kind_no}
 use Rattle.thes_base.specs.Machine.{owned}
 use Rattle.thes_base.proofs.LabelSets.{labels_exact}
+use Rattle.thes_base.proofs.SetMembers.{then_assoc}
 use Rattle.thes_vocab.specs.LabelData.{language_cmp, data_cmp, own_label, has_own, HasPreferred, HasNoPreferred, HasTwo}
 use Rattle.thes_vocab.specs.Places.{IsLabelPlace, IsPreferredAt}
 use Rattle.thes_lists.proofs.OrderLemmas.{rising, insert_missing, insert_found, insert_sorted, remove_found, remove_missing, remove_sorted}
@@ -36,14 +37,12 @@ language_total = then_total (on_total (λ (l : LabelData). label_kind_no l.kind)
 pub data_total : IsTotalOrder data_cmp
 data_total = then_total language_total (on_total (λ (l : LabelData). l.text) nat_list_cmp_total)
 
-regroup : (q r s : Ordering) → ordering_then (ordering_then q r) s ≡ Equal → ordering_then q (ordering_then r s) ≡ Equal
-regroup Less r s e = e
-regroup Equal r s e = e
-regroup Greater r s e = e
+pub differ : (r : Ordering) → r ≡ Less → r ≡ Equal → ⊥
+differ r e f = cc
 
 -- labels that compare alike are one
 pub data_exact : (x y : LabelData) → data_cmp x y ≡ Equal → x ≡ y
-data_exact x y e = let same = labels_exact (owned 0 x) (owned 0 y) (regroup (nat_cmp (label_kind_no x.kind) (label_kind_no y.kind)) _ _ e) in λ i. record { kind = (same i).kind; tag = (same i).tag; text = (same i).text }
+data_exact x y e = let same = labels_exact (owned 0 x) (owned 0 y) (sym (then_assoc (nat_cmp (label_kind_no x.kind) (label_kind_no y.kind)) (slice_cmp nat_cmp x.tag y.tag) (slice_cmp nat_cmp x.text y.text)) ∙ e) in λ i. record { kind = (same i).kind; tag = (same i).tag; text = (same i).text }
 
 pub tied : (x y : LabelData) → eq_by_cmp data_cmp x y ≡ true → x ≡ y
 tied x y e = data_exact x y ((Equal-is (data_cmp x y)).0 e)
@@ -162,9 +161,6 @@ two_first x y xs sorted is = record {
   where
     first : x.kind ≡ Pref
     first = kind_before x.kind y.kind _ _ sorted.0.0 is
-
-    differ : (r : Ordering) → r ≡ Less → r ≡ Equal → ⊥
-    differ r e f = cc
 
 preferred_in_rest : (y : LabelData) (xs : List LabelData) (tag text : List ℕ) → IsStrictlySortedBy data_cmp (y ∷ xs) → HasPreferred (y ∷ xs) tag text → y.kind ≡ Pref
 unfolding IsStrictlySortedBy

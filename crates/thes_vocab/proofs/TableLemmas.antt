@@ -2,8 +2,7 @@
 use Rattle.std.proofs.Common.{◌≡◌, ◌≢◌, ◌≤◌, ℕ, zero, suc, ◌+◌, ◌-◌, List, [], ◌∷◌, refl, sym, ap, ◌∙◌, subst, arith, Bool, true, false, not, ◌&&◌, ◌||◌, cond, map}
 use Rattle.std.specs.Prelude.{Option, None, Some}
 use Rattle.std.specs.Option.{unwrap_or, IsSome, MatchOption}
-use Rattle.std.specs.declared.cmp.Ordering.{Ordering}
-use Rattle.std.specs.declared.cmp.Ordering.TheVariants.{Less, Equal, Greater}
+use Rattle.std.specs.declared.cmp.Ordering.TheVariants.{Less}
 use Rattle.std.specs.Ordering.{nat_cmp, eq_by_cmp, is_eq, ordering_then}
 use Rattle.std.specs.Cmp.{nat_cmp_total, eq_by_cmp_equiv, Equal-is}
 use Rattle.std.specs.Cmp.Lexicographic.{slice_cmp}
@@ -13,6 +12,7 @@ use Rattle.std.specs.Map.{keys_of, lookup}
 use Rattle.std.specs.BTreeMap.{BTreeMap, IsOrdered, is_at, get, Updates, WritesThrough}
 use Rattle.std.proofs.lemmas.Map.Lookups.{exact_unsigned}
 use Rattle.std.proofs.lemmas.List.Folds.{list_any-append}
+use Rattle.std.proofs.Math.Bool.{and_assoc, and-false, and-or_distrib_left, or-false}
 use Rattle.std.specs.FinSet as set
 use Rattle.thes_base.specs.Data.{LabelData}
 use Rattle.thes_base.specs.Labels.{Label, Labels, HasLabel, label_cmp, label_kind_no}
@@ -20,18 +20,10 @@ use Rattle.thes_base.specs.declared.data.LabelKind.TheVariants.{Pref, Alt}
 use Rattle.thes_base.specs.Changes.{label, renamed}
 use Rattle.thes_base.specs.Machine.{owned}
 use Rattle.thes_base.proofs.LabelSets.{labels_total, labels_exact}
+use Rattle.thes_base.proofs.SetMembers.{both_equal}
 use Rattle.thes_vocab.specs.LabelData.{data_cmp, own_label, has_own, HasNoPreferred, HasTwo}
 use Rattle.thes_vocab.specs.Rivals.{HasTwoPreferred}
 use Rattle.thes_vocab.specs.LabelRows.{all_owned, labels_in, owner_row, AreRows, Owns, OwnsNone, IsLabelPut, IsLabelDropped, AreSameRows}
-
-then_eq : (r s : Ordering) → is_eq (ordering_then r s) ≡ (is_eq r && is_eq s)
-then_eq Less s = refl
-then_eq Equal s = refl
-then_eq Greater s = refl
-
-and_group : (a b c : Bool) → (a && (b && c)) ≡ ((a && b) && c)
-and_group true b c = refl
-and_group false b c = refl
 
 -- a label without its owner
 abbrev pub data_of : Label → LabelData
@@ -40,29 +32,21 @@ data_of q = own_label q.kind q.tag q.text
 -- labels are one where their owners and what is left are
 pub owned_tie : (q : Label) (owner : ℕ) (l : LabelData) → eq_by_cmp label_cmp q (owned owner l) ≡ (eq_by_cmp nat_cmp q.owner owner && eq_by_cmp data_cmp (data_of q) l)
 owned_tie q owner l =
-    then_eq (nat_cmp q.owner owner) _
+    both_equal (nat_cmp q.owner owner) _
     ∙ ap (λ b. eq_by_cmp nat_cmp q.owner owner && b) (
-    then_eq (nat_cmp (label_kind_no q.kind) (label_kind_no l.kind)) _
-    ∙ ap (λ b. is_eq (nat_cmp (label_kind_no q.kind) (label_kind_no l.kind)) && b) (then_eq (slice_cmp nat_cmp q.tag l.tag) _)
-    ∙ and_group (is_eq (nat_cmp (label_kind_no q.kind) (label_kind_no l.kind))) (is_eq (slice_cmp nat_cmp q.tag l.tag)) (is_eq (slice_cmp nat_cmp q.text l.text))
-    ∙ sym (then_eq (ordering_then (nat_cmp (label_kind_no q.kind) (label_kind_no l.kind)) (slice_cmp nat_cmp q.tag l.tag)) _
-    ∙ ap (λ b. b && is_eq (slice_cmp nat_cmp q.text l.text)) (then_eq (nat_cmp (label_kind_no q.kind) (label_kind_no l.kind)) (slice_cmp nat_cmp q.tag l.tag)))
+    both_equal (nat_cmp (label_kind_no q.kind) (label_kind_no l.kind)) _
+    ∙ ap (λ b. is_eq (nat_cmp (label_kind_no q.kind) (label_kind_no l.kind)) && b) (both_equal (slice_cmp nat_cmp q.tag l.tag) _)
+    ∙ sym (and_assoc (is_eq (nat_cmp (label_kind_no q.kind) (label_kind_no l.kind))) (is_eq (slice_cmp nat_cmp q.tag l.tag)) (is_eq (slice_cmp nat_cmp q.text l.text)))
+    ∙ sym (both_equal (ordering_then (nat_cmp (label_kind_no q.kind) (label_kind_no l.kind)) (slice_cmp nat_cmp q.tag l.tag)) _
+    ∙ ap (λ b. b && is_eq (slice_cmp nat_cmp q.text l.text)) (both_equal (nat_cmp (label_kind_no q.kind) (label_kind_no l.kind)) (slice_cmp nat_cmp q.tag l.tag)))
     )
 
-pub and_or : (a b c : Bool) → ((a && b) || (a && c)) ≡ (a && (b || c))
-and_or true b c = refl
-and_or false b c = refl
-
-pub and_false : (a : Bool) → (a && false) ≡ false
-and_false true = refl
-and_false false = refl
-
 any_row : (q : Label) (owner : ℕ) (row : List LabelData) → list_any (eq_by_cmp label_cmp q) (map (owned owner) row) ≡ (eq_by_cmp nat_cmp q.owner owner && has_own row (data_of q))
-any_row q owner [] = sym (and_false (eq_by_cmp nat_cmp q.owner owner))
+any_row q owner [] = sym (and-false (eq_by_cmp nat_cmp q.owner owner))
 any_row q owner (l ∷ row) =
     ap (λ b. b || list_any (eq_by_cmp label_cmp q) (map (owned owner) row)) (owned_tie q owner l)
     ∙ ap (λ b. (eq_by_cmp nat_cmp q.owner owner && eq_by_cmp data_cmp (data_of q) l) || b) (any_row q owner row)
-    ∙ and_or (eq_by_cmp nat_cmp q.owner owner) (eq_by_cmp data_cmp (data_of q) l) (has_own row (data_of q))
+    ∙ sym (and-or_distrib_left (eq_by_cmp nat_cmp q.owner owner) (eq_by_cmp data_cmp (data_of q) l) (has_own row (data_of q)))
 
 -- whether one of the rows is the owner's and has the label
 abbrev has_in : ℕ → LabelData → List (ℕ × List LabelData) → Bool
@@ -84,14 +68,10 @@ unfolding IsStrictlySortedBy
 found_in owner l [] sorted = refl
 found_in owner l (e ∷ es) sorted = go (found_in owner l es sorted.1) (eq_by_cmp nat_cmp owner e.0) refl
   where
-    or_false : (a : Bool) → (a || false) ≡ a
-    or_false true = refl
-    or_false false = refl
-
     go : has_in owner l es ≡ has_own (unwrap_or (lookup (is_at (nat_cmp owner)) es) []) l → (b : Bool) → eq_by_cmp nat_cmp owner e.0 ≡ b → ((b && has_own e.1 l) || has_in owner l es) ≡ has_own (unwrap_or (cond b (Some e.1) (lookup (is_at (nat_cmp owner)) es)) []) l
     go rest true tie =
         let same = exact_unsigned owner e.0 ((Equal-is (nat_cmp owner e.0)).0 tie) in
-        ap (λ b. has_own e.1 l || b) (ap (λ k. has_in k l es) same ∙ none_after e.0 l es sorted.0) ∙ or_false (has_own e.1 l)
+        ap (λ b. has_own e.1 l || b) (ap (λ k. has_in k l es) same ∙ none_after e.0 l es sorted.0) ∙ or-false (has_own e.1 l)
     go rest false tie = rest
 
 -- what the set has, a row has
@@ -234,10 +214,6 @@ counted_one rows count owner l is has = go count refl
     go (suc n) e = omega (arith, e)
 
 -- Another name in place of the old one, step by step.
-
-pub or_false : (a : Bool) → (a || false) ≡ a
-or_false true = refl
-or_false false = refl
 
 module _ (labels : Labels) where
   -- a label that is taken back

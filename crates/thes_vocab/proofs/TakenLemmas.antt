@@ -10,55 +10,44 @@ use Rattle.std.specs.List.Sorted.{IsStrictlySortedBy}
 use Rattle.std.proofs.lemmas.Map.Lookups.{exact_unsigned}
 use Rattle.std.specs.BTreeMap.{BTreeMap, IsOrdered}
 use Rattle.std.specs.FinSet as set
-use Rattle.std.proofs.lemmas.Bool.{or_cases, or_left, or_right, true≢false, and_from}
-use Rattle.thes_base.specs.declared.data.LabelKind.{LabelKind}
-use Rattle.thes_base.specs.declared.data.LabelKind.TheVariants.{Pref, Alt, Hidden, Scope}
+use Rattle.std.proofs.lemmas.Bool.{or_cases, or_left, or_right, true≢false, and_from, cases_Bool, not-true}
+use Rattle.std.proofs.Math.Bool.{and-false, and-or_distrib_left, or-false, or_assoc, or_comm}
+use Rattle.thes_base.specs.declared.data.LabelKind.TheVariants.{Pref, Alt, Hidden}
 use Rattle.thes_base.specs.Data.{LabelData}
 use Rattle.thes_base.specs.Labels.{Label, Labels, label_cmp, HasLabel, is_name, S13}
 use Rattle.thes_base.specs.Changes.{label, has_name, taken_kind, taken_labels}
 use Rattle.thes_base.specs.Machine.{owned}
 use Rattle.thes_base.proofs.LabelSets.{labels_total, labels_exact}
-use Rattle.thes_base.proofs.MergedLabels.{name_of}
+use Rattle.thes_base.proofs.MergedLabels.{name_of, name_taken}
 use Rattle.thes_base.proofs.ResourceLemmas.{left_true, right_true}
 use Rattle.thes_base.proofs.SetMembers.{or_swap}
-use Rattle.std.proofs.lemmas.Bool.{cases_Bool, not-true}
 use Rattle.thes_vocab.specs.LabelData.{data_cmp, own_label, has_own, AreLabelsOf}
 use Rattle.thes_vocab.specs.Taken.{takes, takes_own, taken, gives}
 use Rattle.thes_vocab.specs.LabelRows.{Owns, labels_in, owner_row, IsMerged}
-use Rattle.thes_vocab.proofs.OwnLemmas.{data_total, tied, ties}
-use Rattle.thes_vocab.proofs.TableLemmas.{data_of, owned_tie, has_label, IsWritten, row_after, or_false, and_or, and_false}
-
-or_group : (a b c : Bool) → (a || (b || c)) ≡ ((a || b) || c)
-or_group true b c = refl
-or_group false b c = refl
+use Rattle.thes_vocab.proofs.OwnLemmas.{data_total, tied, ties, differ}
+use Rattle.thes_vocab.proofs.TableLemmas.{data_of, owned_tie, has_label, IsWritten, row_after}
 
 -- One label further.
 
 any_more : {A : Type 0} (p : A → Bool) (xs : List A) (i : ℕ) (x : A) → i < length xs → x ≡ get_or xs i x → list_any p (take (suc i) xs) ≡ (list_any p (take i xs) || p x)
 any_more p [] i x b e = absurd (omega arith)
-any_more p (y ∷ []) zero x b e = ap (λ z. p z || false) (sym e) ∙ or_false (p x)
-any_more p (y ∷ z ∷ xs) zero x b e = ap (λ w. p w || false) (sym e) ∙ or_false (p x)
-any_more p (y ∷ xs) (suc i) x b e = ap (λ c. p y || c) (any_more p xs i x (omega arith) e) ∙ or_group (p y) (list_any p (take i xs)) (p x)
+any_more p (y ∷ []) zero x b e = ap (λ z. p z || false) (sym e) ∙ or-false (p x)
+any_more p (y ∷ z ∷ xs) zero x b e = ap (λ w. p w || false) (sym e) ∙ or-false (p x)
+any_more p (y ∷ xs) (suc i) x b e = ap (λ c. p y || c) (any_more p xs i x (omega arith) e) ∙ sym (or_assoc (p y) (list_any p (take i xs)) (p x))
 
 pub gives_more : (source target : List LabelData) (i : ℕ) (l q : LabelData) → i < length source → l ≡ get_or source i l → gives (take (i + 1) source) target q ≡ (gives (take i source) target q || (takes_own target l && eq_by_cmp data_cmp q (taken l)))
 gives_more source target i l q b e = ap (λ k. gives (take k source) target q) (let s : i + 1 ≡ suc i = omega arith in s) ∙ any_more (λ x. takes_own target x && eq_by_cmp data_cmp q (taken x)) source i l b e
-
-or_turn : (a b c : Bool) → (a || (b || c)) ≡ (b || (c || a))
-or_turn true true c = refl
-or_turn true false true = refl
-or_turn true false false = refl
-or_turn false b c = ap (λ d. b || d) (sym (or_false c))
 
 -- the row with the label taken
 pub gives_taken : (source target row now : List LabelData) (i : ℕ) (l q : LabelData) → i < length source → l ≡ get_or source i l → has_own row q ≡ (has_own target q || gives (take i source) target q) → takes_own target l ≡ true → has_own now q ≡ (eq_by_cmp data_cmp q (taken l) || has_own row q)
     → has_own now q ≡ (has_own target q || gives (take (i + 1) source) target q)
 gives_taken source target row now i l q b e before picks after =
-    after ∙ ap (λ c. eq_by_cmp data_cmp q (taken l) || c) before ∙ or_turn (eq_by_cmp data_cmp q (taken l)) (has_own target q) (gives (take i source) target q)
+    after ∙ ap (λ c. eq_by_cmp data_cmp q (taken l) || c) before ∙ or_comm (eq_by_cmp data_cmp q (taken l)) _ ∙ or_assoc (has_own target q) (gives (take i source) target q) (eq_by_cmp data_cmp q (taken l))
     ∙ ap (λ c. has_own target q || c) (ap (λ y. gives (take i source) target q || (y && eq_by_cmp data_cmp q (taken l))) (sym picks) ∙ sym (gives_more source target i l q b e))
 
 pub gives_left : (source target row : List LabelData) (i : ℕ) (l q : LabelData) → i < length source → l ≡ get_or source i l → has_own row q ≡ (has_own target q || gives (take i source) target q) → takes_own target l ≡ false → has_own row q ≡ (has_own target q || gives (take (i + 1) source) target q)
 gives_left source target row i l q b e before no_name =
-    before ∙ ap (λ c. has_own target q || c) (sym (gives_more source target i l q b e ∙ ap (λ y. gives (take i source) target q || (y && eq_by_cmp data_cmp q (taken l))) no_name ∙ or_false (gives (take i source) target q)))
+    before ∙ ap (λ c. has_own target q || c) (sym (gives_more source target i l q b e ∙ ap (λ y. gives (take i source) target q || (y && eq_by_cmp data_cmp q (taken l))) no_name ∙ or-false (gives (take i source) target q)))
 
 -- What is in a filtered and mapped list.
 
@@ -176,7 +165,7 @@ module _ (labels : Labels) (source target : ℕ) (s13 : S13 labels) where
   AreSome own = (d : LabelData) → has_own own d ≡ true → set.contains labels (owned source d) ≡ true
 
   empty_union : set.union labels (set.empty {R = label_cmp}) ≡ labels
-  empty_union = set.same_set labels_total labels_exact _ _ (λ q. set.contains-union labels_total labels set.empty q ∙ ap (λ b. set.contains labels q || b) (set.contains-empty label_cmp q) ∙ or_false (set.contains labels q))
+  empty_union = set.same_set labels_total labels_exact _ _ (λ q. set.contains-union labels_total labels set.empty q ∙ ap (λ b. set.contains labels q || b) (set.contains-empty label_cmp q) ∙ or-false (set.contains labels q))
 
   union_insert : (more : Labels) (g : Label) → set.union labels (set.insert more g) ≡ set.insert (set.union labels more) g
   union_insert more g = set.same_set labels_total labels_exact _ _ (λ q.
@@ -187,12 +176,6 @@ module _ (labels : Labels) (source target : ℕ) (s13 : S13 labels) where
   -- one of those that were picked
   built_from : (own : List LabelData) (q : Label) → list_any (eq_by_cmp label_cmp q) (map as_taken (picked own)) ≡ true → (d : LabelData) × (takes labels target d ≡ true) × (has_own own d ≡ true) × (q ≡ as_taken d)
   built_from own q e = any_mapped data_cmp (λ d. ties d d refl) (takes labels target) as_taken q own e
-
-  name_taken : (k : LabelKind) → is_name k ≡ true → is_name (taken_kind k) ≡ true
-  name_taken Pref e = refl
-  name_taken Alt e = refl
-  name_taken Hidden e = refl
-  name_taken Scope e = e
 
   -- what the target takes it has not
   fresh : (d : LabelData) → takes labels target d ≡ true → set.contains labels (as_taken d) ≡ true → ⊥
@@ -216,9 +199,6 @@ module _ (labels : Labels) (source target : ℕ) (s13 : S13 labels) where
     | inl here ↦ differ (data_cmp x y) each.0 (subst (λ z. data_cmp x z ≡ Equal) (same ∙ tied d y here) (tied_itself data_total x))
     | inr later ↦ after_none x d own each.1 later same
   ]
-    where
-      differ : (r : Ordering) → r ≡ Less → r ≡ Equal → ⊥
-      differ r e f = cc
 
   len_built : (own : List LabelData) → IsStrictlySortedBy data_cmp own → AreSome own → set.len (set.union labels (built own)) ≡ set.len labels + length (picked own)
   unfolding IsStrictlySortedBy
@@ -249,7 +229,7 @@ module _ (labels : Labels) (source target : ℕ) (s13 : S13 labels) where
           ap (λ ys. set.len (set.union labels (set.from_list (map as_taken ys)))) kept ∙ rest ∙ ap (λ ys. set.len labels + length ys) (sym kept)
 
   built_any : (own : List LabelData) (q : Label) → list_any (eq_by_cmp label_cmp q) (map as_taken (picked own)) ≡ (eq_by_cmp nat_cmp q.owner target && list_any (λ d. takes labels target d && eq_by_cmp data_cmp (data_of q) (taken d)) own)
-  built_any [] q = sym (and_false (eq_by_cmp nat_cmp q.owner target))
+  built_any [] q = sym (and-false (eq_by_cmp nat_cmp q.owner target))
   built_any (x ∷ own) q = go (built_any own q) (cases_Bool (takes labels target x))
     where
       go : list_any (eq_by_cmp label_cmp q) (map as_taken (picked own)) ≡ (eq_by_cmp nat_cmp q.owner target && list_any (λ d. takes labels target d && eq_by_cmp data_cmp (data_of q) (taken d)) own) → (takes labels target x ≡ true) ⊎ (takes labels target x ≡ false)
@@ -257,7 +237,7 @@ module _ (labels : Labels) (source target : ℕ) (s13 : S13 labels) where
       go rest (inl picks) =
           ap (λ ys. list_any (eq_by_cmp label_cmp q) (map as_taken ys)) (kept_yes (takes labels target) x own picks)
           ∙ (λ i. owned_tie q target (taken x) i || rest i)
-          ∙ and_or (eq_by_cmp nat_cmp q.owner target) (eq_by_cmp data_cmp (data_of q) (taken x)) (list_any (λ d. takes labels target d && eq_by_cmp data_cmp (data_of q) (taken d)) own)
+          ∙ sym (and-or_distrib_left (eq_by_cmp nat_cmp q.owner target) (eq_by_cmp data_cmp (data_of q) (taken x)) (list_any (λ d. takes labels target d && eq_by_cmp data_cmp (data_of q) (taken d)) own))
           ∙ ap (λ b. eq_by_cmp nat_cmp q.owner target && ((b && eq_by_cmp data_cmp (data_of q) (taken x)) || list_any (λ d. takes labels target d && eq_by_cmp data_cmp (data_of q) (taken d)) own)) (sym picks)
       go rest (inr miss) =
           ap (λ ys. list_any (eq_by_cmp label_cmp q) (map as_taken ys)) (kept_no (takes labels target) x own miss) ∙ rest
@@ -285,5 +265,5 @@ union_rows old new source target row o n written merged = set.same_set labels_to
         ∙ (λ i. (ap (λ k. has_own (owner_row old k) (data_of q)) (sym here) ∙ sym (has_label old o q)) i || gives_is (labels_in old.entries) target (owner_row old target) (owns target) (owner_row old source) (data_of q) i)
         ∙ ap (λ b. set.contains (labels_in old.entries) q || (b && list_any (λ d. takes (labels_in old.entries) target d && eq_by_cmp data_cmp (data_of q) (taken d)) (owner_row old source))) (sym tie)
     at q false apart =
-        sym (has_label old o q) ∙ sym (or_false (set.contains (labels_in old.entries) q))
+        sym (has_label old o q) ∙ sym (or-false (set.contains (labels_in old.entries) q))
         ∙ ap (λ b. set.contains (labels_in old.entries) q || (b && list_any (λ d. takes (labels_in old.entries) target d && eq_by_cmp data_cmp (data_of q) (taken d)) (owner_row old source))) (sym apart)

@@ -1,4 +1,4 @@
-use Rattle.std.proofs.Common.{◌≡◌, refl, true, false}
+use Rattle.std.proofs.Common.{refl, true, false}
 use Rattle.std.specs.Bool.{MatchBool}
 use Rattle.thes_base.specs.Links.{HeldIn, S46}
 use Rattle.thes_graph.specs.declared.sight.Sight.TheVariants.{With}

@@ -1,4 +1,4 @@
-use Rattle.std.proofs.Common.{◌+◌, ◌*◌, length, arith, true, false}
+use Rattle.std.proofs.Common.{true, false}
 use Rattle.thes_base.specs.Links.{HeldIn}
 use Rattle.thes_graph.specs.Whole.{HasEndAbove, HasNoEndAbove}
 use Rattle.thes_graph.proofs.KindLemmas.{near_level, IsFirstOfTwo-kept, IsFirstOfTwo-above, IsFirstOfTwo-apart}

@@ -1,6 +1,5 @@
-use Rattle.std.proofs.Common.{◌≡◌, ◌+◌, ◌*◌, ◌≤◌, length, arith, Option, Some, None, true, false}
-use Rattle.thes_base.specs.declared.fault.Refusal.{Refusal}
-use Rattle.thes_base.specs.Links.{HeldIn, S46}
+use Rattle.std.proofs.Common.{◌+◌, ◌*◌, ◌≤◌, length, arith, None, true, false}
+use Rattle.thes_base.specs.Links.{S46}
 use Rattle.thes_graph.specs.declared.sight.Sight.TheVariants.{With}
 use Rattle.thes_graph.specs.Sight.{WouldBe}
 use Rattle.thes_graph.specs.Local.{IsFirstOfTwo}

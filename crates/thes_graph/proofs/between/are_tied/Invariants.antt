@@ -1,4 +1,4 @@
-use Rattle.std.proofs.Common.{◌≡◌, ◌+◌, ◌≤◌, ◌<◌, ℕ, List, Contains, take, get_or, length}
+use Rattle.std.proofs.Common.{◌≡◌, ◌+◌, ◌≤◌, ◌<◌, ℕ, List, Contains, take, get_or}
 use Rattle.thes_base.specs.declared.data.Link.{Link}
 use Rattle.thes_graph.specs.declared.relation.Relation.TheVariants.{Related}
 use Rattle.thes_graph.specs.declared.side.Side.TheVariants.{Beside}

@@ -1,5 +1,4 @@
-use Rattle.std.proofs.Common.{◌≡◌, ◌+◌, ◌-◌, ◌≤◌, ◌<◌, ◌*◌, ℕ, List, [], ◌∷◌, length, arith, refl, Contains, true, false}
-use Rattle.thes_base.specs.declared.data.Link.{Link}
+use Rattle.std.proofs.Common.{◌-◌, [], ◌∷◌, arith, true, false}
 use Rattle.thes_graph.specs.declared.relation.Relation.TheVariants.{Broader, Narrower}
 use Rattle.thes_graph.specs.Trail.{AreInTurn, HaveMet, IsRest}
 use Rattle.thes_graph.proofs.BetweenLemmas.{AreInTurn-start, HaveMet-cycle, broken_up, broken_down, up_cost, down_cost, begun}

@@ -1,10 +1,6 @@
-use Rattle.std.proofs.Common.{◌≡◌, ◌+◌, ◌-◌, ◌≤◌, ◌*◌, ℕ, List, length, arith, refl, Contains, true, false}
-use Rattle.thes_base.specs.declared.data.Link.{Link}
+use Rattle.std.proofs.Common.{◌+◌, ◌-◌, ◌≤◌, arith, refl, true, false}
 use Rattle.thes_graph.specs.declared.side.Side.TheVariants.{Beside}
-use Rattle.thes_graph.specs.Sight.{CoversAt, WouldBe}
-use Rattle.thes_graph.specs.declared.relation.Relation.TheVariants.{Related}
-use Rattle.thes_graph.specs.Steps.{Steps}
-use Rattle.thes_graph.specs.Trail.{spent, AreTied, IsTrail, LeadsTo, IsPaid, GoesOn}
+use Rattle.thes_graph.specs.Trail.{spent, AreTied, IsTrail, LeadsTo, IsPaid}
 use Rattle.thes_graph.proofs.GoesLemmas.{IsTrail-paid, IsTrail-reach}
 use Rattle.thes_graph.proofs.between.judge_rest.Goals as goal
 

@@ -1,5 +1,4 @@
-use Rattle.std.proofs.Common.{◌≡◌, ◌+◌, ◌<◌, ℕ, arith, ◌∙◌, true, false}
-use Rattle.thes_graph.specs.Trail.{AreInTurn, HaveMet}
+use Rattle.std.proofs.Common.{◌∙◌, true, false}
 use Rattle.thes_graph.proofs.between.take_turns.Goals as goal
 
 pub turns-preserved : goal.turns-preserved

@@ -1,9 +1,8 @@
-use Rattle.std.proofs.Common.{◌≡◌, refl, Contains, true, false}
+use Rattle.std.proofs.Common.{refl, Contains, true, false}
 use Rattle.std.specs.Bool.{MatchBool}
 use Rattle.thes_base.specs.declared.data.Link.{Link}
-use Rattle.thes_graph.specs.declared.relation.Relation.TheVariants.{Apart}
+use Rattle.thes_graph.specs.declared.relation.Relation.TheVariants.{Apart, Exact}
 use Rattle.thes_graph.specs.Steps.{Ties}
-use Rattle.thes_graph.specs.declared.relation.Relation.TheVariants.{Exact}
 use Rattle.thes_graph.specs.Local.{IsGathered, IsS46At, NoS46At}
 use Rattle.thes_graph.specs.Sight.{WouldBe}
 use Rattle.thes_graph.proofs.SightLemmas.{would_two}

@@ -1,4 +1,4 @@
-use Rattle.std.proofs.Common.{◌≡◌, ◌+◌, ◌*◌, ◌≤◌, length, arith, Option, Some, None, true, false}
+use Rattle.std.proofs.Common.{◌+◌, ◌*◌, ◌≤◌, length, arith, None, true, false}
 use Rattle.thes_graph.specs.Local.{IsS46At, NoS46At}
 use Rattle.thes_graph.specs.Sight.{WouldBe}
 use Rattle.thes_graph.specs.Trail.{IsBrokenBetween}

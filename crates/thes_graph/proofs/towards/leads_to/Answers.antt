@@ -1,4 +1,4 @@
-use Rattle.std.proofs.Common.{◌≡◌, ◌∷◌, [], ℕ, MatchBool, refl}
+use Rattle.std.proofs.Common.{◌∷◌, [], ℕ, MatchBool}
 use Rattle.thes_graph.specs.Towards.{AreTowards, HasLed}
 use Rattle.thes_graph.proofs.TowardsLemmas.{AreTowards-start, Towards-chain, Towards-paid}
 use Rattle.thes_graph.proofs.towards.leads_to.Goals as goal

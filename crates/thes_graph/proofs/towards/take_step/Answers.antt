@@ -1,9 +1,6 @@
-use Rattle.std.proofs.Common.{◌≡◌, ◌+◌, ◌-◌, ◌≤◌, ◌<◌, ℕ, List, true, false, arith, subst, sym, get_or}
-use Rattle.thes_base.specs.declared.data.Link.{Link}
-use Rattle.thes_base.specs.Links.{Links, HeldIn}
-use Rattle.thes_graph.specs.Reading.{HaveTwoEnds, IsRow}
-use Rattle.thes_graph.specs.Side.{side_in, IsPart}
-use Rattle.thes_graph.specs.Towards.{AreTowards, HasLed}
+use Rattle.std.proofs.Common.{◌-◌, true, false, arith}
+use Rattle.thes_base.specs.Links.{Links}
+use Rattle.thes_graph.specs.Towards.{AreTowards}
 use Rattle.thes_graph.proofs.TowardsLemmas.{back_walked, second_step}
 use Rattle.thes_graph.proofs.towards.take_step.Goals as goal
 

@@ -1,6 +1,4 @@
-use Rattle.std.proofs.Common.{◌≡◌, ◌+◌, ◌≤◌, ℕ, List, true, false, Contains, arith, sum_by, subst}
-use Rattle.thes_base.specs.declared.data.Link.{Link}
-use Rattle.thes_graph.specs.declared.sight.Sight.{Sight}
+use Rattle.std.proofs.Common.{◌+◌, ◌≤◌, ℕ, true, false, arith, sum_by}
 use Rattle.thes_graph.specs.declared.sight.Sight.TheVariants.{Merged}
 use Rattle.thes_graph.specs.Sight.{WouldBe}
 use Rattle.thes_graph.specs.Side.{side_in}

@@ -1,13 +1,12 @@
-use Rattle.std.proofs.Common.{◌≡◌, ◌≢◌, ℕ, List, Some, arith, inl, inr, sym, ◌∙◌, false}
-use Rattle.thes_base.specs.declared.data.Link.{Link}
+use Rattle.std.proofs.Common.{◌≡◌, ◌≢◌, Some, arith, inl, inr, sym, ◌∙◌, false}
 use Rattle.thes_graph.specs.declared.sight.Sight.TheVariants.{AsHeld, With, Merged}
 use Rattle.thes_graph.specs.Side.{side_in}
 use Rattle.thes_graph.specs.Sight.{WouldBe}
 use Rattle.thes_graph.specs.Steps.{Steps}
-use Rattle.thes_graph.specs.Trail.{LeadsFrom, Finds}
+use Rattle.thes_graph.specs.Trail.{LeadsFrom}
 use Rattle.thes_graph.proofs.NumberLemmas.{eq_same, eq_other}
-use Rattle.thes_graph.proofs.TrailLemmas.{Finds-none, Finds-same, Finds-then, Steps-sound, Steps-held, Steps-with, Steps-with_new}
-use Rattle.thes_graph.proofs.MergedLemmas.{Steps-source, Steps-other, Stands-other, other_cost}
+use Rattle.thes_graph.proofs.TrailLemmas.{Finds-same, Finds-then, Steps-sound, Steps-held, Steps-with, Steps-with_new}
+use Rattle.thes_graph.proofs.MergedLemmas.{Steps-other, Stands-other, other_cost}
 use Rattle.thes_graph.proofs.trail.follow_on.Goals as goal
 
 pub returns-in_ok-found-in-AsHeld-clause-finds : goal.returns-in_ok-found-in-AsHeld-clause-finds

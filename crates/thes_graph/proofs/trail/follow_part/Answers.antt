@@ -1,7 +1,7 @@
-use Rattle.std.proofs.Common.{◌≡◌, ◌+◌, inl, inr, ℕ, List, Some, slice_get, ap, sym, subst, ◌∙◌, false, arith}
+use Rattle.std.proofs.Common.{◌≡◌, ◌+◌, inl, inr, ℕ, List, Some, slice_get, ap, sym, ◌∙◌, false, arith}
 use Rattle.std.specs.Prelude.{option_and_then}
 use Rattle.thes_base.specs.declared.data.Link.{Link}
-use Rattle.thes_graph.specs.Trail.{led, LeadsWithin, Finds}
+use Rattle.thes_graph.specs.Trail.{led, LeadsWithin}
 use Rattle.thes_graph.proofs.TrailLemmas.{Finds-same, Finds-then, LeadsWithin-before, LeadsWithin-last, LeadsWithin-parts, LeadsWithin-to}
 use Rattle.thes_graph.proofs.trail.follow_part.Goals as goal
 

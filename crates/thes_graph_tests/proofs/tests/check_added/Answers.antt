@@ -1,6 +1,6 @@
 use Rattle.std.proofs.Common.{inl, refl}
 use Rattle.thes_graph.specs.Net.{is_marked}
-use Rattle.thes_graph.proofs.AnswerLemmas.{away_of_added}
+use Rattle.thes_graph.proofs.NormLemmas.{away_of_added}
 use Rattle.thes_graph_tests.proofs.tests.check_added.Goals as goal
 
 pub check_at-requires : goal.check_at-requires

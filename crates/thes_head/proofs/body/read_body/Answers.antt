@@ -1,7 +1,7 @@
 use Rattle.std.proofs.Common.{arith, ◌≤◌, ◌<◌, length, drop, length-append, length-drop}
 use Rattle.std.proofs.lemmas.List.{length-take}
 use Rattle.thes_head.proofs.BodyLemmas.{so_far_more, so_far_same, room_stays, takes_then}
-use Rattle.thes_head.proofs.InboxLemmas.{pays_then}
+use Rattle.thes_base.proofs.PipeLemmas.{pays_then}
 use Rattle.thes_head.proofs.body.read_body.Goals as goal
 
 pub returns-in_err-read_more-clause-taken : goal.returns-in_err-read_more-clause-taken

@@ -1,4 +1,4 @@
-use Rattle.std.proofs.Common.{◌≡◌, ◌≤◌, length, vec_len}
+use Rattle.std.proofs.Common.{◌≡◌, length}
 use Rattle.thes_base.specs.Pipe.{IsFresh, PaysCalls}
 use Rattle.thes_importer.specs.Whole.{HasRead}
 use Rattle.thes_importer.proofs.whole.read_whole.Given as goal

@@ -1,7 +1,6 @@
 use Rattle.std.proofs.Common.{◌≡◌, ◌∙◌, ◌+◌, ◌++◌, ◌∷◌, [], length, length-append, false, sym, ap, subst, arith}
 use Rattle.std.specs.Prelude.{Option}
 use Rattle.thes_rows.specs.declared.rows.PostingRow.{PostingRow}
-use Rattle.thes_rows.specs.Cells.{listed}
 use Rattle.thes_rows.specs.Tables.{Tables}
 use Rattle.thes_rows.proofs.Listing.{listed_one}
 use Rattle.thes_store.specs.Reading.{IsFound}

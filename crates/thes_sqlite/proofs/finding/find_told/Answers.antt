@@ -1,9 +1,8 @@
-use Rattle.std.proofs.Common.{◌≡◌, ◌∙◌, sym, subst, arith}
+use Rattle.std.proofs.Common.{◌∙◌, sym, subst, arith}
 use Rattle.sqlite.specs.Effect.{Database}
 use Rattle.sqlite.specs.State.{HasCleanDisk}
 use Rattle.sqlite.specs.Held.{state}
 use Rattle.thes_sql.specs.Stored.{Keeps}
-use Rattle.thes_sql.proofs.Leaving.{leaves_twice}
 use Rattle.thes_sqlite.proofs.LookedUp.{told_none, told_some}
 use Rattle.thes_sqlite.proofs.finding.find_told.Goals as goal
 

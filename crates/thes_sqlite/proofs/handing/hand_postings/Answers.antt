@@ -1,10 +1,8 @@
-use Rattle.std.proofs.Common.{◌≡◌, ◌∙◌, List, [], ◌∷◌, map, ap, sym, subst, refl, arith}
-use Rattle.std.specs.Prelude.{Result}
+use Rattle.std.proofs.Common.{List, subst, refl, arith}
 use Rattle.std.proofs.lemmas.List.{take_all}
-use Rattle.thes_base.specs.declared.fault.Fault.{Fault}
 use Rattle.thes_rows.specs.declared.rows.PostingRow.{PostingRow}
 use Rattle.thes_rows.specs.Cells.{posting_cells}
-use Rattle.thes_store.specs.Handing.{Takes, Hands}
+use Rattle.thes_store.specs.Handing.{Takes}
 use Rattle.thes_store.proofs.Handed.{part_taken, part_refused}
 use Rattle.thes_sqlite.proofs.LookedUp.{row_at, same_length}
 use Rattle.thes_sqlite.proofs.handing.hand_postings.Goals as goal

@@ -1,4 +1,4 @@
-use Rattle.std.proofs.Common.{ap, subst, false}
+use Rattle.std.proofs.Common.{subst}
 use Rattle.sqlite.specs.Held.{state}
 use Rattle.thes_sql.specs.Older.{IsUnderstood, links_text}
 use Rattle.thes_sql.proofs.Knowing.{knows_links}

@@ -1,7 +1,6 @@
 use Rattle.std.proofs.Common.{[], subst, sym, ◌∙◌, arith}
 use Rattle.thes_base.specs.Forms.{IsBase}
 use Rattle.thes_base.specs.Legal.{Legal}
-use Rattle.thes_base.specs.State.{State}
 use Rattle.thes_core.proofs.PartLemmas.{legal_without}
 use Rattle.thes_core.proofs.machine.Core.of_parts.Goals as goal
 

@@ -1,4 +1,4 @@
-use Rattle.std.proofs.Common.{◌≡◌, ◌-◌, ◌+◌, ◌≤◌, ℕ, List, arith, refl, ap, ◌∙◌, get_or}
+use Rattle.std.proofs.Common.{◌-◌, ◌+◌, ℕ, List, arith, refl, ap, ◌∙◌, get_or}
 use Rattle.std.proofs.lemmas.List.{get_or_default}
 use Rattle.thes_graph.proofs.GoesLemmas.{is_walked, GoesOn-more}
 use Rattle.thes_graph.proofs.trail.Trail.advance.Goals as goal

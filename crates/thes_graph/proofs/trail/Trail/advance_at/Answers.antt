@@ -1,4 +1,4 @@
-use Rattle.std.proofs.Common.{◌≡◌, ◌-◌, ◌+◌, ◌≤◌, ℕ, List, arith, refl, ap, sym, subst, ◌∙◌, get_or}
+use Rattle.std.proofs.Common.{◌≡◌, ◌-◌, ◌+◌, ℕ, List, arith, refl, ap, sym, subst, ◌∙◌, get_or}
 use Rattle.std.proofs.lemmas.List.{get_or_default}
 use Rattle.thes_base.specs.declared.data.Link.{Link}
 use Rattle.thes_graph.specs.declared.sight.Sight.TheVariants.{AsHeld}

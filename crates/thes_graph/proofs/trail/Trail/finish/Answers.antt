@@ -1,4 +1,4 @@
-use Rattle.std.proofs.Common.{◌≡◌, ◌+◌, ◌-◌, ℕ, arith, ◌∙◌, true, false}
+use Rattle.std.proofs.Common.{◌+◌, ◌-◌, arith, ◌∙◌, true, false}
 use Rattle.thes_graph.specs.Trail.{IsTrail, GoesOn}
 use Rattle.thes_graph.proofs.GoesLemmas.{IsTrail-less, GoesOn-less}
 use Rattle.thes_graph.proofs.trail.Trail.finish.Goals as goal

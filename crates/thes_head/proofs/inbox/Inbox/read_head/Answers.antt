@@ -1,6 +1,7 @@
 use Rattle.std.proofs.Common.{rules}
 use Rattle.thes_head.proofs.HeadLemmas.{bad_front, bad_long, cut_front}
-use Rattle.thes_head.proofs.InboxLemmas.{consumes_grown, pays_then}
+use Rattle.thes_base.proofs.PipeLemmas.{pays_then}
+use Rattle.thes_head.proofs.InboxLemmas.{consumes_grown}
 use Rattle.thes_head.proofs.inbox.Inbox.read_head.Goals as goal
 
 pub returns-in-Bad-clause-bad : goal.returns-in-Bad-clause-bad

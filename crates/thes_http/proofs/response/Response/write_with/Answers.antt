@@ -1,5 +1,5 @@
 use Rattle.thes_http.proofs.WriteLemmas.{err_after, err_before}
-use Rattle.thes_head.proofs.InboxLemmas.{pays_then}
+use Rattle.thes_base.proofs.PipeLemmas.{pays_then}
 use Rattle.thes_http.proofs.response.Response.write_with.Goals as goal
 
 pub returns-in_err-write_all-clause-err : goal.returns-in_err-write_all-clause-err

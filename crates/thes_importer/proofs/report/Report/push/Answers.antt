@@ -1,5 +1,5 @@
-use Rattle.std.proofs.Common.{◌≡◌, ◌+◌, ◌++◌, refl, ap}
-use Rattle.thes_importer.specs.Outcomes.{outcome_line, row_count}
+use Rattle.std.proofs.Common.{◌+◌, refl, ap}
+use Rattle.thes_importer.specs.Outcomes.{outcome_line}
 use Rattle.thes_importer.proofs.TellingLemmas.{tells_more}
 use Rattle.thes_importer.proofs.report.Report.push.Goals as goal
 

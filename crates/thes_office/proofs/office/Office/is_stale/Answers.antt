@@ -1,5 +1,4 @@
-use Rattle.std.proofs.Common.{subst}
-use Rattle.std.proofs.Common.{ℕ, List}
+use Rattle.std.proofs.Common.{subst, ℕ, List}
 use Rattle.thes_base.specs.Headline.{IsInOrder}
 use Rattle.thes_base.specs.State.{State}
 use Rattle.thes_base.proofs.MachineLemmas.{legal_is_in_order}

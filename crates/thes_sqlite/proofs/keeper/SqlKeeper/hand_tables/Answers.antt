@@ -1,4 +1,4 @@
-use Rattle.std.proofs.Common.{◌∙◌, List, get_or, ap, subst, refl, rules}
+use Rattle.std.proofs.Common.{◌∙◌, List, get_or, subst, refl, rules}
 use Rattle.std.proofs.lemmas.List.{take_all}
 use Rattle.thes_base.specs.declared.fault.Table.{Table}
 use Rattle.thes_base.specs.declared.fault.Table.TheVariants as table

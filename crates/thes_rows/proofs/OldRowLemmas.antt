@@ -1,6 +1,5 @@
 -- Version 1's rows of a state become version 2's rows of it.
-use Rattle.std.proofs.Common.{arith, inl, inr, ◌≡◌, ◌⊎◌, ◌≤◌, ◌↔◌, ℕ, List, [], ◌∷◌, map, filter, Bool, true, false, not, cond}
-use Rattle.std.proofs.Common.{◌==◌, Option, None, Some, refl, sym, ap, subst, ◌∙◌}
+use Rattle.std.proofs.Common.{arith, inl, inr, ◌≡◌, ◌≤◌, ◌↔◌, ℕ, List, [], ◌∷◌, map, filter, Bool, true, false, not, cond, ◌==◌, Option, None, Some, refl, sym, ap, subst, ◌∙◌}
 use Rattle.std.proofs.lemmas.Bool.{cases_Bool}
 use Rattle.thes_base.specs.declared.data.Link.{Link}
 use Rattle.thes_base.specs.declared.data.LinkKind.{LinkKind}
@@ -13,20 +12,10 @@ use Rattle.thes_rows.specs.declared.rows.HierType.TheVariants as ht
 use Rattle.thes_rows.specs.Tables.{Tables, IsIn, Once, Lists, IsRowsOf, IsHierOf, IsLinkOf, hier_link, hier_kind, hier_type}
 use Rattle.thes_rows.specs.Changes.{hier_row}
 use Rattle.thes_rows.proofs.LinkRows.{told}
-use Rattle.thes_rows.proofs.Sets.{clash, in_filter, filter_in, in_map, map_in, lists_filter}
-use Rattle.thes_sql.specs.Older.{is_broader, untyped, renewed}
-use Rattle.thes_sql.specs.OldRows.{IsOldRowsOf}
+use Rattle.thes_rows.proofs.Sets.{in_filter, filter_in, in_map, map_in, lists_filter, once_map}
+use Rattle.thes_rows.specs.OldRows.{is_broader, untyped, renewed, IsOldRowsOf}
 
 -- Lists in which each element stands once.
-
-once_map : {A B : Type 0} (f : A → B) (xs : List A)
-    → ((x y : A) → IsIn x xs → IsIn y xs → f x ≡ f y → x ≡ y) → Once xs → Once (map f xs)
-once_map f [] one once = tt
-once_map f (x ∷ xs) one once = (
-  λ h. let at = in_map f (f x) xs h in
-      once.0 (subst (λ y. IsIn y xs) (sym (one x at.0 (inl refl) (inr at.1) at.2)) at.1),
-  once_map f xs (λ y z hy hz. one y z (inr hy) (inr hz)) once.1,
-)
 
 once_unmap : {A B : Type 0} (f : A → B) (xs : List A) → Once (map f xs) → Once xs
 once_unmap f [] once = tt

@@ -6,7 +6,7 @@ use thes_rows::cells::Cell;
 use thes_rows::rows::PostingRow;
 use thes_store::sink::{PostingSink, RowSink};
 
-/// The rows that are handed to it, each on a line.
+/// The rows that are handed to it, each on a line; for a table that can't be queried, a line with its name alone.
 #[derive(Drop)]
 pub struct Rows {
     pub text: String,
@@ -24,7 +24,7 @@ impl Rows {
     fn push_cell(&mut self, cell: &Cell) -> Result<(), AllocError> {
         match cell {
             Cell::Int(number) => write!(self.text, " {number}"),
-            Cell::Text(text) => write!(self.text, " {}", text.as_str()),
+            Cell::Text(text) => write!(self.text, " '{}'", text.as_str()),
             Cell::Bytes(_) => self.text.push_str(" bytes"),
             Cell::Null => self.text.push_str(" null"),
         }
