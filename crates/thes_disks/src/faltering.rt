@@ -86,7 +86,7 @@ impl Keeper for Faltering {
         self.keeper.load(sink)
     }
 
-    fn commit(&mut self, delta: &Delta) -> Result<(), Fault> {
+    fn commit(&mut self, delta: Delta) -> Result<(), Fault> {
         if self.is_due(Next::Commit) {
             return Err(self.fail());
         }

@@ -28,7 +28,7 @@ pub fn commit_one<K: Keeper>(alloc: Global, keeper: &mut K, change: Change) -> R
 {
     let mut delta = Delta::new(alloc);
     delta.push(change)?;
-    keeper.commit(&delta)
+    keeper.commit(delta)
 }
 
 /// Adds the next posting, if its key is new, and tells whether it was.
@@ -113,6 +113,6 @@ pub fn merge<K: Keeper>(
     requires { AwaitsPosting K.rows K.is_up keeper.old (posts + 1) }
 {
     let delta = moving(alloc, source, target, count)?;
-    keeper.commit(&delta)?;
+    keeper.commit(delta)?;
     Ok(())
 }

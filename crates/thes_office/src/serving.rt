@@ -33,7 +33,7 @@ pub fn perform_at<K: Keeper>(
     match core.decide(command, facts)? {
         Verdict::Settled(answer) => Ok(answer),
         Verdict::Accepted(answer, delta) => {
-            if let Err(fault) = keeper.commit(&delta) {
+            if let Err(fault) = keeper.commit(delta) {
                 return Err(fault);
             }
             // That its texts have their forms is known from here on.

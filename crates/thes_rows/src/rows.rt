@@ -76,33 +76,11 @@ impl Model for OutsideRow {
 }
 
 impl LabelRow {
-    /// Copies the row.
-    pub fn try_clone(&self, alloc: Global) -> Result<LabelRow, AllocError>
-        ensures { IfOk result (λ row. row ≡ self.now) }
-    {
-        Ok(LabelRow {
-            owner: self.owner,
-            label: self.label.try_clone(alloc)?,
-        })
-    }
-
     /// Tells whether the rows have the same owner and label.
     pub fn is_same(&self, other: &LabelRow) -> bool
         ensures { IsTrue result ↔ (self.now ≡ other.now) }
     {
         self.owner == other.owner && self.label == other.label
-    }
-}
-
-impl OutsideRow {
-    /// Copies the row.
-    pub fn try_clone(&self, alloc: Global) -> Result<OutsideRow, AllocError>
-        ensures { IfOk result (λ row. row ≡ self.now) }
-    {
-        Ok(OutsideRow {
-            number: self.number,
-            iri: self.iri.try_clone(alloc)?,
-        })
     }
 }
 

@@ -191,11 +191,11 @@ impl<S: Alter> Keeper for SqlKeeper<S> {
         self.hand_tables(&tables_in_order(), sink)
     }
 
-    fn commit(&mut self, delta: &Delta) -> Result<(), Fault>
+    fn commit(&mut self, delta: Delta) -> Result<(), Fault>
         requires fits { IsServing S.Store self.old → (t : Tables) → raw_of_keeper S.Store self.old ≡ listed t
-            → FitAll delta.now t }
+            → FitAll delta t }
         ensures ok { OnOk result (IsServing S.Store self.new
-            → LeadsTo delta.now (raw_of_keeper S.Store self.old) (raw_of_keeper S.Store self.new)) }
+            → LeadsTo delta (raw_of_keeper S.Store self.old) (raw_of_keeper S.Store self.new)) }
         ensures err { OnErr result (IsServing S.Store self.new
             → raw_of_keeper S.Store self.new ≡ raw_of_keeper S.Store self.old) }
         ensures was { IsServing S.Store self.new → IsServing S.Store self.old }

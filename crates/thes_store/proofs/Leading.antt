@@ -9,7 +9,7 @@ use Rattle.std.proofs.lemmas.Bool.{cases_Bool}
 use Rattle.std.proofs.lemmas.Map.Text.{is_eq-slice_cmp}
 use Rattle.std.proofs.lemmas.Slice.Eq.{bytes_eq-Decides}
 use Rattle.thes_store.specs.declared.keys.Keys.{Keys}
-use Rattle.thes_store.specs.Keys.{KeepsOtherKeys}
+use Rattle.thes_store.specs.Keys.{digest_of, KeepsNumbers, KeepsOtherKeys}
 
 get_others : (old new : BTreeMap (List ℕ) ℕ) (key : List ℕ) (n : ℕ) → UpdatesBy (slice_cmp nat_cmp) (slice_cmp nat_cmp key) old new (Some n) → (q : List ℕ) → (key ≡ q → ⊥) → get (slice_cmp nat_cmp) new q ≡ get (slice_cmp nat_cmp) old q
 get_others old new key n updates q apart = updates.2 q (is_eq-slice_cmp key q ∙ ⊎_elim
@@ -17,8 +17,9 @@ get_others old new key n updates q apart = updates.2 q (is_eq-slice_cmp key q �
     (λ (miss : bytes_eq key q ≡ false). miss) (cases_Bool (bytes_eq key q)))
 
 -- a place that is kept by the text of a key
-pub kept_by_text : (old : Keys) (rest : BTreeMap (List ℕ) ℕ) (key copy : List ℕ) (n : ℕ) → copy ≡ key → UpdatesBy (slice_cmp nat_cmp) (slice_cmp nat_cmp copy) old.rest rest (Some n) → KeepsOtherKeys key old (record old { rest = rest })
-kept_by_text old rest key copy n same updates = λ other place apart leads. elim leads [
-  | inl number ↦ inl number
+pub kept_by_text : (old : Keys) (numbers : BTreeMap ℕ ℕ) (rest : BTreeMap (List ℕ) ℕ) (key copy : List ℕ) (n : ℕ) → KeepsNumbers old.numbers numbers → copy ≡ key → UpdatesBy (slice_cmp nat_cmp) (slice_cmp nat_cmp copy) old.rest rest (Some n)
+    → KeepsOtherKeys key old (record { numbers = numbers; rest = rest })
+kept_by_text old numbers rest key copy n keeps same updates = λ other place apart leads. elim leads [
+  | inl number ↦ inl (keeps (digest_of other) place number)
   | inr text ↦ inr (get_others old.rest rest copy n updates other (λ is. apart (sym is ∙ same)) ∙ text)
 ]

@@ -1,9 +1,8 @@
 -- All rows at a concept are moved, where their places are known.
-use Rattle.std.proofs.Common.{◌≡◌, ◌≢◌, ◌⊎◌, ◌-◌, ◌∙◌, inl, inr, ℕ, zero, suc, List, [], ◌∷◌, ◌++◌, map, Bool, true, false, cond, refl, sym, ap, subst}
+use Rattle.std.proofs.Common.{◌≡◌, ◌≢◌, ◌⊎◌, ◌∙◌, inl, inr, ℕ, zero, suc, List, [], ◌∷◌, ◌++◌, map, Bool, true, false, cond, refl, sym, ap, subst}
 use Rattle.std.specs.Prelude.{Option, None, Some, slice_get, slice_set, not, ◌&&◌, ◌==◌}
 use Rattle.std.specs.Option.{IsSomeAnd}
 use Rattle.std.specs.Ordering.{nat_cmp}
-use Rattle.std.specs.BTreeMap.{get}
 use Rattle.std.specs.BTreeSet.{BTreeSet, contains}
 use Rattle.std.proofs.lemmas.Option.{same_Some}
 use Rattle.std.proofs.lemmas.Bool.{eqb-true}
@@ -89,18 +88,18 @@ moved_or_stays source target row = go (not row.withdrawn) (row.place == source) 
     go true false is = inl refl
     go false d is = inl refl
 
-pub moved_those : (index : Index) (source target : ℕ) (set : BTreeSet ℕ) (rows : List PostingRow) → AreStanding index rows → get nat_cmp index.sets source ≡ Some set → changed_at (moved_row source target) set.keys rows ≡ map (moved_row source target) rows
+pub moved_those : (index : Index) (source target : ℕ) (set : BTreeSet ℕ) (rows : List PostingRow) → AreStanding index rows → slice_get index.sets.items source ≡ Some set → changed_at (moved_row source target) set.keys rows ≡ map (moved_row source target) rows
 moved_those index source target set rows standing found =
     all_changed_at (moved_row source target) (moved_again source target) set.keys rows
     (λ i row at. elim (moved_or_stays source target row) [
       | inl stays ↦ inl stays
-      | inr here ↦ inr (in_keys set.keys i (subst (λ (o : Option (BTreeSet ℕ)). IsSomeAnd o (λ s. contains nat_cmp s i ≡ true)) found (subst (λ n. IsSomeAnd (get nat_cmp index.sets n) (λ s. contains nat_cmp s i ≡ true)) here (standing i row at))))
+      | inr here ↦ inr (in_keys set.keys i (subst (λ (o : Option (BTreeSet ℕ)). IsSomeAnd o (λ s. contains nat_cmp s i ≡ true)) found (subst (λ n. IsSomeAnd (slice_get index.sets.items n) (λ s. contains nat_cmp s i ≡ true)) here (standing i row at))))
     ])
 
-pub moved_none : (index : Index) (source target : ℕ) (rows : List PostingRow) → AreStanding index rows → get nat_cmp index.sets source ≡ None → rows ≡ map (moved_row source target) rows
+pub moved_none : (index : Index) (source target : ℕ) (rows : List PostingRow) → AreStanding index rows → slice_get index.sets.items source ≡ None → rows ≡ map (moved_row source target) rows
 moved_none index source target rows standing none =
     all_changed_at (moved_row source target) (moved_again source target) [] rows
     (λ i row at. elim (moved_or_stays source target row) [
       | inl stays ↦ inl stays
-      | inr here ↦ absurd (subst (λ (o : Option (BTreeSet ℕ)). IsSomeAnd o (λ s. contains nat_cmp s i ≡ true)) none (subst (λ n. IsSomeAnd (get nat_cmp index.sets n) (λ s. contains nat_cmp s i ≡ true)) here (standing i row at)))
+      | inr here ↦ absurd (subst (λ (o : Option (BTreeSet ℕ)). IsSomeAnd o (λ s. contains nat_cmp s i ≡ true)) none (subst (λ n. IsSomeAnd (slice_get index.sets.items n) (λ s. contains nat_cmp s i ≡ true)) here (standing i row at)))
     ])

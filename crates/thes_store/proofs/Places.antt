@@ -5,7 +5,7 @@ use Rattle.std.specs.Option.{IsSomeAnd}
 use Rattle.std.specs.Ordering.{MatchOrdering, nat_cmp, is_eq}
 use Rattle.std.specs.List.{AllByRecursion, list_any}
 use Rattle.std.specs.List.Sorted.{IsStrictlySortedBy}
-use Rattle.std.specs.BTreeMap.{is_at, get}
+use Rattle.std.specs.BTreeMap.{is_at}
 use Rattle.std.specs.BTreeSet.{BTreeSet, contains}
 use Rattle.std.proofs.lemmas.Bool.{cases_eq}
 use Rattle.std.proofs.lemmas.Cmp.{ranked}
@@ -34,13 +34,13 @@ sorted_none : IsStrictlySortedBy nat_cmp []
 unfolding IsStrictlySortedBy
 sorted_none = tt
 
-pub some_places : (index : Index) (n : ℕ) (set : BTreeSet ℕ) (places : List ℕ) → get nat_cmp index.sets n ≡ Some set → places ≡ set.keys → IsStrictlySortedBy nat_cmp set.keys → ArePlaces index n places
+pub some_places : (index : Index) (n : ℕ) (set : BTreeSet ℕ) (places : List ℕ) → slice_get index.sets.items n ≡ Some set → places ≡ set.keys → IsStrictlySortedBy nat_cmp set.keys → ArePlaces index n places
 some_places index n set places found same rises = record {
   rises = subst (IsStrictlySortedBy nat_cmp) (sym same) rises;
   complete = λ place at. subst (IsIn place) (sym same) (in_keys set.keys place (subst (λ (o : Option (BTreeSet ℕ)). IsSomeAnd o (λ s. contains nat_cmp s place ≡ true)) found at));
 }
 
-pub no_places : (index : Index) (n : ℕ) (places : List ℕ) → get nat_cmp index.sets n ≡ None → places ≡ [] → ArePlaces index n places
+pub no_places : (index : Index) (n : ℕ) (places : List ℕ) → slice_get index.sets.items n ≡ None → places ≡ [] → ArePlaces index n places
 no_places index n places none same = record {
   rises = subst (IsStrictlySortedBy nat_cmp) (sym same) sorted_none;
   complete = λ place at. absurd (subst (λ (o : Option (BTreeSet ℕ)). IsSomeAnd o (λ s. contains nat_cmp s place ≡ true)) none at);

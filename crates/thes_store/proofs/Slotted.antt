@@ -8,7 +8,6 @@ use Rattle.std.proofs.lemmas.List.Elements.{filter_map-append}
 use Rattle.std.proofs.lemmas.Option.{same_Some, slice_get_within}
 use Rattle.std.specs.Option.{IsSomeAnd}
 use Rattle.std.specs.Ordering.{nat_cmp}
-use Rattle.std.specs.BTreeMap.{get}
 use Rattle.std.specs.BTreeSet.{BTreeSet, contains}
 use Rattle.thes_base.proofs.NumberedLemmas.{push_cases, slice_set_cases}
 use Rattle.thes_rows.specs.Tables.{IsIn}
@@ -108,12 +107,12 @@ module _ {A : Type 0} where
       found_same : (place : ℕ) → is_same_row same (slice_get s.rows.items place) row ≡ true → IsAt s.places (number row) place
       found_same place e = let h = there (slice_get s.rows.items place) e in subst (λ n. IsAt s.places n place) (agree h.0 row h.2) (found place h.0 h.1)
 
-      pub none_same : get nat_cmp s.places.sets (number row) ≡ None → (place : ℕ) → is_same_row same (slice_get s.rows.items place) row ≡ false
+      pub none_same : slice_get s.places.sets.items (number row) ≡ None → (place : ℕ) → is_same_row same (slice_get s.rows.items place) row ≡ false
       none_same none place = ⊎_elim
           (λ (hit : is_same_row same (slice_get s.rows.items place) row ≡ true). absurd (subst (λ (o : Option (BTreeSet ℕ)). IsSomeAnd o (λ set. contains nat_cmp set place ≡ true)) none (found_same place hit)))
           (λ (miss : is_same_row same (slice_get s.rows.items place) row ≡ false). miss) (cases_Bool (is_same_row same (slice_get s.rows.items place) row))
 
-      pub none_there : (set : BTreeSet ℕ) → get nat_cmp s.places.sets (number row) ≡ Some set → ((place : ℕ) → IsIn place set.keys → is_same_row same (slice_get s.rows.items place) row ≡ false) → (place : ℕ) → is_same_row same (slice_get s.rows.items place) row ≡ false
+      pub none_there : (set : BTreeSet ℕ) → slice_get s.places.sets.items (number row) ≡ Some set → ((place : ℕ) → IsIn place set.keys → is_same_row same (slice_get s.rows.items place) row ≡ false) → (place : ℕ) → is_same_row same (slice_get s.rows.items place) row ≡ false
       none_there set some apart place = ⊎_elim
           (λ (hit : is_same_row same (slice_get s.rows.items place) row ≡ true). apart place (in_keys set.keys place (subst (λ (o : Option (BTreeSet ℕ)). IsSomeAnd o (λ s'. contains nat_cmp s' place ≡ true)) some (found_same place hit))))
           (λ (miss : is_same_row same (slice_get s.rows.items place) row ≡ false). miss) (cases_Bool (is_same_row same (slice_get s.rows.items place) row))

@@ -1,16 +1,19 @@
 -- Where the rows of a number may stand.
-use Rattle.std.specs.Prelude.{◌≡◌, ◌≢◌, ℕ, List, true}
+use Rattle.std.specs.Prelude.{◌≡◌, ◌≢◌, ℕ, List, true, IsSome, slice_get}
 use Rattle.std.specs.Option.{IsSomeAnd}
 use Rattle.std.specs.Ordering.{nat_cmp}
 use Rattle.std.specs.List.Sorted.{IsStrictlySortedBy}
-use Rattle.std.specs.BTreeMap.{get}
 use Rattle.std.specs.BTreeSet.{contains}
 use Rattle.thes_rows.specs.Tables.{IsIn}
 use Rattle.thes_store.specs.declared.index.Index.{Index}
 
 -- the number has this place
 abbrev pub IsAt : Index → ℕ → ℕ → Type 0
-IsAt index n place = IsSomeAnd (get nat_cmp index.sets n) (λ set. contains nat_cmp set place ≡ true)
+IsAt index n place = IsSomeAnd (slice_get index.sets.items n) (λ set. contains nat_cmp set place ≡ true)
+
+-- the number has a set of places, if only an empty one
+abbrev pub HasSet : Index → ℕ → Type 0
+HasSet index n = IsSome (slice_get index.sets.items n)
 
 -- each number has the places that it had
 abbrev pub KeepsPlaces : Index → Index → Type 0

@@ -64,7 +64,7 @@ impl Keeper for FailOnce {
         self.keeper.load(sink)
     }
 
-    fn commit(&mut self, delta: &Delta) -> Result<(), Fault> {
+    fn commit(&mut self, delta: Delta) -> Result<(), Fault> {
         if self.next == Next::Commit {
             return Err(self.fail());
         }

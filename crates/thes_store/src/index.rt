@@ -1,21 +1,21 @@
 //! Where the rows of a number stand.
-ghost use Rattle.std.specs.Prelude.{◌≡◌, ℕ, true, false, None, IfOk, OnOk};
+ghost use Rattle.std.specs.Prelude.{◌≡◌, ℕ, slice_get, IfOk, OnOk};
 ghost use Rattle.std.specs.List.Sorted.{IsStrictlySortedBy};
-ghost use Rattle.std.specs.BTreeMap.{get};
 ghost use Rattle.std.specs.Option.{option_copied};
 ghost use Rattle.std.specs.Ordering.{nat_cmp};
 ghost use Rattle.thes_rows.specs.Tables.{IsIn};
-ghost use Rattle.thes_store.specs.Index.{IsAt, KeepsPlaces, KeepsOthers, ArePlaces};
+ghost use Rattle.thes_store.specs.Index.{IsAt, HasSet, KeepsPlaces, KeepsOthers, ArePlaces};
 
 use std::alloc::{AllocError, Global};
-use std::collections::{BTreeMap, BTreeSet};
+use std::collections::BTreeSet;
 
 /// For each number the places in a list at which rows of this number may stand. A place too many does no harm, since who
-/// looks there sees the row. All numbers of an index are of one sort.
+/// looks there sees the row. All numbers of an index are of one sort. Their sets stand by the numbers, so they take memory
+/// for the greatest number that has places: resources and postings are numbered without gaps.
 #[derive(Drop)]
 pub struct Index {
     alloc: Global,
-    sets: BTreeMap<u32, BTreeSet<usize>>,
+    sets: Vec<BTreeSet<usize>>,
 }
 
 impl Index {
@@ -23,7 +23,7 @@ impl Index {
     pub fn new(alloc: Global) -> Index {
         Index {
             alloc,
-            sets: BTreeMap::new(alloc),
+            sets: Vec::new(alloc),
         }
     }
 
@@ -32,37 +32,31 @@ impl Index {
         ensures keeps { KeepsPlaces self.old self.new }
         ensures ok { OnOk result (IsAt self.new n place) }
     {
-        if self.insert_in(n, place)? {
-            return Ok(());
-        }
-        self.open(n, place)
+        self.open(n)?;
+        self.insert_in(n, place)
     }
 
-    // Makes a set of one place for a number that has none.
-    fn open(&mut self, n: u32, place: usize) -> Result<(), AllocError>
-        requires { get nat_cmp self.old.sets n ≡ None }
+    // Makes empty sets up to a number, where there are none.
+    fn open(&mut self, n: u32) -> Result<(), AllocError>
         ensures keeps { KeepsPlaces self.old self.new }
-        ensures ok { OnOk result (IsAt self.new n place) }
+        ensures set { OnOk result (HasSet self.new n) }
     {
-        let mut places = BTreeSet::new(self.alloc);
-        places.insert(place)?;
-        self.sets.insert(n, places)?;
+        'opening: while self.sets.len() <= n as usize {
+            self.sets.push(BTreeSet::new(self.alloc))?;
+        }
         Ok(())
     }
 
-    // Adds a place to the set of a number, and says whether it has a set.
-    fn insert_in(&mut self, n: u32, place: usize) -> Result<bool, AllocError>
+    // Adds a place to the set of a number that has one.
+    fn insert_in(&mut self, n: u32, place: usize) -> Result<(), AllocError>
+        requires { HasSet self.old n }
         ensures keeps { KeepsPlaces self.old self.new }
-        ensures ok { IfOk result (λ has. has ≡ true → IsAt self.new n place) }
-        ensures none { IfOk result (λ has. has ≡ false → get nat_cmp self.new.sets n ≡ None) }
+        ensures ok { OnOk result (IsAt self.new n place) }
     {
-        match self.sets.get_mut(&n) {
-            Some(set) => {
-                set.insert(place)?;
-                Ok(true)
-            }
-            None => Ok(false),
+        if let Some(set) = self.sets.get_mut(n as usize) {
+            set.insert(place)?;
         }
+        Ok(())
     }
 
     /// Adds places to those of a number.
@@ -81,16 +75,16 @@ impl Index {
         ensures keeps { KeepsOthers place self.old self.new }
         ensures gone { ¬ IsAt self.new n place }
     {
-        if let Some(set) = self.sets.get_mut(&n) {
+        if let Some(set) = self.sets.get_mut(n as usize) {
             set.remove(&place);
         }
     }
 
     /// Shows the places of a number, if it has some.
     pub fn set(&self, n: u32) -> Option<&BTreeSet<usize>>
-        ensures { option_copied result ≡ get nat_cmp self.now.sets n }
+        ensures { option_copied result ≡ slice_get self.now.sets.items n }
     {
-        self.sets.get(&n)
+        self.sets.get(n as usize)
     }
 
     /// Collects the places of a number.

@@ -54,10 +54,10 @@ pub trait Keeper {
         ensures cause { HasCause (failed self.old) (failed self.new) result };
 
     /// Makes all of the changes, or none.
-    fn commit(&mut self, delta: &Delta) -> Result<(), Fault>
-        requires fits { is_up self.old → (t : Tables) → rows self.old ≡ listed t → FitAll delta.now t }
+    fn commit(&mut self, delta: Delta) -> Result<(), Fault>
+        requires fits { is_up self.old → (t : Tables) → rows self.old ≡ listed t → FitAll delta t }
         ensures ok { OnOk result (is_up self.new → (t : Tables) → rows self.old ≡ listed t
-            → rows self.new ≡ listed (all_changed delta.now t)) }
+            → rows self.new ≡ listed (all_changed delta t)) }
         ensures err { OnErr result (is_up self.new → rows self.new ≡ rows self.old) }
         ensures was { is_up self.new → is_up self.old }
         ensures cause { HasCause (failed self.old) (failed self.new) result };

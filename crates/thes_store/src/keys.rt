@@ -1,12 +1,13 @@
 //! Where the row of a key stands.
-ghost use Rattle.std.specs.Prelude.{◌≡◌, OnOk};
+ghost use Rattle.std.specs.Prelude.{◌≡◌, Some, true, IfOk, OnOk};
 ghost use Rattle.std.specs.BTreeMap.{get};
 ghost use Rattle.std.specs.Cmp.Lexicographic.{slice_cmp};
 ghost use Rattle.std.specs.Ordering.{nat_cmp};
-ghost use Rattle.thes_store.specs.Keys.{digest_of, LeadsTo, KeepsOtherKeys};
+ghost use Rattle.thes_store.specs.Keys.{digest_of, LeadsTo, KeepsNumbers, KeepsOtherKeys};
 
 use std::alloc::{AllocError, Global};
 use std::collections::BTreeMap;
+use std::collections::btree_map::Entry;
 use std::hash::{FoldHasher, Hasher};
 use thes_base::text::Key;
 
@@ -33,11 +34,8 @@ impl Keys {
         ensures keeps { KeepsOtherKeys key.now self.old self.new }
         ensures ok { OnOk result (LeadsTo self.new key.now place) }
     {
-        let number = digest(key);
-        if self.numbers.contains_key(&number) {
+        if !insert_number(&mut self.numbers, digest(key), place)? {
             self.rest.insert(key.try_clone(alloc)?, place)?;
-        } else {
-            self.numbers.insert(number, place)?;
         }
         Ok(())
     }
@@ -54,6 +52,24 @@ impl Keys {
         ensures { result ≡ get (slice_cmp nat_cmp) self.now.rest key.now }
     {
         self.rest.get(key).copied()
+    }
+}
+
+// Makes a number lead to a place, unless it leads to one. Tells whether it leads to this one now.
+fn insert_number(
+    numbers: &mut BTreeMap<u64, usize>,
+    number: u64,
+    place: usize,
+) -> Result<bool, AllocError>
+    ensures keeps { KeepsNumbers numbers.old numbers.new }
+    ensures ok { IfOk result (λ leads. leads ≡ true → get nat_cmp numbers.new number ≡ Some place) }
+{
+    match numbers.entry(number)? {
+        Entry::Occupied(_) => Ok(false),
+        Entry::Vacant(entry) => {
+            entry.insert(place);
+            Ok(true)
+        }
     }
 }
 

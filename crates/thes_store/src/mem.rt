@@ -20,7 +20,6 @@ use thes_base::data::{Move, Moves};
 use thes_base::fault::Fault;
 use thes_base::number::{PostNo, ResNo};
 use thes_base::text::{Base, Key};
-use thes_rows::change::Change;
 use thes_rows::delta::Delta;
 use thes_rows::rows::{MoveRow, PostingRow};
 
@@ -58,17 +57,6 @@ impl MemKeeper {
             indexes: Indexes::new(alloc),
         }
     }
-}
-
-// Copies changes.
-fn copies(alloc: Global, changes: &[Change]) -> Result<Vec<Change>, AllocError>
-    ensures { IfOk result (λ copies. copies.items ≡ changes.now) }
-{
-    let mut copies = Vec::new(alloc);
-    for change in changes {
-        copies.push(change.try_clone(alloc)?)?;
-    }
-    Ok(copies)
 }
 
 // The posting at a place.
@@ -202,9 +190,9 @@ impl Keeper for MemKeeper {
         hand_all(self.alloc, &self.tables, sink)
     }
 
-    fn commit(&mut self, delta: &Delta) -> Result<(), Fault> {
-        let given = delta.as_slice();
-        let changes = copies(self.alloc, given)?;
+    fn commit(&mut self, delta: Delta) -> Result<(), Fault> {
+        let changes = delta.into_changes();
+        let given = changes.as_slice();
         self.tables.make_room(given)?;
         let moves = self.tables.steps.len();
         cover_all(&mut self.indexes, self.alloc, given, moves)?;

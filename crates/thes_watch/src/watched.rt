@@ -87,7 +87,7 @@ impl<K: Keeper, P: Progress + Copy> Keeper for Watched<K, P> {
         result
     }
 
-    fn commit(&mut self, delta: &Delta) -> Result<(), Fault> {
+    fn commit(&mut self, delta: Delta) -> Result<(), Fault> {
         self.keeper.commit(delta)
     }
 
