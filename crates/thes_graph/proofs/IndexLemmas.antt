@@ -6,7 +6,7 @@ use Rattle.std.specs.List.Sorted.{IsStrictlySortedBy}
 use Rattle.std.specs.Ordering.{nat_cmp, is_eq}
 use Rattle.std.specs.Cmp.{IsTotalOrder}
 use Rattle.std.specs.declared.cmp.Ordering.{Ordering}
-use Rattle.std.specs.FinSet.{IsAntisymmetric, insert, remove, contains, items, from_list, len, contains-from_list, len-insert, len-empty}
+use Rattle.std.specs.FinSet.{FinSet, IsAntisymmetric, insert, remove, contains, items, from_list, len, contains-from_list, len-insert, len-empty}
 use Rattle.std.specs.BTreeMap.{is_at}
 use Rattle.std.specs.BTreeSet.{insert_key}
 use Rattle.std.specs.Set.{remove_key}
@@ -29,11 +29,14 @@ use Rattle.thes_lists.proofs.ListingLemmas.{insert_has, remove_apart, remove_kee
 use Rattle.thes_graph.specs.declared.side.Standing.{Standing}
 use Rattle.thes_graph.specs.Side.{standing_at, standing_cmp}
 use Rattle.thes_graph.specs.Reading.{EndsAt, IsRow}
-use Rattle.thes_graph.specs.Net.{ends_at, in_order, listed, arranged, standings_at, links_at}
+use Rattle.thes_graph.specs.Net.{Net, ends_at, in_order, listed, arranged, standings_at, links_at}
 use Rattle.thes_graph.specs.Whole.{AreAll}
 use Rattle.thes_graph.specs.Index.{IsIndexed}
 use Rattle.thes_graph.proofs.LinkOrderLemmas.{computed, computed_is, arranging, arranging_is, standings_total, standings_exact}
 use Rattle.thes_graph.proofs.SetLemmas.{same_links, held_from_list, listed_of_held, held_of_item, item_of_held, inserted_held, insert_keeps, remove_keeps as remove_keeps_link, removed_cases}
+
+abbrev net_of : Links → FinSet nat_cmp → Net
+net_of links outside = record { links = links; outside = outside }
 
 abbrev IsSorted : List Link → Type 0
 IsSorted = IsStrictlySortedBy link_cmp
@@ -380,3 +383,10 @@ module _ (ks : List Link) (outside : List ℕ) (old : Lists Standing) (index : I
 -- the keys are all the links of their set
 pub AreAll-keys : (ks : List Link) → AreAll (from_list {R = link_cmp} ks) ks
 AreAll-keys ks = record { sound = held_from_list ks; complete = listed_of_held ks }
+
+-- what is seen of a graph after a key was put in, whether or not it was there
+pub Net-added : (ks keys : List Link) (outside : FinSet nat_cmp) (net : Net) (l m : Link) → net_of (from_list ks) outside ≡ net → keys ≡ insert_key computed ks l → l ≡ m
+    → net_of (from_list keys) outside ≡ net_of (insert net.links m) net.outside
+Net-added ks keys outside net l m is put same =
+    ap (λ (links : Links). net_of links outside) (ap from_list (with_computed ks l keys put) ∙ from_list_with ks l ∙ ap (insert (from_list ks)) same)
+    ∙ ap (λ (seen : Net). net_of (insert seen.links m) seen.outside) is

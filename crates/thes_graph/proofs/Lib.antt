@@ -16,6 +16,7 @@ pub mod SetLemmas
 pub mod ContractLemmas
 pub mod LinkOrderLemmas
 mod IndexLemmas
+mod LookUpLemmas
 mod MarkLemmas
 pub mod ChangeLemmas
 mod MovedLemmas

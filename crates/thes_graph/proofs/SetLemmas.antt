@@ -1,11 +1,11 @@
 -- Sets of links by their members: what holds of any set, for links.
-use Rattle.std.proofs.Common.{◌≡◌, ◌≢◌, inl, inr, List, Bool, true, Contains, sym, subst}
+use Rattle.std.proofs.Common.{◌≡◌, ◌≢◌, List, Bool, true, Contains, subst}
 use Rattle.std.specs.Ordering.{eq_by_cmp}
 use Rattle.std.specs.Cmp.{Equal-is}
 use Rattle.std.specs.FinSet.{insert, remove, items, from_list, retain}
 use Rattle.thes_base.specs.declared.data.Link.{Link}
 use Rattle.thes_base.specs.Links.{Links, link_cmp, HeldIn}
-use Rattle.thes_base.proofs.LinkSets.{links_total, links_exact, link_inserted_cases}
+use Rattle.thes_base.proofs.LinkSets.{links_total, links_exact}
 use Rattle.thes_base.proofs.SetMembers as set
 
 pub tied : (x y : Link) → eq_by_cmp link_cmp x y ≡ true → x ≡ y
@@ -40,13 +40,6 @@ removed_cases = set.removed_cases links_total links_exact
 
 pub retain_keeps : (links : Links) (test : Link → Bool) (m : Link) → HeldIn links m → test m ≡ true → HeldIn (retain links test) m
 retain_keeps = set.retained_to links_total links_exact
-
--- an inserted link that was held changes nothing
-pub insert_again : (links : Links) (l : Link) → HeldIn links l → insert links l ≡ links
-insert_again links l held =
-    same_links (insert links l) links
-    (λ m is. elim (link_inserted_cases links l m is) [ inl same ↦ subst (HeldIn links) (sym same) held | inr old ↦ old ])
-    (λ m is. insert_keeps links l m is)
 
 pub remove_absent : (links : Links) (l : Link) → (HeldIn links l → ⊥) → remove links l ≡ links
 remove_absent links l absent =

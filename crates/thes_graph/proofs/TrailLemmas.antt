@@ -15,7 +15,7 @@ use Rattle.thes_graph.specs.Reading.{HaveTwoEnds, EndsAt, IsRow}
 use Rattle.thes_graph.specs.Side.{side_no, side_at, side_in, IsPart, IsWalked}
 use Rattle.thes_graph.specs.Sight.{node_after, becomes, WouldBe}
 use Rattle.thes_graph.specs.Steps.{way_of, step_along, Steps}
-use Rattle.thes_graph.specs.Trail.{seen, led, LeadsWithin, LeadsFrom, Finds, Stands, on}
+use Rattle.thes_graph.specs.Trail.{link_after, led, LeadsWithin, LeadsFrom, Finds, Stands, on}
 use Rattle.std.specs.Cmp.Derive.{both_true}
 use Rattle.std.proofs.lemmas.Bool.{or_left, or_right}
 use Rattle.std.proofs.lemmas.Bool.Decides.{Decides-eqb}
@@ -99,9 +99,9 @@ module _ (sight : Sight) (relation : Relation) (x : ℕ) (row : List Link) where
 -- what a node leads to after the edit, by the held links that stand at it, or at what becomes it
 
 some_led : (sight : Sight) (relation : Relation) (x y : ℕ) (l : Link) {P : Type 0} → led sight relation x l ≡ Some y
-    → ((m : Link) → seen sight l ≡ Some m → Leads (way_of relation m.kind) m.a m.b x y → P) → P
+    → ((m : Link) → link_after sight l ≡ Some m → Leads (way_of relation m.kind) m.a m.b x y → P) → P
 some_led sight relation x y l leads go =
-    option_and_then_some (λ m. step_along relation m x) (seen sight l) y leads
+    option_and_then_some (λ m. step_along relation m x) (link_after sight l) y leads
     (λ m is one. go m is (Leads-from_step (way_of relation m.kind) m.a m.b x y one))
 
 module _ (held : Links) (relation : Relation) where

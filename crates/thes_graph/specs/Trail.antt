@@ -18,14 +18,14 @@ use Rattle.thes_graph.specs.Steps.{Steps, step_along, Reaches, IsClosedBelow, Gr
 use Rattle.thes_graph.specs.declared.trail.Trail.{Trail}
 
 -- the held link after the edit
-abbrev pub seen : Sight → Link → Option Link
-seen AsHeld l = Some l
-seen (With new) l = Some l
-seen (Merged source target) l = becomes source target l
+abbrev pub link_after : Sight → Link → Option Link
+link_after AsHeld l = Some l
+link_after (With new) l = Some l
+link_after (Merged source target) l = becomes source target l
 
 -- what the held link leads to from x after the edit
 abbrev pub led : Sight → Relation → (x : ℕ) → Link → Option ℕ
-led sight relation x l = option_and_then (λ m. step_along relation m x) (seen sight l)
+led sight relation x l = option_and_then (λ m. step_along relation m x) (link_after sight l)
 
 -- a link at one of these places of the row leads from x to y after the edit
 abbrev pub LeadsWithin : Sight → Relation → (x : ℕ) → (row : List Link) → (from to y : ℕ) → Type 0

@@ -115,12 +115,24 @@ impl Graph {
         Part { from, to }
     }
 
+    // The end of the link at which fewer links stand.
+    fn emptier_end(&self, link: &Link) -> ResNo
+        ensures { EndsAt result link.now }
+    {
+        if self.at(link.b).len() < self.at(link.a).len() {
+            link.b
+        } else {
+            link.a
+        }
+    }
+
     // Whether the link is held as it is handed in.
     fn holds(&self, link: &Link) -> bool
         ensures holds { result ≡ contains self.now.links link.now }
         ensures two_ends { HaveTwoEnds (HeldIn self.now.links) }
     {
-        self.held.contains(link)
+        let end = self.emptier_end(link);
+        self.at(end).binary_search(&standing_of(link, end)).is_ok()
     }
 
     /// Tells whether the resource was marked as an outside concept.
@@ -226,14 +238,12 @@ impl Graph {
         ensures err { OnErr result (self.new ≡ self.old) }
     {
         let new = self.normal(link);
-        if self.holds(&new) {
-            return Ok(());
-        }
         self.rows.make_room(new.a)?;
         self.rows.make_room(new.b)?;
-        self.held.insert(new)?;
-        self.rows.insert(new.a, standing_of(&new, new.a));
-        self.rows.insert(new.b, standing_of(&new, new.b));
+        if self.held.insert(new)? {
+            self.rows.insert(new.a, standing_of(&new, new.a));
+            self.rows.insert(new.b, standing_of(&new, new.b));
+        }
         Ok(())
     }
 

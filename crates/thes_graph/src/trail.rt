@@ -7,7 +7,7 @@ ghost use Rattle.thes_graph.specs.Reading.{HaveTwoEnds, IsRow};
 ghost use Rattle.thes_graph.specs.Side.{IsWalked, IsPart, side_in};
 ghost use Rattle.thes_graph.specs.Steps.{Steps};
 ghost use Rattle.thes_graph.specs.Sight.{WouldBe, IsFit, CoversAt, LooksAsHeld};
-ghost use Rattle.thes_graph.specs.Trail.{seen, led, LeadsWithin, LeadsFrom, Finds, Stands, on, weight, IsHierarchy, IsTrail, GoesOn};
+ghost use Rattle.thes_graph.specs.Trail.{link_after, led, LeadsWithin, LeadsFrom, Finds, Stands, on, weight, IsHierarchy, IsTrail, GoesOn};
 
 use crate::links::Links;
 use crate::nodes::Nodes;
@@ -27,7 +27,7 @@ pub struct Trail {
 
 // The link after the edit.
 fn see(sight: &Sight, link: &Link) -> Option<Link>
-    ensures { result ≡ seen sight.now link.now }
+    ensures { result ≡ link_after sight.now link.now }
 {
     match sight {
         Sight::AsHeld => Some(*link),
