@@ -1,5 +1,6 @@
 pub mod ServeLemmas
 pub mod GrammarLemmas
+pub mod ObjectLemmas
 pub mod TreeLemmas
 pub mod MemberLemmas
 pub mod ReadingLemmas

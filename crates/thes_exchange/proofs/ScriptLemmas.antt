@@ -1,22 +1,21 @@
 -- A script, a line further.
-use Rattle.std.proofs.Common.{◌≡◌, ◌≢◌, ◌⊎◌, inl, inr, ◌∙◌, sym, ap, refl, subst, ℕ, ◌+◌, ◌<◌, ◌≤◌, ◌↔◌, List, [], ◌∷◌, ◌++◌, length, length-append, append-nil, Bool, true, false, Option, Some, None, Result, Err, arith}
+use Rattle.std.proofs.Common.{◌≡◌, ◌≢◌, ◌⊎◌, inl, inr, ◌∙◌, sym, ap, refl, subst, ℕ, ◌+◌, ◌<◌, ◌≤◌, ◌↔◌, List, [], ◌∷◌, ◌++◌, length, length-append, append-nil, take, Bool, true, false, Option, Some, None, Result, Err, arith}
 use Rattle.std.proofs.KnownBytes.{Appends-trans, Appends-nil, Consumes-trans, Consumes-nil, Consumes-kept, Keeps-refl}
 use Rattle.std.proofs.lemmas.Grind.{flat_map-append, fold-append}
 use Rattle.std.proofs.lemmas.List.Elements.{All-push, All-nil, All-head, All-tail}
 use Rattle.std.specs.List.{All}
 use Rattle.std.specs.Str.Lines.{lines}
 use Rattle.std.specs.Io.KnownBytes.{Consumes, IsAtEnd, prepend_known}
-use Rattle.thes_base.specs.Pipe.{failed_of, ended_of, denied_of, unread, written, reading_fault}
+use Rattle.thes_base.specs.Pipe.{failed_of, ended_of, denied_of, unread, written, reading_fault, AppendsFront}
 use Rattle.thes_base.specs.declared.fault.Fault.TheVariants.{OutOfMemory}
 use Rattle.thes_base.specs.declared.pipe.Stop.{Stop}
 use Rattle.thes_base.specs.declared.pipe.Stop.TheVariants as stops
 use Rattle.thes_base.specs.declared.fault.PipeFault.{PipeFault}
 use Rattle.thes_base.specs.declared.fault.PipeFault.TheVariants.{Read, Write, TooLong, Fault}
 use Rattle.thes_base.specs.declared.pipe.Pipe.{Pipe}
-use Rattle.thes_base.proofs.PipeLemmas.{appends_front_then}
 use Rattle.thes_exchange.specs.Feed.{left, line_bytes, line_content, line_limit, TakesLine, TakesPart, IsTooLong, FindsEnd}
 use Rattle.thes_exchange.specs.Serving.{Serving}
-use Rattle.thes_exchange.specs.Script.{Fate, StepLine, RunLines, AreAllowed, lines_limit, EndsLine, whole_lines, ServesLines, outcome_of, text_told, script_text, noted, ended_with, nothing_noted, Scene, scene, IsBeyond, IsCause, Completes, Stops}
+use Rattle.thes_exchange.specs.Script.{Fate, StepLine, RunLines, AreAllowed, lines_limit, EndsLine, whole_lines, ServesLines, outcome_of, text_told, script_text, noted, ended_with, nothing_noted, Scene, scene, BreaksOff, IsBeyond, IsCause, Completes, Stops}
 use Rattle.thes_exchange.specs.Served.{ServesLine, StopsAfter, StopsAtLine, Served}
 use Rattle.thes_exchange.specs.declared.script.Ended.{Ended}
 use Rattle.thes_exchange.proofs.LineLemmas.{lines-more, whole_lines-more, line_whole, ends_again}
@@ -136,7 +135,7 @@ module _ {R W S : Type 0} (remaining : R → Option (List ℕ)) (contents : W �
     served_all e r w o = served_end reader held (Keeps-refl (left remaining held reader), s.last e, e) r w o
 
     -- it stopped between two lines
-    pub served_stopped : (reader' : Pipe R) (fault : PipeFault) → ended_of reader ≡ false → IsCause remaining contents serves is_open old (scene reader' writer desk) fault s.bytes (left remaining held reader) (script_text s.fates)
+    pub served_stopped : (reader' : Pipe R) (fault : PipeFault) → ended_of reader ≡ false → IsCause remaining contents serves is_open old (scene reader' writer desk) fault s.bytes (left remaining held reader) s.fates
         → ((fault ≡ Read) ↔ (failed_of reader' ≡ true)) → ((fault ≡ Write) ↔ (failed_of writer ≡ true)) → Stops remaining contents serves is_open old (scene reader' writer desk) fault
     served_stopped reader' fault goes cause r w = record {
       served = s.bytes;
@@ -162,7 +161,7 @@ module _ {R W S : Type 0} (remaining : R → Option (List ℕ)) (contents : W �
           whole = by_end (ended_of reader') (ends_again s.bytes raw (ended_of reader')) (λ t. let l = k.last t in l.1);
           fates = s.fates ++ v.fate ∷ [];
           lines = lines_served v.fate s.lines whole (omega (arith, c, few)) k v.step;
-          cause = rw (text_more s.fates v.fate) (after fault v.cause);
+          cause = after fault v.cause;
           read = never_read fault v.cause;
           wrote = wrote_only fault v.cause;
         }
@@ -172,12 +171,22 @@ module _ {R W S : Type 0} (remaining : R → Option (List ℕ)) (contents : W �
         by_end true f g = inr (g refl, refl)
         by_end false f g = inl (f refl)
 
+        breaks_off : AppendsFront (written contents writer) (written contents writer') (text_told (outcome_of v.fate)) → BreaksOff remaining contents serves is_open old (scene reader' writer' desk') (s.fates ++ v.fate ∷ [])
+        breaks_off f = record {
+          before = s.fates;
+          last = v.fate;
+          all = refl;
+          count = f.count;
+          within = f.within;
+          text = Appends-trans (written contents old.writer) (written contents writer) (written contents writer') (script_text s.fates) (take f.count (text_told (outcome_of v.fate))) s.text f.front;
+        }
+
         after : (fault : PipeFault) → StopsAfter contents serves is_open (line_content raw (ended_of reader')) desk desk' writer writer' fault (text_told (outcome_of v.fate))
-            → IsCause remaining contents serves is_open old (scene reader' writer' desk') fault (s.bytes ++ line_bytes raw (ended_of reader')) (left remaining held' reader') (script_text s.fates ++ text_told (outcome_of v.fate))
+            → IsCause remaining contents serves is_open old (scene reader' writer' desk') fault (s.bytes ++ line_bytes raw (ended_of reader')) (left remaining held' reader') (s.fates ++ v.fate ∷ [])
         after Read h = absurd h
-        after Write h = appends_front_then (written contents old.writer) (written contents writer) (written contents writer') (script_text s.fates) (text_told (outcome_of v.fate)) s.text h.0
-        after TooLong h = inl (appends_front_then (written contents old.writer) (written contents writer) (written contents writer') (script_text s.fates) (text_told (outcome_of v.fate)) s.text h.0, h.2)
-        after (Fault f) h = (Appends-trans (written contents old.writer) (written contents writer) (written contents writer') (script_text s.fates) (text_told (outcome_of v.fate)) s.text h.0, h.2, inr h.3)
+        after Write h = breaks_off h.0
+        after TooLong h = inl (breaks_off h.0, h.2)
+        after (Fault f) h = (rw (text_more s.fates v.fate) (Appends-trans (written contents old.writer) (written contents writer) (written contents writer') (script_text s.fates) (text_told (outcome_of v.fate)) s.text h.0), h.2, inr h.3)
 
         never_read : (fault : PipeFault) → StopsAfter contents serves is_open (line_content raw (ended_of reader')) desk desk' writer writer' fault (text_told (outcome_of v.fate)) → (fault ≡ Read) ↔ (failed_of reader' ≡ true)
         never_read Read h = absurd h
@@ -192,7 +201,7 @@ module _ {R W S : Type 0} (remaining : R → Option (List ℕ)) (contents : W �
         wrote_only (Fault g) h = (λ e. cc, λ e. let f = h.1 in cc)
 
     -- the reader broke off within a line
-    pub is_broken : (reader' : Pipe R) → TakesPart (left remaining held reader) (unread remaining reader') → IsCause remaining contents serves is_open old (scene reader' writer desk) Read s.bytes (left remaining held reader) (script_text s.fates)
+    pub is_broken : (reader' : Pipe R) → TakesPart (left remaining held reader) (unread remaining reader') → IsCause remaining contents serves is_open old (scene reader' writer desk) Read s.bytes (left remaining held reader) s.fates
     is_broken reader' p = (s.text, p.raw, Consumes-trans (unread remaining old.reader) (left remaining held reader) (unread remaining reader') s.bytes p.raw s.taken p.bytes, p.one)
 
     -- the next line is too long

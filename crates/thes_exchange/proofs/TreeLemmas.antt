@@ -1,16 +1,15 @@
 -- A value level by level, and the tree's rows beside the grammar's.
-use Rattle.std.proofs.Common.{◌≡◌, ℕ, suc, List, [], ◌∷◌, ◌++◌, length, Option, Some, None, option_map, Vec, BTreeMap, Global, Ordering, Less, Equal, Greater, nat_cmp, is_eq, cond, Bor, refl, ap, ◌∙◌, rules}
-use Rattle.std.specs.BTreeMap.{insert_entry, is_at}
-use Rattle.std.specs.Cmp.Lexicographic.{slice_cmp}
-use Rattle.std.specs.Map.{lookup}
-use Rattle.std.specs.Ordering.{match_ordering}
+use Rattle.std.proofs.Common.{◌≡◌, ℕ, ◌+◌, ◌<◌, ◌≤◌, List, [], ◌∷◌, ◌++◌, Bool, length, map, take, drop, slice_index_or, Option, Some, None, option_map, is_none, Vec, Global, Bor, cond, bytes_eq, refl, sym, ap, ◌∙◌, subst, add-one, rules}
+use Rattle.std.proofs.lemmas.List.{map-append, take-append-drop, take_more}
+use Rattle.std.proofs.lemmas.List.Sums.{fold-append}
 use Rattle.json.specs.Token.{Token}
 use Rattle.json.specs.Json.{parse_map}
-use Rattle.serde_json.specs.Data.{Data, array, object, Items, no_items, item, put}
+use Rattle.serde_json.specs.Data.{array, object, Items, no_items, item, no_members, put}
 use Rattle.serde_json.specs.Events.{members_len}
 use Rattle.serde_json.specs.Find.{get_member}
 use Rattle.thes_exchange.specs.Tree.{view, items_view, members_view}
 use Rattle.thes_exchange.specs.declared.tree.Value.{Value, Array, Object, the_lemmas}
+use Rattle.thes_exchange.proofs.ObjectLemmas.{put_all, found_after, Ordered, Ordered-put_all, with_one, members_len-put, members_len-put_all}
 
 abbrev pub Entry : Type 0
 Entry = Bor (List ℕ) × Value
@@ -18,39 +17,51 @@ Entry = Bor (List ℕ) × Value
 pub view-Array : (v : Vec Value Global) → view (Array v) ≡ array (items_view v.items)
 view-Array v = search (rules, the_lemmas)
 
-pub view-Object : (m : BTreeMap (Bor (List ℕ)) Value) → view (Object m) ≡ object (members_view m.entries)
+pub view-Object : (m : Vec Entry Global) → view (Object m) ≡ object (members_view m.items)
 view-Object m = search (rules, the_lemmas)
 
--- ---- the names of an object
+-- ---- the members of an object
 
-abbrev pub name_cmp : Bor (List ℕ) → Bor (List ℕ) → Ordering
-name_cmp a b = slice_cmp nat_cmp a.now b.now
+pub members_view-append : (es fs : List Entry) → members_view (es ++ fs) ≡ put_all (members_view es) (map (λ m. (m.0, view m.1)) fs)
+members_view-append es fs =
+    ap (put_all no_members) (map-append (λ m. (m.0, view m.1)) es fs) ∙ fold-append (λ found m. put m.0.now m.1 found) no_members (map (λ m. (m.0, view m.1)) es) (map (λ m. (m.0, view m.1)) fs)
 
-members_view-match_ordering : (o : Ordering) (a b c : List Entry) → members_view (match_ordering o a b c) ≡ match_ordering o (members_view a) (members_view b) (members_view c)
-members_view-match_ordering Less a b c = refl
-members_view-match_ordering Equal a b c = refl
-members_view-match_ordering Greater a b c = refl
+pub members_view-push : (es : List Entry) (e : Entry) → members_view (es ++ e ∷ []) ≡ put e.0.now (view e.1) (members_view es)
+members_view-push es e = members_view-append es (e ∷ [])
 
-pub members_view-insert_entry : (es : List Entry) (k : Bor (List ℕ)) (v : Value) → members_view (insert_entry name_cmp es k v) ≡ put k.now (view v) (members_view es)
-members_view-insert_entry [] k v = refl
-members_view-insert_entry (e ∷ es) k v = members_view-match_ordering (name_cmp k e.0) _ _ _ ∙ rw (members_view-insert_entry es k v)
+get_member-push : (name : List ℕ) (es : List Entry) (e : Entry) → get_member name (members_view (es ++ e ∷ [])) ≡ cond (bytes_eq name e.0.now) (Some (view e.1)) (get_member name (members_view es))
+get_member-push name es e = ap (get_member name) (members_view-push es e) ∙ found_after name e.0.now (view e.1) (members_view es)
 
-found_or : (o : Ordering) (v : Value) (rest : Option Value) (d : Option Data) → option_map view rest ≡ d → option_map view (cond (is_eq o) (Some v) rest) ≡ match_ordering o d (Some (view v)) d
-found_or Less v rest d e = e
-found_or Equal v rest d e = refl
-found_or Greater v rest d e = e
+-- the last of the first members counts if it has the name, and else those before it
+pub get_member-take : (name : List ℕ) (es : List Entry) (k i : ℕ) (e : Entry) (b : Bool) → k ≡ i + 1 → i < length es → e ≡ slice_index_or es i e → bytes_eq name e.0.now ≡ b
+    → get_member name (members_view (take k es)) ≡ cond b (Some (view e.1)) (get_member name (members_view (take i es)))
+get_member-take name es k i e b next h is same =
+    let front : take k es ≡ take i es ++ e ∷ [] = ap (λ j. take j es) next ∙ take_more es i e h ∙ ap (λ y. take i es ++ y ∷ []) (sym is) in
+    let before = get_member name (members_view (take i es)) in
+    ap (λ fs. get_member name (members_view fs)) front ∙ get_member-push name (take i es) e ∙ ap (λ t. cond t (Some (view e.1)) before) same
 
-pub view-lookup : (name : List ℕ) (es : List Entry) → option_map view (lookup (is_at (λ k. slice_cmp nat_cmp name k.now)) es) ≡ get_member name (members_view es)
-view-lookup name [] = refl
-view-lookup name (e ∷ es) = found_or (slice_cmp nat_cmp name e.0.now) e.1 _ _ (view-lookup name es)
+Ordered-members_view : (es : List Entry) → Ordered (members_view es)
+Ordered-members_view es = Ordered-put_all no_members (map (λ m. (m.0, view m.1)) es) tt
 
-pub view_of_ref : (r : Option (Bor Value)) → option_map (λ x. view x.now) r ≡ option_map view (option_map (λ x. x.now) r)
-view_of_ref None = refl
-view_of_ref (Some x) = refl
+counted : (r : Option (Bor Value)) (n : ℕ) → with_one (option_map (λ v. view v.now) r) n ≡ cond (is_none r) (n + 1) n
+counted None n = sym (add-one n)
+counted (Some v) n = refl
 
-pub members_len-members_view : (es : List Entry) → members_len (members_view es) ≡ length es
-members_len-members_view [] = refl
-members_len-members_view (e ∷ es) = ap suc (members_len-members_view es)
+module _ (xs : List Entry) (i : ℕ) where
+  -- the names up to the next member, which was looked for among those before it
+  pub names_next : (d : Entry) (r : Option (Bor Value)) → i < length xs → option_map (λ v. view v.now) r ≡ get_member (slice_index_or xs i d).0.now (members_view (take i xs))
+      → members_len (members_view (take (i + 1) xs)) ≡ cond (is_none r) (members_len (members_view (take i xs)) + 1) (members_len (members_view (take i xs)))
+  names_next d r h e =
+      let before = members_view (take i xs) in
+      let m = slice_index_or xs i d in
+      ap (λ es. members_len (members_view es)) (take_more xs i d h) ∙ ap members_len (members_view-push (take i xs) m) ∙ members_len-put m.0.now (view m.1) before (Ordered-members_view (take i xs))
+      ∙ ap (λ o. with_one o (members_len before)) (sym e) ∙ counted r (members_len before)
+
+  pub names_so_far : members_len (members_view (take i xs)) ≤ members_len (members_view xs)
+  names_so_far =
+      let all = members_view-append (take i xs) (drop i xs) in
+      subst (λ es. members_len (members_view (take i xs)) ≤ members_len (members_view es)) (take-append-drop i xs)
+      (rw all (members_len-put_all (members_view (take i xs)) (map (λ m. (m.0, view m.1)) (drop i xs)) (Ordered-members_view (take i xs))))
 
 -- ---- a list that grows at its end
 

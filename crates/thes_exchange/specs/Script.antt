@@ -1,9 +1,9 @@
 -- Scripts: a request on each line, answered by a line before the next is read.
-use Rattle.std.specs.Prelude.{◌≡◌, ◌⊎◌, ◌≤◌, ◌↔◌, ℕ, ◌==◌, ◌||◌, Bool, true, false, if◌then◌else◌, List, [], ◌∷◌, ◌++◌, length, flat_map, fold, Option, Some, None}
+use Rattle.std.specs.Prelude.{◌≡◌, ◌⊎◌, ◌≤◌, ◌↔◌, ℕ, ◌==◌, ◌||◌, Bool, true, false, if◌then◌else◌, List, [], ◌∷◌, ◌++◌, length, take, flat_map, fold, Option, Some, None}
 use Rattle.std.specs.List.{list_all, slice_split, All}
 use Rattle.std.specs.Str.Lines.{lines}
 use Rattle.std.specs.Io.KnownBytes.{Appends, Consumes, IsAtEnd}
-use Rattle.thes_base.specs.Pipe.{failed_of, ended_of, denied_of, unread, written, AppendsFront}
+use Rattle.thes_base.specs.Pipe.{failed_of, ended_of, denied_of, unread, written}
 use Rattle.thes_base.specs.declared.fault.Fault.TheVariants.{OutOfMemory}
 use Rattle.thes_base.specs.declared.fault.PipeFault.{PipeFault}
 use Rattle.thes_base.specs.declared.fault.PipeFault.TheVariants.{Read, Write, TooLong, Fault}
@@ -131,10 +131,6 @@ module _ {R W S : Type 0} (remaining : R → Option (List ℕ)) (contents : W �
   abbrev pub Writes : List ℕ → Type 0
   Writes text = Appends (written contents old.writer) (written contents new.writer) text
 
-  -- a front of this was written
-  abbrev pub WritesFront : List ℕ → Type 0
-  WritesFront text = AppendsFront (written contents old.writer) (written contents new.writer) text
-
   -- these bytes were read
   abbrev pub Takes : List ℕ → Type 0
   Takes bytes = Consumes (unread remaining old.reader) (unread remaining new.reader) bytes
@@ -152,20 +148,29 @@ module _ {R W S : Type 0} (remaining : R → Option (List ℕ)) (contents : W �
     pub text : Writes (script_text fates)
     pub noted : ended ≡ ended_with fates
 
+  -- The answers to all lines but the last were written, and of its answer a front.
+  pub record BreaksOff (fates : List Fate) : Type 0 where
+    pub before : List Fate
+    pub last : Fate
+    pub all : fates ≡ before ++ last ∷ []
+    pub count : ℕ
+    pub within : count ≤ length (text_told (outcome_of last))
+    pub text : Writes (script_text before ++ take count (text_told (outcome_of last)))
+
   -- Why no line is answered after these, and what was written of their answers.
   --   The reader broke off: just the lines that it gave with their newlines were answered.
-  --   The writer failed, or was denied a write: a front of the answers was written.
+  --   The writer failed, or was denied a write: it broke off at the answer to the last of these lines.
   --   The next line is beyond the limits, or the reader was denied a read.
   --   There is no memory: none to begin with, or the desk was closed by the last line.
-  abbrev pub IsCause : PipeFault → List ℕ → Option (List ℕ) → List ℕ → Type 0
-  IsCause Read served rest text =
-      Writes text × (part : List ℕ) × Takes (served ++ part) × (has_newline part ≡ false)
-  IsCause Write served rest text = WritesFront text
-  IsCause TooLong served rest text =
-      (WritesFront text × (denied_of new.writer ≡ true))
-      ⊎ (Writes text × ((denied_of new.reader ≡ true) ⊎ IsBeyond served rest))
-  IsCause (Fault f) served rest text =
-      Writes text × (f ≡ OutOfMemory) × ((served ≡ []) ⊎ (is_open new.desk ≡ false))
+  abbrev pub IsCause : PipeFault → List ℕ → Option (List ℕ) → List Fate → Type 0
+  IsCause Read served rest fates =
+      Writes (script_text fates) × (part : List ℕ) × Takes (served ++ part) × (has_newline part ≡ false)
+  IsCause Write served rest fates = BreaksOff fates
+  IsCause TooLong served rest fates =
+      (BreaksOff fates × (denied_of new.writer ≡ true))
+      ⊎ (Writes (script_text fates) × ((denied_of new.reader ≡ true) ⊎ IsBeyond served rest))
+  IsCause (Fault f) served rest fates =
+      Writes (script_text fates) × (f ≡ OutOfMemory) × ((served ≡ []) ⊎ (is_open new.desk ≡ false))
 
   -- The lines of these bytes were served, which are the first that the reader had, and then it stopped.
   pub record Stops (fault : PipeFault) : Type 0 where
@@ -175,6 +180,6 @@ module _ {R W S : Type 0} (remaining : R → Option (List ℕ)) (contents : W �
     pub whole : EndsLine served ⊎ (IsAtEnd rest × (ended_of new.reader ≡ true))
     pub fates : List Fate
     pub lines : ServesLines serves served fates old.desk new.desk
-    pub cause : IsCause fault served rest (script_text fates)
+    pub cause : IsCause fault served rest fates
     pub read : (fault ≡ Read) ↔ (failed_of new.reader ≡ true)
     pub wrote : (fault ≡ Write) ↔ (failed_of new.writer ≡ true)

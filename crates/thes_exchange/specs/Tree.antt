@@ -1,14 +1,14 @@
 -- The data that a value of a line stands for.
-use Rattle.std.specs.Prelude.{ℕ, List, [], ◌∷◌, map}
+use Rattle.std.specs.Prelude.{ℕ, List, map, fold}
 use Rattle.std.specs.Borrow.{Bor}
-use Rattle.serde_json.specs.Data.{Data, null, boolean, number, string, array, object, Items, Members, no_members, member}
+use Rattle.serde_json.specs.Data.{Data, null, boolean, number, string, array, object, Items, Members, no_members, put}
 use Rattle.serde_json.specs.View.{number_view, items_of}
 use Rattle.thes_exchange.specs.declared.tree.Value.{Value, fold-Value}
 use Rattle.thes_exchange.specs.declared.tree.Value.TheOpen.{Value-F}
 
+-- the members go in one after another, so the last value of a name stays
 abbrev pub members_of : List (Bor (List ℕ) × Data) → Members
-members_of [] = no_members
-members_of (m ∷ ms) = member m.0.now m.1 (members_of ms)
+members_of = fold (λ found m. put m.0.now m.1 found) no_members
 
 -- one level, with each value inside already seen as its data
 abbrev pub view_step : Value-F Data → Data
@@ -17,7 +17,7 @@ view_step (Value-F.Truth b) = boolean b
 view_step (Value-F.Number n) = number (number_view n)
 view_step (Value-F.Text s) = string s.now
 view_step (Value-F.Array v) = array (items_of v.items)
-view_step (Value-F.Object m) = object (members_of m.entries)
+view_step (Value-F.Object v) = object (members_of v.items)
 
 abbrev pub view : Value → Data
 view = fold-Value Data view_step

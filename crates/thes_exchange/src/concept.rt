@@ -14,8 +14,8 @@ use thes_base::fault::Refusal;
 use thes_base::number::ResNo;
 use thes_core::Core;
 
-/// Returns the concept of a number, live or dead, or what refuses that there is one.
-pub fn concept_at<'a>(core: &'a Core, number: ResNo) -> Result<&'a Resource, Refusal>
+// The concept of a number, live or dead, or what refuses that there is one.
+fn concept_at<'a>(core: &'a Core, number: ResNo) -> Result<&'a Resource, Refusal>
     requires { core.now.spent ≡ false }
     ensures judges { (s : State) → Holds core.now s → MatchResult result
         (λ resource. unless_concept s number None)

@@ -22,9 +22,10 @@ pub fn has_members(count: usize, value: &Value<'_>) -> Result<(), ReadStop>
     ensures err { IfErr result (λ e. (e ≡ BAD_SHAPE)
         × (has_count count (as_object (view value.now)) ≡ false)) }
 {
-    match value.member_count() {
-        Some(held) if held == count => Ok(()),
-        _ => Err(BAD_SHAPE),
+    if value.has_count(count) {
+        Ok(())
+    } else {
+        Err(BAD_SHAPE)
     }
 }
 

@@ -1,18 +1,17 @@
 //! A line's JSON as a tree. Its texts stand in the line or, where they had escapes, in the scratch, so none is copied.
 ghost use Rattle.std.specs.Prelude.{◌≡◌, ◌<◌, ◌⊎◌, length, option_map, Some, None, IfOk, IfErr, OnOk};
 ghost use Rattle.json.specs.Json.{items, members, read_key, value};
-ghost use Rattle.serde_json.specs.Data.{no_members};
-ghost use Rattle.serde_json.specs.Events.{members_len};
+ghost use Rattle.serde_json.specs.Data.{no_members, put};
 ghost use Rattle.serde_json.specs.Find.{get, as_array, as_bool, as_number, as_object, as_str, get_member};
 ghost use Rattle.serde_json.specs.Read.{converted, of_items, of_json, of_members, read as read_text};
 ghost use Rattle.serde_json.specs.View.{number_view};
+ghost use Rattle.thes_exchange.specs.Members.{has_count};
 ghost use Rattle.thes_exchange.specs.Tree.{view, items_view, members_view};
 
 use crate::numeral::number_of;
 use json::{Reader, Scratch, Token};
 use serde_json::Number;
 use std::alloc::{AllocError, Global};
-use std::collections::BTreeMap;
 use thes_base::fault::{FormFault, ReadStop};
 
 /// The fault of what is no JSON.
@@ -20,7 +19,10 @@ pub const NOT_JSON: ReadStop = ReadStop::Form(FormFault::NotJson);
 
 const MAX_DEPTH: usize = 127;
 
-/// A JSON value. An object has each name once, with its last value.
+// As many members as a request has at most.
+const USUAL_MEMBERS: usize = 5;
+
+/// A JSON value. An object has its members in the order of the text, and the last value of a name counts.
 #[derive(Drop)]
 pub enum Value<'a> {
     Null,
@@ -28,7 +30,7 @@ pub enum Value<'a> {
     Number(Number),
     Text(&'a str),
     Array(Vec<Value<'a>>),
-    Object(BTreeMap<&'a str, Value<'a>>),
+    Object(Vec<(&'a str, Value<'a>)>),
 }
 
 impl<'a> Value<'a> {
@@ -60,13 +62,13 @@ impl<'a> Value<'a> {
         }
     }
 
-    /// Counts its members, if it is an object.
-    pub fn member_count(&self) -> Option<usize>
-        ensures { result ≡ option_map members_len (as_object (view self.now)) }
+    /// Tells whether it is an object with exactly this many names.
+    pub fn has_count(&self, count: usize) -> bool
+        ensures { result ≡ has_count count (as_object (view self.now)) }
     {
         match self {
-            Value::Object(members) => Some(members.len()),
-            _ => None,
+            Value::Object(members) => has_names(members, count),
+            _ => false,
         }
     }
 
@@ -111,11 +113,53 @@ impl<'a> Value<'a> {
     }
 }
 
-fn member<'v, 'a>(members: &'v BTreeMap<&'a str, Value<'a>>, name: &str) -> Option<&'v Value<'a>>
+// The last member with this name.
+fn member<'v, 'a>(members: &'v [(&'a str, Value<'a>)], name: &str) -> Option<&'v Value<'a>>
     ensures { option_map (λ v. view v.now) result
-        ≡ get_member name.now (members_view members.now.entries) }
+        ≡ get_member name.now (members_view members.now) }
 {
-    members.get(name)
+    let mut left = members.len();
+    while left > 0 {
+        left -= 1;
+        let member = &members[left];
+        if name == member.0 {
+            return Some(&member.1);
+        }
+    }
+    None
+}
+
+// Whether the members have exactly so many names. A name counts at its first member: there the way back finds no other.
+// For a given count the steps are linear: the ways back from one member to the last with its name add up to the length at
+// most for each name, and one name too many ends the walk.
+fn has_names<'a>(members: &[(&'a str, Value<'a>)], count: usize) -> bool
+    ensures { result ≡ has_count count (Some (members_view members.now)) }
+{
+    let mut names = 0;
+    for index in 0..members.len() {
+        if member(&members[..index], members[index].0).is_none() {
+            if names == count {
+                return false;
+            }
+            names += 1;
+        }
+    }
+    names == count
+}
+
+// Puts a member behind the others. The first makes room for all of a request, so that one allocation serves.
+fn push_member<'a>(
+    members: &mut Vec<(&'a str, Value<'a>)>,
+    name: &'a str,
+    value: Value<'a>,
+) -> Result<(), AllocError>
+    ensures { OnOk result (members_view members.new.items
+        ≡ put name.now (view value.entry) (members_view members.old.items)) }
+{
+    if members.is_empty() {
+        members.reserve(USUAL_MEMBERS)?;
+    }
+    members.push((name, value)).map_err(AllocError::from)
 }
 
 // The next value of the reader. Arrays and objects may nest so deep.
@@ -184,20 +228,20 @@ fn read_members<'a>(
     alloc: Global,
     reader: &mut Reader<'a>,
     depth: usize,
-) -> Result<BTreeMap<&'a str, Value<'a>>, ReadStop>
+) -> Result<Vec<(&'a str, Value<'a>)>, ReadStop>
     ensures ok { IfOk result
         (λ m. converted (λ ms. of_members ms no_members)
         (members (value depth) (length reader.old) reader.old)
-        ≡ Some (members_view m.entries, reader.new)) }
+        ≡ Some (members_view m.items, reader.new)) }
     ensures shorter { OnOk result (length reader.new < length reader.old) }
     ensures err { result ≡ Err NOT_JSON → converted (λ ms. of_members ms no_members)
         (members (value depth) (length reader.old) reader.old) ≡ None }
     ensures stop { IfErr result (λ e. (e ≡ ReadStop.OutOfMemory) ⊎ (e ≡ NOT_JSON)) }
 {
-    let mut found = BTreeMap::new(alloc);
+    let mut found = Vec::new(alloc);
     'members: while let Some(name) = next_name(reader)? {
         let member = read(alloc, reader, depth)?;
-        drop(found.insert(name, member).map_err(AllocError::from)?);
+        push_member(&mut found, name, member)?;
     }
     Ok(found)
 }

@@ -391,8 +391,8 @@ fn posting_line(alloc: Global, history: &History) -> Result<Vec<u8>, AllocError>
     value_line(alloc, &posting_value(alloc, history)?)
 }
 
-/// Makes the line of a view.
-pub fn view_line(alloc: Global, view: &View) -> Result<Vec<u8>, AllocError>
+// The line of a view.
+pub(crate) fn view_line(alloc: Global, view: &View) -> Result<Vec<u8>, AllocError>
     ensures { IfOk result (λ text. text.items ≡ view_text view.now) }
 {
     match view {

@@ -1,5 +1,4 @@
 use Rattle.std.proofs.Common.{◌≡◌, ◌-◌, ◌<◌, [], ◌∷◌, ◌++◌, length, Some, None, sym, ap, ap₂, ◌∙◌, arith, rules}
-use Rattle.std.specs.BTreeMap.{insert_entry}
 use Rattle.json.specs.Token.{Token}
 use Rattle.json.specs.Json.{parse_map, after_end_array, read_key, items, members, value}
 use Rattle.json.specs.Reads.{token_of}
@@ -9,7 +8,7 @@ use Rattle.serde_json.specs.Read.{of_json, of_items, of_members, converted}
 use Rattle.serde_json.specs.View.{number_view}
 use Rattle.thes_exchange.specs.Tree.{view, members_view}
 use Rattle.thes_exchange.specs.declared.tree.Value.{Text, Number, Truth, Null, the_lemmas}
-use Rattle.thes_exchange.proofs.TreeLemmas.{name_cmp, view-Array, view-Object, members_view-insert_entry, items_before, items_before-no_items, one_more_item, none_before}
+use Rattle.thes_exchange.proofs.TreeLemmas.{view-Array, view-Object, items_before, items_before-no_items, one_more_item, none_before}
 use Rattle.thes_exchange.proofs.GrammarLemmas.{converted-array, converted-object, item_read, item_refused, items_over, member_read, member_refused, key_refused, members_over}
 use Rattle.thes_exchange.proofs.tree.+read.Goals as goal
 
@@ -141,14 +140,14 @@ read_items-returns-clause-ok t c =
 pub read_members-members-init : goal.read_members-members-init
 read_members-members-init t c =
     let all = members (value c.args.depth) (length c.args.reader.now) c.args.reader.now in
-    (length c.args.reader.now, omega arith, ap (λ es. converted (λ ms. of_members ms (members_view es)) all) (sym c.new-found.ensures.empty), omega arith)
+    (length c.args.reader.now, omega arith, ap (λ es. converted (λ ms. of_members ms (members_view es)) all) (sym c.new-found.ensures.items), omega arith)
 
 pub read_members-returns-in_err-name-clause-err : goal.read_members-returns-in_err-name-clause-err
 read_members-returns-in_err-name-clause-err t c refused =
     let p = value c.args.depth in
     let l = c.members in
     let n = l.invariant.0 in
-    let old = members_view l.found.entries in
+    let old = members_view l.found.items in
     l.invariant.2 ∙ key_refused p old n l.reader (c.in_err-name.ensures.err.1)
 
 pub read_members-returns-in_err-member-clause-err : goal.read_members-returns-in_err-member-clause-err
@@ -156,14 +155,14 @@ read_members-returns-in_err-member-clause-err t c refused =
     let l = c.members in
     let s = c.next_name.new.reader in
     let named : read_key l.reader ≡ Some (Some c.in-Some.name.now, s) = grind arith in
-    l.invariant.2 ∙ member_refused (value c.args.depth) (members_view l.found.entries) l.invariant.0 c.in-Some.name.now l.reader s named (c.read.ensures.err (grind arith))
+    l.invariant.2 ∙ member_refused (value c.args.depth) (members_view l.found.items) l.invariant.0 c.in-Some.name.now l.reader s named (c.read.ensures.err (grind arith))
 
 pub read_members-members-preserved : goal.read_members-members-preserved
 read_members-members-preserved t c =
     let p = value c.args.depth in
     let l = c.members in
     let n = l.invariant.0 in
-    let old = members_view l.found.entries in
+    let old = members_view l.found.items in
     let k = c.in-Some.name.now in
     let s = c.next_name.new.reader in
     let named : read_key l.reader ≡ Some (Some k, s) = grind arith in
@@ -172,13 +171,11 @@ read_members-members-preserved t c =
     let r = c.read.new.reader in
     let less = read_key-shorter l.reader (Some k) s named in
     let lesser = done.shorter in
-    let put_in : c.insert.new.self.entries ≡ insert_entry name_cmp l.found.entries c.in-Some.name v = search rules in
-    let inserted : members_view c.insert.new.self.entries ≡ put k (view v) old =
-    ap members_view put_in ∙ members_view-insert_entry l.found.entries c.in-Some.name v in (
+    let pushed : members_view c.push_member.new.members.items ≡ put k (view v) old = search rules in (
       n - 1,
       omega (arith, l.invariant.1),
       l.invariant.2 ∙ member_read p old n k l.reader s r (view v) (omega (arith, l.invariant.1)) named done.ok
-          ∙ ap (λ found. converted (λ ms. of_members ms found) (members p (n - 1) r)) (sym inserted),
+          ∙ ap (λ found. converted (λ ms. of_members ms found) (members p (n - 1) r)) (sym pushed),
       omega (arith, l.invariant.3),
     )
 
@@ -187,5 +184,5 @@ read_members-returns-clause-ok t c =
     let p = value c.args.depth in
     let l = c.members in
     let n = l.invariant.0 in
-    let old = members_view l.found.entries in
+    let old = members_view l.found.items in
     l.invariant.2 ∙ members_over p old n l.reader c.next_name.new.reader l.invariant.1 (grind arith)

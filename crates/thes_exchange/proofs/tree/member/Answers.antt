@@ -1,7 +1,17 @@
-use Rattle.std.proofs.Common.{option_map, ap, ◌∙◌}
-use Rattle.thes_exchange.specs.Tree.{view}
-use Rattle.thes_exchange.proofs.TreeLemmas.{view_of_ref, view-lookup}
+use Rattle.std.proofs.Common.{◌≡◌, ◌-◌, true, false, sym, ◌∙◌, bytes_eq, arith}
+use Rattle.thes_exchange.proofs.TreeLemmas.{get_member-take}
 use Rattle.thes_exchange.proofs.tree.member.Goals as goal
 
-pub returns : goal.returns
-returns c = view_of_ref c.get.result ∙ ap (option_map view) c.get.ensures.value ∙ view-lookup c.args.name.now c.args.members.now.entries
+pub returns-then-eq : goal.returns-then-eq
+returns-then-eq c =
+    let m = c.index-members-left.result in
+    let same : bytes_eq c.args.name.now m.0.now ≡ true = grind arith in
+    let found = get_member-take c.args.name.now c.args.members.now c.loop-left.left (c.loop-left.left - 1) m true in
+    sym (c.loop-left.invariant.0 ∙ found (omega arith) (omega arith) c.index-members-left.is same)
+
+pub loop-left-preserved : goal.loop-left-preserved
+loop-left-preserved c =
+    let m = c.index-members-left.result in
+    let other : bytes_eq c.args.name.now m.0.now ≡ false = grind arith in
+    let found = get_member-take c.args.name.now c.args.members.now c.loop-left.left (c.loop-left.left - 1) m false in
+    (c.loop-left.invariant.0 ∙ found (omega arith) (omega arith) c.index-members-left.is other, omega arith)
