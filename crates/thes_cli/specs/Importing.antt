@@ -1,6 +1,6 @@
 -- A posting file that is performed over a store.
 use Rattle.std.specs.Prelude.{◌≡◌, ◌==◌, if◌then◌else◌, ℕ, Bool, true, false, List, Option, Result, Ok, Err}
-use Rattle.thes_base.specs.Pipe.{device_of, IsFresh}
+use Rattle.thes_base.specs.Pipe.{device_of, IsFresh, KeepsToLimit}
 use Rattle.thes_base.specs.declared.fault.FormFault.TheVariants.{BadShape}
 use Rattle.thes_base.specs.declared.pipe.Pipe.{Pipe}
 use Rattle.thes_rows.specs.Cells.{Raw}
@@ -43,4 +43,5 @@ module _ {K F W : Type 0} (rows : K → Raw) (is_up : K → Type 0) (failed : K 
     pub left : Pipe F
     pub result : Result Ended Stopped
     pub imports : Imports opened before output result left after output'
+    pub calls : KeepsToLimit opened left output output'
     pub ends : EndsImport err tells errors errors' result status

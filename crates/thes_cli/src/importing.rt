@@ -1,6 +1,6 @@
 //! A posting file that is performed over a store.
 ghost use Rattle.std.specs.Prelude.{Ok};
-ghost use Rattle.thes_base.specs.Pipe.{IsFresh};
+ghost use Rattle.thes_base.specs.Pipe.{IsFresh, KeepsToLimit};
 ghost use Rattle.thes_cli.specs.Importing.{EndsImport, Imports, ImportsStore, TellsCounts};
 
 use crate::ending::{counts_line, form_line, print_error, tell};
@@ -22,8 +22,9 @@ fn import_rows<K: Keeper, F: Read, W: Write>(
 ) -> Result<Ended, Stopped>
     requires file { IsFresh file.old }
     requires output { IsFresh output.old }
-    ensures { Imports K.rows K.is_up K.failed F.remaining W.contents file.old office.old output.old
+    ensures imports { Imports K.rows K.is_up K.failed F.remaining W.contents file.old office.old output.old
         result file.new office.new output.new }
+    ensures calls { KeepsToLimit file.old file.new output.old output.new }
 {
     import(alloc, file, output, office)
 }

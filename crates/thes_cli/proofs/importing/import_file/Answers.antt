@@ -7,6 +7,7 @@ returns g c = record {
   device = c.new-given.ensures.device;
   left = c.import_rows-ended.new.file;
   result = c.import_rows-ended.result;
-  imports = c.import_rows-ended.ensures;
+  imports = c.import_rows-ended.ensures.imports;
+  calls = c.import_rows-ended.ensures.calls;
   ends = c.tell_import.ensures;
 }
