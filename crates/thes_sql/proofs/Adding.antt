@@ -1,5 +1,5 @@
 -- What an INSERT of one row makes of a table of a store.
-use Rattle.std.proofs.Common.{arith, ◌≡◌, inl, inr, ℕ, ℤ, ◌+ℤ◌, suc, pos, List, [], ◌∷◌, ◌++◌, ◌<◌, ◌+◌, ◌/◌, length, map, filter, fold, slice_get, Bool, cond, false, Option, None, Some, Ok, refl, sym, ap, subst, ◌∙◌}
+use Rattle.std.proofs.Common.{arith, ◌≡◌, inl, inr, ℕ, ℤ, ◌+ℤ◌, suc, pos, List, [], ◌∷◌, ◌++◌, ◌<◌, ◌+◌, ◌/◌, length, map, filter, fold, slice_get, Bool, cond, false, Option, None, Some, Ok, Err, Result, OnOk, refl, sym, ap, subst, ◌∙◌}
 use Rattle.std.proofs.lemmas.Int.{ints}
 use Rattle.std.specs.Prelude.{IsUtf8}
 use Rattle.sqlite.specs.declared.types.Value.{Value}
@@ -21,7 +21,8 @@ use Rattle.sqlite.specs.Tree.{put_row}
 use Rattle.sqlite_trees.specs.Tree.{rowid}
 use Rattle.sqlite.specs.Table.{Table}
 use Rattle.sqlite.specs.Listing.{understood}
-use Rattle.sqlite.specs.State.{State, Executes}
+use Rattle.sqlite.specs.State.{State, Executes, ExecutesInside}
+use Rattle.sqlite.specs.declared.error.Error.{Error}
 use Rattle.sqlite.proofs.Callers.{statement_of, runs_as}
 use Rattle.sqlite_keyed.proofs.ListLemmas.{filter-map}
 use Rattle.thes_base.specs.declared.data.Resource.{Resource}
@@ -31,7 +32,11 @@ use Rattle.thes_base.specs.Links.{link_kind_no}
 use Rattle.thes_rows.specs.declared.rows.HierRow.{HierRow}
 use Rattle.thes_rows.specs.declared.rows.PostingRow.{PostingRow}
 use Rattle.thes_rows.specs.declared.rows.MoveRow.{MoveRow}
+use Rattle.thes_rows.specs.declared.change.Change.{Change}
+use Rattle.thes_rows.specs.declared.change.Change.TheVariants as change
 use Rattle.thes_rows.specs.Tables.{Tables, IsIn}
+use Rattle.thes_rows.specs.Rows.{changed, Fits}
+use Rattle.thes_sql.specs.Does.{Does}
 use Rattle.thes_rows.specs.Cells.{resource_kind_no, optional_cell, hier_type_no, resource_cells, outside_cells, posting_cells, move_cells}
 use Rattle.thes_sql.specs.Schema.{resource, outside, label, link, hier, posting, move, store_schema}
 use Rattle.thes_sql.specs.Stored.{Keeps, Rising, AreKeyed, AreHidden, AreNumbered, hidden_row, values, numbered_from, stored_resource, stored_outside, stored_posting, stored_move, label_values, link_values, hier_values, value_of, IsSpelledOutside, IsSpelledLabel, IsSpelledPosting}
@@ -39,9 +44,24 @@ use Rattle.thes_sql.proofs.Texts.{Means}
 use Rattle.thes_sql.proofs.Texts as text
 use Rattle.thes_sql.proofs.Writing.{IsQuietTable, inserted, cast_int, cast_null}
 use Rattle.thes_sql.proofs.Keyed.{keyed_push}
-use Rattle.thes_sql.proofs.Elements.{all_push}
+use Rattle.sqlite_trees.proofs.ListLemmas.{all-append}
 use Rattle.thes_sql.proofs.Statements.{Rewrites, retold}
 use Rattle.thes_sql.proofs.Holding.{keeps_resource, keeps_outside, keeps_label, keeps_link, keeps_hier, keeps_posting, keeps_move}
+
+-- the text with the parameters makes the change of whatever tables are kept, if it fits
+abbrev pub Makes : List ℕ → Row → Change → Type 1
+Makes text params c = (old new : State) (t : Tables) (count : ℕ) → Keeps old.now t → Fits c t
+    → Executes text params old new (Ok count) → Keeps new.now (changed c t)
+
+pub does : (text : List ℕ) (params : Row) (c : Change) → Makes text params c → (old new : State) (r : Result ℕ Error)
+    → ExecutesInside 0 text params old new r → OnOk r (Does c old new)
+does text params c makes old new (Err e) h = tt
+does text params c makes old new (Ok count) h = record {
+  rows =
+      λ t kept fits. makes old new t count kept fits h.0;
+  inside = h.1.mode;
+  is_open = h.1.is_open;
+}
 
 -- one row is put into the tree: the source of it with a number, if it has none
 pub puts : (at : ℕ) (table : Table) (sql : List ℕ) (terms : List Term) (width : ℕ) (params source : Row)
@@ -201,11 +221,9 @@ cast_resource row = rw (
   cast_held row.1.replaced,
 ) refl
 
-pub adds_resource : (old new : State) (t : Tables) (n : ℕ) (r : Resource) (count : ℕ) → Keeps old.now t
-    → n ≡ length t.resource + 1
-    → Executes text.add_resource_text (values (resource_cells n r)) old new (Ok count)
-    → Keeps new.now (record t { resource = t.resource ++ r ∷ [] })
-adds_resource old new t n r count kept next h =
+pub makes_resource : (n : ℕ) (r : Resource) → Makes text.add_resource_text (values (resource_cells n r))
+    (change.AddResource n r)
+makes_resource n r old new t count kept next h =
     let is : numbered_from 1 t.resource ++ (n, r) ∷ [] ≡ numbered_from 1 (t.resource ++ r ∷ []) =
     ap (λ m. numbered_from 1 t.resource ++ (m, r) ∷ []) (let e : n ≡ 1 + length t.resource = omega (arith, next) in e)
     ∙ sym (numbered_push 1 t.resource r) in
@@ -220,17 +238,15 @@ adds_resource old new t n r count kept next h =
 cast_outside : (row : ℕ × List ℕ) → cast_row (record outside { tree = 2 }) (stored_outside row) ≡ stored_outside row
 cast_outside row = rw (cast_null, cast_int (pos row.0)) refl
 
-pub adds_outside : (old new : State) (t : Tables) (row : ℕ × List ℕ) (count : ℕ) → Keeps old.now t → 0 < row.0
-    → ((other : ℕ × List ℕ) → IsIn other t.outside → other.0 < row.0) → IsUtf8 row.1
-    → Executes text.add_outside_text (values (outside_cells row)) old new (Ok count)
-    → Keeps new.now (record t { outside = t.outside ++ row ∷ [] })
-adds_outside old new t row count kept least below spelled h =
-    keeps_outside old new t kept (t.outside ++ row ∷ [])
+pub makes_outside : (n : ℕ) (iri : List ℕ) → 0 < n → IsUtf8 iri → Makes text.add_outside_text (values (outside_cells (n, iri)))
+    (change.AddOutside n iri)
+makes_outside n iri least spelled old new t count kept below h =
+    keeps_outside old new t kept (t.outside ++ (n, iri) ∷ [])
     (adds_keyed (λ (row : ℕ × List ℕ). row.0) stored_outside (λ row. refl) 2 (record outside { tree = 2 })
-    text.add_outside_text text.add_outside_terms 3 (values (outside_cells row)) row refl refl (λ olds news. refl)
-    text.add_outside_is refl (λ rows. ap (with_rowid Chosen rows) (cast_outside row)) old new t.outside count
+    text.add_outside_text text.add_outside_terms 3 (values (outside_cells (n, iri))) (n, iri) refl refl (λ olds news. refl)
+    text.add_outside_is refl (λ rows. ap (with_rowid Chosen rows) (cast_outside (n, iri))) old new t.outside count
     kept.schema kept.hold.outside least (λ y k. below y (in_has t.outside y k)) h)
-    (all_push IsSpelledOutside t.outside row kept.hold.spelled.1.0 spelled)
+    (all-append IsSpelledOutside t.outside ((n, iri) ∷ []) kept.hold.spelled.1.0 (spelled, tt))
 
 pub cast_posting : (p : PostingRow) → cast_row (record posting { tree = 8 }) (stored_posting p) ≡ stored_posting p
 cast_posting p = rw (
@@ -241,11 +257,10 @@ cast_posting p = rw (
   cast_int (pos (cond p.withdrawn 1 0)),
 ) refl
 
-pub adds_posting : (old new : State) (t : Tables) (p : PostingRow) (count : ℕ) → Keeps old.now t
-    → p.number ≡ length t.posting + 1 → IsSpelledPosting p
-    → Executes text.add_posting_text (values (posting_cells p)) old new (Ok count)
-    → Keeps new.now (record t { posting = t.posting ++ p ∷ [] })
-adds_posting old new t p count kept next spelled h =
+pub makes_posting : (p : PostingRow) → IsSpelledPosting p
+    → Makes text.add_posting_text (values (posting_cells p)) (change.AddPosting p)
+makes_posting p spelled old new t count kept fits h =
+    let next = fits.0 in
     keeps_posting old new t kept (t.posting ++ p ∷ [])
     (adds_keyed (λ (row : PostingRow). row.number) stored_posting (λ row. refl) 5 (record posting { tree = 8 })
     text.add_posting_text text.add_posting_terms 7 (values (posting_cells p)) p refl refl (λ olds news. refl)
@@ -253,7 +268,7 @@ adds_posting old new t p count kept next spelled h =
     kept.schema kept.hold.posting (omega (arith, next))
     (λ y k. let b = postings_below 1 t.posting y kept.hold.numbered k in omega (arith, b, next)) h)
     (postings_push 1 t.posting p kept.hold.numbered (omega (arith, next)))
-    (all_push IsSpelledPosting t.posting p kept.hold.spelled.1.1.1 spelled)
+    (all-append IsSpelledPosting t.posting (p ∷ []) kept.hold.spelled.1.1.1 (spelled, tt))
 
 cast_move : (m : MoveRow) → cast_row (record move { tree = 10 }) (stored_move m) ≡ stored_move m
 cast_move m = rw (
@@ -264,11 +279,8 @@ cast_move m = rw (
   cast_int (pos m.target),
 ) refl
 
-pub adds_move : (old new : State) (t : Tables) (m : MoveRow) (count : ℕ) → Keeps old.now t → 0 < m.number
-    → ((other : MoveRow) → IsIn other t.move → other.number < m.number)
-    → Executes text.add_move_text (values (move_cells m)) old new (Ok count)
-    → Keeps new.now (record t { move = t.move ++ m ∷ [] })
-adds_move old new t m count kept least below h =
+pub makes_move : (m : MoveRow) → 0 < m.number → Makes text.add_move_text (values (move_cells m)) (change.AddMove m)
+makes_move m least old new t count kept below h =
     keeps_move old new t kept (t.move ++ m ∷ [])
     (adds_keyed (λ (row : MoveRow). row.number) stored_move (λ row. refl) 6 (record move { tree = 10 })
     text.add_move_text text.add_move_terms 5 (values (move_cells m)) m refl refl (λ olds news. refl)
@@ -277,29 +289,23 @@ adds_move old new t m count kept least below h =
 
 -- The tables without.
 
-pub adds_label : (old new : State) (t : Tables) (l : Label) (count : ℕ) → Keeps old.now t → IsSpelledLabel l
-    → Executes text.add_label_text (label_values l) old new (Ok count)
-    → Keeps new.now (record t { label = t.label ++ l ∷ [] })
-adds_label old new t l count kept spelled h = keeps_label old new t kept (t.label ++ l ∷ [])
+pub makes_label : (l : Label) → IsSpelledLabel l → Makes text.add_label_text (label_values l) (change.AddLabel l)
+makes_label l spelled old new t count kept fits h = keeps_label old new t kept (t.label ++ l ∷ [])
     (adds_hidden label_values 3 (record label { tree = 4 }) text.add_label_text text.add_label_terms 5 l refl refl
     (λ olds news. refl) text.add_label_is refl
     (λ rows. rw (cast_null, cast_int (pos l.owner), cast_int (pos (label_kind_no l.kind))) refl) old new t.label
     count kept.schema kept.hold.label h)
-    (all_push IsSpelledLabel t.label l kept.hold.spelled.1.1.0 spelled)
+    (all-append IsSpelledLabel t.label (l ∷ []) kept.hold.spelled.1.1.0 (spelled, tt))
 
-pub adds_link : (old new : State) (t : Tables) (l : Link) (count : ℕ) → Keeps old.now t
-    → Executes text.add_link_text (link_values l) old new (Ok count)
-    → Keeps new.now (record t { link = t.link ++ l ∷ [] })
-adds_link old new t l count kept h = keeps_link old new t kept (t.link ++ l ∷ [])
+pub makes_link : (l : Link) → Makes text.add_link_text (link_values l) (change.AddLink l)
+makes_link l old new t count kept fits h = keeps_link old new t kept (t.link ++ l ∷ [])
     (adds_hidden link_values 4 (record link { tree = 6 }) text.add_link_text text.add_link_terms 4 l refl refl
     (λ olds news. refl) text.add_link_is refl
     (λ rows. rw (cast_null, cast_int (pos (link_kind_no l.kind)), cast_int (pos l.a), cast_int (pos l.b)) refl) old
     new t.link count kept.schema kept.hold.link h)
 
-pub adds_hier : (old new : State) (t : Tables) (row : HierRow) (count : ℕ) → Keeps old.now t
-    → Executes text.add_hier_text (hier_values row) old new (Ok count)
-    → Keeps new.now (record t { hier = t.hier ++ row ∷ [] })
-adds_hier old new t row count kept h = keeps_hier old new t kept (t.hier ++ row ∷ [])
+pub makes_hier : (row : HierRow) → Makes text.add_hier_text (hier_values row) (change.AddHier row)
+makes_hier row old new t count kept fits h = keeps_hier old new t kept (t.hier ++ row ∷ [])
     (adds_hidden hier_values 7 (record hier { tree = 11 }) text.add_hier_text text.add_hier_terms 4 row refl refl
     (λ olds news. refl) text.add_hier_is refl
     (λ rows. rw (cast_null, cast_int (pos row.a), cast_int (pos row.b), cast_int (pos (hier_type_no row.typ))) refl)

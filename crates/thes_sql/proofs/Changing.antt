@@ -1,7 +1,6 @@
 -- What each change does.
-use Rattle.std.proofs.Common.{◌≡◌, ℕ, pos, List, [], ◌∷◌, ◌<◌, ◌==◌, map, filter, slice_get, Bool, not, ◌&&◌, if◌then◌else◌, Some, None, Option, Ok, Err, Result, OnOk, refl, sym, subst}
+use Rattle.std.proofs.Common.{◌≡◌, ℕ, pos, List, [], ◌∷◌, ◌==◌, map, filter, slice_get, Bool, not, ◌&&◌, if◌then◌else◌, Some, None, Option, Ok, refl, sym, subst}
 use Rattle.std.specs.List.{list_all}
-use Rattle.std.specs.Prelude.{IsUtf8}
 use Rattle.std.specs.Ordering.{eq_by_cmp}
 use Rattle.sqlite.specs.declared.types.Value.TheVariants.{Null, Int}
 use Rattle.sqlite.specs.Order.{Row}
@@ -10,8 +9,7 @@ use Rattle.sqlite.specs.Query.{output}
 use Rattle.sqlite.specs.Command.TheVariants.{Update, Delete}
 use Rattle.sqlite.specs.Table.{Table}
 use Rattle.sqlite.specs.declared.types.Value.{Value}
-use Rattle.sqlite.specs.declared.error.Error.{Error}
-use Rattle.sqlite.specs.State.{State, Executes, ExecutesInside}
+use Rattle.sqlite.specs.State.{State, Executes}
 use Rattle.thes_base.specs.declared.data.Resource.{Resource}
 use Rattle.thes_base.specs.declared.data.Link.{Link}
 use Rattle.thes_base.specs.Labels.{Label, label_cmp}
@@ -19,66 +17,22 @@ use Rattle.thes_base.specs.Links.{link_cmp}
 use Rattle.thes_base.specs.Changes.{dead, marked_dead}
 use Rattle.thes_rows.specs.declared.rows.HierRow.{HierRow}
 use Rattle.thes_rows.specs.declared.rows.PostingRow.{PostingRow}
-use Rattle.thes_rows.specs.declared.rows.MoveRow.{MoveRow}
-use Rattle.thes_rows.specs.declared.change.Change.{Change}
 use Rattle.thes_rows.specs.declared.change.Change.TheVariants as change
 use Rattle.thes_rows.specs.Tables.{Tables, hier_link}
-use Rattle.thes_rows.specs.Cells.{resource_cells, outside_cells, posting_cells, move_cells}
-use Rattle.thes_rows.specs.Rows.{changed, Fits, withdrawn_row, placed_row, without_row, without_hier}
+use Rattle.thes_rows.specs.Rows.{withdrawn_row, placed_row, without_row, without_hier}
 use Rattle.thes_sql.specs.Schema.{resource, label, link, hier, posting, store_schema}
-use Rattle.thes_sql.specs.Stored.{Keeps, AreKeyed, AreHidden, hidden_row, stored_resource, stored_posting, label_values, link_values, hier_values, values, numbered_from, IsSpelledLabel, IsSpelledPosting}
-use Rattle.thes_sql.specs.Does.{Does}
+use Rattle.thes_sql.specs.Stored.{Keeps, AreKeyed, AreHidden, hidden_row, stored_resource, stored_posting, label_values, link_values, hier_values, numbered_from, IsSpelledLabel, IsSpelledPosting}
 use Rattle.thes_sql.proofs.Texts.{plain_query, whole, Means}
 use Rattle.thes_sql.proofs.Texts as text
 use Rattle.thes_sql.proofs.Writing.{IsQuietTable}
 use Rattle.thes_sql.proofs.Statements.{Rewrites, retold, updates, deletes}
 use Rattle.thes_sql.proofs.Holding.{keeps_resource, keeps_label, keeps_link, keeps_hier, keeps_posting}
-use Rattle.thes_sql.proofs.Adding.{cast_resource, cast_posting, hidden_drop, adds_resource, adds_outside, adds_label, adds_link, adds_hier, adds_posting, adds_move}
-use Rattle.thes_sql.proofs.Elements.{all_left, all_turned}
+use Rattle.thes_sql.proofs.Adding.{cast_resource, cast_posting, hidden_drop, Makes}
+pub use Rattle.thes_sql.proofs.Adding.{does, makes_resource, makes_outside, makes_label, makes_link, makes_hier, makes_posting, makes_move}
+use Rattle.sqlite_trees.proofs.ListLemmas.{all-filter}
+use Rattle.thes_sql.proofs.Elements.{all_turned}
 use Rattle.thes_sql.proofs.Testing.{by_resource, by_number, by_place, by_label, by_link, by_hier}
 use Rattle.thes_sql.proofs.Places.{dead_is, posting_is, still_numbered}
-
--- the text with the parameters makes the change of whatever tables are kept, if it fits
-abbrev pub Makes : List ℕ → Row → Change → Type 1
-Makes text params c = (old new : State) (t : Tables) (count : ℕ) → Keeps old.now t → Fits c t
-    → Executes text params old new (Ok count) → Keeps new.now (changed c t)
-
-pub does : (text : List ℕ) (params : Row) (c : Change) → Makes text params c → (old new : State) (r : Result ℕ Error)
-    → ExecutesInside 0 text params old new r → OnOk r (Does c old new)
-does text params c makes old new (Err e) h = tt
-does text params c makes old new (Ok count) h = record {
-  rows =
-      λ t kept fits. makes old new t count kept fits h.0;
-  inside = h.1.mode;
-  is_open = h.1.is_open;
-}
-
--- Additions.
-
-pub makes_resource : (n : ℕ) (r : Resource) → Makes text.add_resource_text (values (resource_cells n r))
-    (change.AddResource n r)
-makes_resource n r old new t count kept fits h = adds_resource old new t n r count kept fits h
-
-pub makes_outside : (n : ℕ) (iri : List ℕ) → 0 < n → IsUtf8 iri → Makes text.add_outside_text (values (outside_cells (n, iri)))
-    (change.AddOutside n iri)
-makes_outside n iri least spelled old new t count kept fits h =
-    adds_outside old new t (n, iri) count kept least fits spelled h
-
-pub makes_label : (l : Label) → IsSpelledLabel l → Makes text.add_label_text (label_values l) (change.AddLabel l)
-makes_label l spelled old new t count kept fits h = adds_label old new t l count kept spelled h
-
-pub makes_link : (l : Link) → Makes text.add_link_text (link_values l) (change.AddLink l)
-makes_link l old new t count kept fits h = adds_link old new t l count kept h
-
-pub makes_hier : (row : HierRow) → Makes text.add_hier_text (hier_values row) (change.AddHier row)
-makes_hier row old new t count kept fits h = adds_hier old new t row count kept h
-
-pub makes_posting : (p : PostingRow) → IsSpelledPosting p
-    → Makes text.add_posting_text (values (posting_cells p)) (change.AddPosting p)
-makes_posting p spelled old new t count kept fits h = adds_posting old new t p count kept fits.0 spelled h
-
-pub makes_move : (m : MoveRow) → 0 < m.number → Makes text.add_move_text (values (move_cells m)) (change.AddMove m)
-makes_move m least old new t count kept fits h = adds_move old new t m count kept least fits h
 
 -- Resources.
 
@@ -176,7 +130,7 @@ makes_label_gone l old new t count kept fits h = keeps_label old new t kept (wit
     (drops label_values 3 (record label { tree = 4 }) refl (λ olds news. refl) text.drop_label_text l
     text.drop_label_query.filter (λ x. eq_by_cmp label_cmp x l) (by_label l) text.drop_label_is old new t.label count
     kept.schema kept.hold.label h)
-    (all_left IsSpelledLabel (λ y. not (eq_by_cmp label_cmp y l)) t.label kept.hold.spelled.1.1.0)
+    (all-filter IsSpelledLabel (λ y. not (eq_by_cmp label_cmp y l)) t.label kept.hold.spelled.1.1.0)
 
 pub makes_link_gone : (l : Link) → Makes text.drop_link_text (link_values l) (change.DropLink l)
 makes_link_gone l old new t count kept fits h = keeps_link old new t kept (without_row link_cmp l t.link)

@@ -272,12 +272,7 @@ module _ (text : List ℕ) (old new : State) (fault : CompileError) where
     no_alter : (reason : Refusal) → RefusesIndex from old.now.trees table (statement_of text (understood from text)) reason
         → SqlInputError fault ≢ alter_error reason
     no_alter (refusal.Invalid e) h told = let k = sym h ∙ is.1 in cc
-    no_alter refusal.NameTaken h told = cc
-    no_alter refusal.BadName h told = cc
-    no_alter refusal.BadKey h told = cc
-    no_alter refusal.BadText h told = cc
-    no_alter refusal.TooBig h told = cc
-    no_alter (refusal.Violates rule) h told = cc
+    no_alter _ h told = cc
 
     not_made : (mode : Mode) → Does old.step_limit mode [] (record old.now { schema = from })
         (statement_of text (understood from text)) None (CreateIndex at) (Err (Some (SqlInputError fault))) → ⊥

@@ -1,7 +1,8 @@
 -- Lists by membership, and tables: rows in the order of their numbers.
-use Rattle.std.proofs.Common.{arith, ◌≡◌, inl, inr, ℕ, ℤ, pos, ◌==◌, List, [], ◌∷◌, map, filter, Bool, true, false, not, cond, ◌++◌, if◌then◌else◌, refl, sym, ap, subst, ◌∙◌, Less, is_eq}
+use Rattle.std.proofs.Common.{arith, ◌≡◌, inl, inr, ℕ, ℤ, pos, ◌==◌, List, [], ◌∷◌, map, Bool, true, false, not, if◌then◌else◌, refl, sym, ap, subst, ◌∙◌, Less, is_eq}
 use Rattle.std.specs.List.{AllByRecursion}
 use Rattle.std.specs.List.Sorted.{IsPermutation}
+use Rattle.std.proofs.lemmas.List.Sorted.{IsPermutation-sym}
 use Rattle.std.proofs.lemmas.Bool.{not-true}
 use Rattle.std.proofs.lemmas.Bool.Decides.{nat_tests}
 use Rattle.std.proofs.lemmas.Int.{ints}
@@ -11,60 +12,21 @@ use Rattle.sqlite.specs.Order.{Row, value_cmp}
 use Rattle.sqlite_value.proofs.OrderLemmas.{value_cmp-Int, value_cmp_total}
 use Rattle.sqlite.specs.Tree.{put_row, has_rowid, without_rowid}
 use Rattle.sqlite_trees.specs.Tree.{IsTable, rowid}
-use Rattle.sqlite.specs.Rowids.TheVariants.{Given}
-use Rattle.sqlite_rules.specs.Edit.{put_all, without_all, numbered}
+use Rattle.sqlite_rules.specs.Edit.{put_all, without_all}
 use Rattle.sqlite_rules.specs.Lists.{Has}
-use Rattle.sqlite_rules.proofs.ListLemmas.{all_has}
+use Rattle.sqlite_rules.proofs.ListLemmas.{all_has, all_from}
+pub use Rattle.sqlite_rules.proofs.ListLemmas.{has_filtered as filter_has, has_kept as has_filter}
 use Rattle.sqlite_rules.proofs.TableLemmas.{without_all_has}
 use Rattle.sqlite_trees.proofs.TreeLemmas.{IsTable-put_row}
-use Rattle.sqlite_trees.proofs.ListLemmas.{ascending-filter}
-use Rattle.sqlite_keyed.proofs.ListLemmas.{along_permutation}
-use Rattle.thes_rows.proofs.Sets.{clash}
+use Rattle.sqlite_trees.proofs.ListLemmas.{ascending-filter, all-permutation}
 
 -- Elements of lists.
 
 pub perm_has : {A : Type 0} (xs ys : List A) → IsPermutation xs ys → (x : A) → Has xs x → Has ys x
-perm_has {A} = along_permutation (λ (xs ys : List A). (x : A) → Has xs x → Has ys x)
-    (λ xs x h. h)
-    (λ a xs ys more x h. elim h [ inl e ↦ inl e | inr k ↦ inr (more x k) ])
-    (λ a b xs x h. elim h [ inl e ↦ inr (inl e) | inr k ↦ elim k [ inl e ↦ inl e | inr l ↦ inr (inr l) ] ])
-    (λ xs ys zs p q x h. q x (p x h))
+perm_has xs ys same x h = all_has (Has ys) xs x
+    (all-permutation (Has ys) ys xs (IsPermutation-sym xs ys same) (all_from (Has ys) ys (λ y k. k))) h
 
-pub map_has : {A B : Type 0} (g : A → B) (xs : List A) (y : B) → Has (map g xs) y → (x : A) × Has xs x × (y ≡ g x)
-map_has g [] y h = absurd h
-map_has g (x ∷ xs) y (inl e) = (x, inl refl, e)
-map_has g (x ∷ xs) y (inr h) = let r = map_has g xs y h in (r.0, inr r.1, r.2)
-
-pub has_map : {A B : Type 0} (g : A → B) (xs : List A) (x : A) → Has xs x → Has (map g xs) (g x)
-has_map g [] x h = absurd h
-has_map g (z ∷ xs) x (inl e) = inl (ap g e)
-has_map g (z ∷ xs) x (inr h) = inr (has_map g xs x h)
-
-pub filter_has : {A : Type 0} (p : A → Bool) (xs : List A) (x : A) → Has (filter p xs) x → Has xs x × (p x ≡ true)
-filter_has p [] x h = absurd h
-filter_has {A} p (z ∷ xs) x h = go (filter_has p xs x) (p z) refl h
-  where
-    go : (Has (filter p xs) x → Has xs x × (p x ≡ true)) → (b : Bool) → p z ≡ b
-        → Has (cond b (z ∷ filter p xs) (filter p xs)) x → Has (z ∷ xs) x × (p x ≡ true)
-    go more true e (inl same) = (inl same, ap p same ∙ e)
-    go more true e (inr k) = let r = more k in (inr r.0, r.1)
-    go more false e k = let r = more k in (inr r.0, r.1)
-
--- What holds of all rows holds of all after one came, after some went, and after some turned.
-
-pub all_push : {A : Type 0} (P : A → Type 0) (xs : List A) (x : A) → AllByRecursion P xs → P x
-    → AllByRecursion P (xs ++ x ∷ [])
-all_push P [] x all one = (one, tt)
-all_push P (y ∷ ys) x all one = (all.0, all_push P ys x all.1 one)
-
-pub all_left : {A : Type 0} (P : A → Type 0) (p : A → Bool) (xs : List A) → AllByRecursion P xs
-    → AllByRecursion P (filter p xs)
-all_left P p [] all = tt
-all_left {A} P p (x ∷ xs) all = go (all_left P p xs all.1) (p x)
-  where
-    go : AllByRecursion P (filter p xs) → (b : Bool) → AllByRecursion P (cond b (x ∷ filter p xs) (filter p xs))
-    go rest true = (all.0, rest)
-    go rest false = rest
+-- What holds of all rows holds of all after some turned.
 
 pub all_turned : {A : Type 0} (P : A → Type 0) (p : A → Bool) (f : A → A) → ((x : A) → P x → P (f x)) → (xs : List A)
     → AllByRecursion P xs → AllByRecursion P (map (λ x. if p x then f x else x) xs)
@@ -74,17 +36,6 @@ all_turned {A} P p f told (x ∷ xs) all = (go (p x), all_turned P p f told xs a
     go : (b : Bool) → P (if b then f x else x)
     go true = told x all.0
     go false = all.0
-
-pub has_filter : {A : Type 0} (p : A → Bool) (xs : List A) (x : A) → Has xs x → p x ≡ true → Has (filter p xs) x
-has_filter p [] x h t = absurd h
-has_filter {A} p (z ∷ xs) x h t = go (has_filter p xs x) (p z) refl h
-  where
-    go : (Has xs x → p x ≡ true → Has (filter p xs) x) → (b : Bool) → p z ≡ b → Has (z ∷ xs) x
-        → Has (cond b (z ∷ filter p xs) (filter p xs)) x
-    go more true e (inl same) = inl same
-    go more true e (inr k) = inr (more k t)
-    go more false e (inl same) = clash (p z) (sym (ap p same) ∙ t) e
-    go more false e (inr k) = more k t
 
 -- Tables: two with the same rows are one.
 
@@ -137,10 +88,6 @@ pub left_has : (ids : List ℤ) (rows : List Row) (x : Row) → Has rows x
 left_has [] rows x h out = h
 left_has (j ∷ ids) rows x h out = left_has ids (without_rowid j rows) x
     (has_filter (λ r. not (has_rowid j r)) rows x h (ap not (out j (inl refl)))) (λ id m. out id (inr m))
-
-pub given_same : (rows rs : List Row) → numbered Given rows rs ≡ rs
-given_same rows [] = refl
-given_same rows (r ∷ rs) = ap (λ l. r ∷ l) (given_same (put_row r rows) rs)
 
 pub test_id : (m n : ℕ) → is_eq (value_cmp (Int (pos m)) (Int (pos n))) ≡ (m == n)
 test_id m n = ap is_eq (value_cmp-Int (pos m) (pos n)) ∙ grind (arith, ints, nat_tests)

@@ -14,9 +14,11 @@ use Rattle.sqlite_trees.specs.Tree.{IsTable, rowid}
 use Rattle.sqlite.specs.Rowids.TheVariants.{Given}
 use Rattle.sqlite_rules.specs.Edit.{put_all, without_all, numbered, are_fresh, id_in}
 use Rattle.sqlite_rules.specs.Lists.{Has}
+use Rattle.sqlite_rules.proofs.PlaceLemmas.{given as given_is}
+use Rattle.sqlite_rules.proofs.ProbeLemmas.{has_mapped, mapped_has}
 use Rattle.sqlite_rules.proofs.TableLemmas.{put_all_has, put_all_keeps, put_all_adds, without_all_has}
 use Rattle.thes_sql.specs.Stored.{Rising, AreKeyed}
-use Rattle.thes_sql.proofs.Elements.{perm_has, map_has, has_map, filter_has, has_filter, same_rows, table_put, table_left, left_not, left_has, given_same, test_id, num_same}
+use Rattle.thes_sql.proofs.Elements.{perm_has, filter_has, has_filter, same_rows, table_put, table_left, left_not, left_has, test_id, num_same}
 use Rattle.thes_rows.proofs.Sets.{clash}
 
 pub lower : (m n : ℕ) → m < n → value_cmp (Int (pos m)) (Int (pos n)) ≡ Less
@@ -119,23 +121,23 @@ module _ {X : Type 0} (num : X → ℕ) where
 
       given_of : (r : Row) → Has given r → (x : X) × Has xs x × (p x ≡ true) × (r ≡ shown x)
       given_of r h =
-          let m = map_has shown (filter p xs) r (perm_has given (map shown (filter p xs))
+          let m = has_mapped shown (filter p xs) r (perm_has given (map shown (filter p xs))
           (IsPermutation-sym _ _ is_given) r h) in
           let k = filter_has p xs m.0 m.1 in
           (m.0, k.0, k.1, m.2)
 
       of_given : (x : X) → Has xs x → p x ≡ true → Has given (shown x)
       of_given x h t = perm_has (map shown (filter p xs)) given is_given (shown x)
-          (has_map shown (filter p xs) x (has_filter p xs x h t))
+          (mapped_has shown (filter p xs) x (has_filter p xs x h t))
 
       id_of : (id : ℤ) → Has ids id → (x : X) × Has xs x × (p x ≡ true) × (id ≡ pos (num x))
       id_of id h =
-          let m = map_has (λ r. id_in (rowid r)) given id h in
+          let m = has_mapped (λ r. id_in (rowid r)) given id h in
           let g = given_of m.0 m.1 in
           (g.0, g.1, g.2, m.2 ∙ ap (λ r. id_in (rowid r)) g.3 ∙ shown_id g.0)
 
       kept : (x : X) → Has xs x → p x ≡ false → Has left (stored x)
-      kept x h t = left_has ids (map stored xs) (stored x) (has_map stored xs x h)
+      kept x h t = left_has ids (map stored xs) (stored x) (mapped_has stored xs x h)
           (λ id m. let k = id_of id m in elim (cases_Bool (has_rowid id (stored x))) [
             | inl hit ↦
                 let same = once 0 xs up x k.0 h k.1 (eqb-true (num x) (num k.0) (sym (has_num (num k.0) x)
@@ -147,7 +149,7 @@ module _ {X : Type 0} (num : X → ℕ) where
       gone : (x : X) (r : Row) → Has xs x → p x ≡ true → r ≡ stored x → Has left r → ⊥
       gone x r h t e old =
           let out = left_not ids (map stored xs) r old (pos (num x))
-          (subst (Has ids) (shown_id x) (has_map (λ r. id_in (rowid r)) given (shown x) (of_given x h t))) in
+          (subst (Has ids) (shown_id x) (mapped_has (λ r. id_in (rowid r)) given (shown x) (of_given x h t))) in
           clash (has_rowid (pos (num x)) r) (ap (has_rowid (pos (num x))) e ∙ has_num (num x) x ∙ num_same (num x)) out
 
       -- without them the others are left
@@ -157,17 +159,17 @@ module _ {X : Type 0} (num : X → ℕ) where
         where
           there : (r : Row) → Has left r → Has (map stored (filter (λ x. not (p x)) xs)) r
           there r h =
-              let m = map_has stored xs r (without_all_has ids (map stored xs) r h) in
+              let m = has_mapped stored xs r (without_all_has ids (map stored xs) r h) in
               elim (cases_Bool (p m.0)) [
                 | inl t ↦ absurd (gone m.0 r m.1 t m.2 h)
                 | inr t ↦ subst (Has (map stored (filter (λ x. not (p x)) xs))) (sym m.2)
-                    (has_map stored (filter (λ x. not (p x)) xs) m.0
+                    (mapped_has stored (filter (λ x. not (p x)) xs) m.0
                     (has_filter (λ x. not (p x)) xs m.0 m.1 (ap not t)))
               ]
 
           back : (r : Row) → Has (map stored (filter (λ x. not (p x)) xs)) r → Has left r
           back r h =
-              let m = map_has stored (filter (λ x. not (p x)) xs) r h in
+              let m = has_mapped stored (filter (λ x. not (p x)) xs) r h in
               let k = filter_has (λ x. not (p x)) xs m.0 m.1 in
               subst (Has left) (sym m.2) (kept m.0 k.0 (not-true (p m.0) k.1))
 
@@ -199,16 +201,16 @@ module _ {X : Type 0} (num : X → ℕ) where
           where
             final : (x : X) (r : Row) → Has xs x → r ≡ stored (change x) → Has (map stored (map change xs)) r
             final x r h e = subst (Has (map stored (map change xs))) (sym e)
-                (has_map stored (map change xs) (change x) (has_map change xs x h))
+                (mapped_has stored (map change xs) (change x) (mapped_has change xs x h))
 
             there : (r : Row) → Has (put_all left news) r → Has (map stored (map change xs)) r
             there r h = elim (put_all_has news left r h) [
               | inl new ↦
-                  let m = map_has cast given r (subst (λ l. Has l r) (given_same left (map cast given)) new) in
+                  let m = has_mapped cast given r (subst (λ l. Has l r) (given_is left (map cast given)) new) in
                   let g = given_of m.0 m.1 in
                   final g.0 r g.1 (m.2 ∙ ap cast g.3 ∙ is_cast g.0 ∙ ap stored (sym (changed_yes g.0 g.2)))
               | inr old ↦
-                  let m = map_has stored xs r (without_all_has ids (map stored xs) r old) in
+                  let m = has_mapped stored xs r (without_all_has ids (map stored xs) r old) in
                   elim (cases_Bool (p m.0)) [
                     | inl t ↦ absurd (gone m.0 r m.1 t m.2 old)
                     | inr t ↦ final m.0 r m.1 (m.2 ∙ ap stored (sym (changed_no m.0 t)))
@@ -217,14 +219,14 @@ module _ {X : Type 0} (num : X → ℕ) where
 
             back : (r : Row) → Has (map stored (map change xs)) r → Has (put_all left news) r
             back r h =
-                let a = map_has stored (map change xs) r h in
-                let b = map_has change xs a.0 a.1 in
+                let a = has_mapped stored (map change xs) r h in
+                let b = has_mapped change xs a.0 a.1 in
                 let is : r ≡ stored (change b.0) = a.2 ∙ ap stored b.2 in
                 elim (cases_Bool (p b.0)) [
                   | inl t ↦ put_all_adds news left r fresh
-                      (subst (λ l. Has l r) (sym (given_same left (map cast given)))
+                      (subst (λ l. Has l r) (sym (given_is left (map cast given)))
                       (subst (Has (map cast given)) (is_cast b.0 ∙ ap stored (sym (changed_yes b.0 t))
-                      ∙ sym is) (has_map cast given (shown b.0) (of_given b.0 b.1 t))))
+                      ∙ sym is) (mapped_has cast given (shown b.0) (of_given b.0 b.1 t))))
                   | inr t ↦ put_all_keeps news left r fresh (subst (Has left) (ap stored (sym (changed_no b.0 t))
                       ∙ sym is) (kept b.0 b.1 t))
                 ]

@@ -130,14 +130,8 @@ hidden_all {A} cells tree project shows text is old new xs out has held h =
 abbrev posting_columns : List Term
 posting_columns = col 1 0 ∷ col 1 2 ∷ col 1 3 ∷ col 1 4 ∷ col 1 5 ∷ col 1 6 ∷ []
 
-abbrev posting_names : List (List ℕ)
-posting_names = codes "num" ∷ codes "pkey" ∷ codes "record" ∷ codes "first_at" ∷ codes "at" ∷ codes "withdrawn" ∷ []
-
 abbrev move_columns : List Term
 move_columns = col 1 0 ∷ col 1 2 ∷ col 1 3 ∷ col 1 4 ∷ []
-
-abbrev move_names : List (List ℕ)
-move_names = codes "num" ∷ codes "posting" ∷ codes "source" ∷ codes "target" ∷ []
 
 -- the columns of each table
 abbrev columns_of : Table → List Term
@@ -150,26 +144,10 @@ columns_of table.Hier = col 1 1 ∷ col 1 2 ∷ col 1 3 ∷ []
 columns_of table.Posting = posting_columns
 columns_of table.Move = move_columns
 
-abbrev names_of : Table → List (List ℕ)
-names_of table.Meta = codes "one" ∷ codes "version" ∷ codes "base" ∷ []
-names_of table.Resource = codes "num" ∷ codes "kind" ∷ codes "scheme" ∷ codes "live" ∷ codes "replaced" ∷ []
-names_of table.Outside = codes "num" ∷ codes "iri" ∷ []
-names_of table.Label = codes "owner" ∷ codes "kind" ∷ codes "tag" ∷ codes "text" ∷ []
-names_of table.Link = codes "kind" ∷ codes "a" ∷ codes "b" ∷ []
-names_of table.Hier = codes "a" ∷ codes "b" ∷ codes "typ" ∷ []
-names_of table.Posting = posting_names
-names_of table.Move = move_names
-
 pub asks_table : (p : Table) → Asks (read_text p) (in_order (tree_of p) [] (columns_of p))
 unfolding understood everything
-asks_table table.Meta = (names_of table.Meta, refl, refl, (refl, refl))
-asks_table table.Resource = (names_of table.Resource, refl, refl, (refl, refl))
-asks_table table.Outside = (names_of table.Outside, refl, refl, (refl, refl))
-asks_table table.Label = (names_of table.Label, refl, refl, (refl, refl))
-asks_table table.Link = (names_of table.Link, refl, refl, (refl, refl))
-asks_table table.Hier = (names_of table.Hier, refl, refl, (refl, refl))
-asks_table table.Posting = (names_of table.Posting, refl, refl, (refl, refl))
-asks_table table.Move = (names_of table.Move, refl, refl, (refl, refl))
+asks_table table.Meta = (_, refl, refl, (refl, refl))
+asks_table p = (_, refl, refl, (refl, refl))
 
 pub table_shown : (p : Table) (old new : State) (t : Tables) (out : List Row) → Keeps old.now t
     → Shown (read_text p) [] old new out → out ≡ map values (rows_of p t)
@@ -242,30 +220,11 @@ module _ (tree : ℕ) (project : List Term) (of : Row → Row)
 
 pub whatever_shown : (p : Table) (old new : State) (out : List Row) → IsReadable old.now
     → Shown (read_text p) [] old new out → out ≡ shown_rows p old.now.trees
-whatever_shown table.Meta old new out is h = rows_read 0 (columns_of table.Meta) (λ row. map (column row)
-    (places_of table.Meta)) (λ row. refl) (read_text table.Meta) (asks_table table.Meta) old new out is.schema
-    (is.ordered table.Meta) h
-whatever_shown table.Resource old new out is h = rows_read 1 (columns_of table.Resource) (λ row. map (column row)
-    (places_of table.Resource)) (λ row. refl) (read_text table.Resource) (asks_table table.Resource) old new out
-    is.schema (is.ordered table.Resource) h
-whatever_shown table.Outside old new out is h = rows_read 2 (columns_of table.Outside) (λ row. map (column row)
-    (places_of table.Outside)) (λ row. refl) (read_text table.Outside) (asks_table table.Outside) old new out is.schema
-    (is.ordered table.Outside) h
-whatever_shown table.Label old new out is h = rows_read 4 (columns_of table.Label) (λ row. map (column row)
-    (places_of table.Label)) (λ row. refl) (read_text table.Label) (asks_table table.Label) old new out is.schema
-    (is.ordered table.Label) h
-whatever_shown table.Link old new out is h = rows_read 6 (columns_of table.Link) (λ row. map (column row)
-    (places_of table.Link)) (λ row. refl) (read_text table.Link) (asks_table table.Link) old new out is.schema
-    (is.ordered table.Link) h
-whatever_shown table.Hier old new out is h = rows_read 11 (columns_of table.Hier) (λ row. map (column row)
-    (places_of table.Hier)) (λ row. refl) (read_text table.Hier) (asks_table table.Hier) old new out is.schema
-    (is.ordered table.Hier) h
-whatever_shown table.Posting old new out is h = rows_read 8 (columns_of table.Posting) (λ row. map (column row)
-    (places_of table.Posting)) (λ row. refl) (read_text table.Posting) (asks_table table.Posting) old new out is.schema
-    (is.ordered table.Posting) h
-whatever_shown table.Move old new out is h = rows_read 10 (columns_of table.Move) (λ row. map (column row)
-    (places_of table.Move)) (λ row. refl) (read_text table.Move) (asks_table table.Move) old new out is.schema
-    (is.ordered table.Move) h
+whatever_shown table.Meta old new out is h = rows_read (tree_of table.Meta) (columns_of table.Meta)
+    (λ row. map (column row) (places_of table.Meta)) (λ row. refl) (read_text table.Meta) (asks_table table.Meta) old new
+    out is.schema (is.ordered table.Meta) h
+whatever_shown p old new out is h = rows_read (tree_of p) (columns_of p) (λ row. map (column row) (places_of p))
+    (λ row. refl) (read_text p) (asks_table p) old new out is.schema (is.ordered p) h
 
 -- Look-ups.
 
@@ -274,14 +233,14 @@ keyed_text = codes "SELECT num, pkey, record, first_at, at, withdrawn FROM posti
 
 pub keyed_is : Asks keyed_text (in_order 8 (same (col 1 2) (col 0 0) ∷ []) posting_columns)
 unfolding understood everything
-keyed_is = (posting_names, refl, refl, (refl, refl))
+keyed_is = (_, refl, refl, (refl, refl))
 
 abbrev pub numbered_text : List ℕ
 numbered_text = codes "SELECT num, pkey, record, first_at, at, withdrawn FROM posting WHERE num = ?1 ORDER BY num"
 
 pub numbered_is : Asks numbered_text (in_order 8 (same (col 1 0) (col 0 0) ∷ []) posting_columns)
 unfolding understood everything
-numbered_is = (posting_names, refl, refl, (refl, refl))
+numbered_is = (_, refl, refl, (refl, refl))
 
 abbrev pub standing_text : List ℕ
 standing_text =
@@ -290,14 +249,14 @@ standing_text =
 pub standing_is : Asks standing_text (in_order 8
     (same (col 1 5) (col 0 0) ∷ same (col 1 6) (lit (Int (pos 0))) ∷ []) posting_columns)
 unfolding understood everything
-standing_is = (posting_names, refl, refl, (refl, refl))
+standing_is = (_, refl, refl, (refl, refl))
 
 abbrev pub moving_text : List ℕ
 moving_text = codes "SELECT num, posting, source, target FROM move WHERE posting = ?1 ORDER BY num"
 
 pub moving_is : Asks moving_text (in_order 10 (same (col 1 2) (col 0 0) ∷ []) move_columns)
 unfolding understood everything
-moving_is = (move_names, refl, refl, (refl, refl))
+moving_is = (_, refl, refl, (refl, refl))
 
 -- the rows of posting that pass a test
 postings_shown : (text : List ℕ) (params : Row) (filters : List Term) (p : PostingRow → Bool)
@@ -343,7 +302,7 @@ pub asks_old_meta : (names : List (List ℕ))
     × (command_of (understood old_schema meta_text) ≡ Select (whole (in_order 0 [] (columns_of table.Meta))) names)
     × (reads_listing old_schema meta_text ≡ false) × IsPlain (understood old_schema meta_text)
 unfolding understood everything
-asks_old_meta = (names_of table.Meta, refl, refl, (refl, refl))
+asks_old_meta = (_, refl, refl, (refl, refl))
 
 version_in_turn : (version : ℕ) (base : List ℕ) (db : Trees) (out : List Row) → db 0 ≡ stored_version version base ∷ []
     → IsAnswer (in_order 0 [] (columns_of table.Meta)) (overlay db []) [] out → out ≡ version_row version base ∷ []

@@ -1,5 +1,5 @@
 -- How a store of version 1 becomes one of version 2, statement by statement.
-use Rattle.std.proofs.Common.{arith, ◌≡◌, ◌≢◌, ℕ, pos, List, [], ◌∷◌, ◌++◌, map, filter, codes, true, not, Ok, Err, Result, OnOk, refl, sym, ap, subst, ◌∙◌, append-nil, append_assoc, lit<}
+use Rattle.std.proofs.Common.{arith, ◌≡◌, ◌≢◌, ℕ, pos, List, [], ◌∷◌, ◌++◌, map, filter, codes, true, not, Ok, Err, Result, OnOk, refl, sym, ap, subst, ◌∙◌, append-nil, append_assoc, lit<, rules}
 use Rattle.std.proofs.Math.Bool.{and-true}
 use Rattle.std.specs.List.{list_all}
 use Rattle.sqlite.specs.declared.types.Value.{Value}
@@ -21,7 +21,6 @@ use Rattle.sqlite.specs.State.{State, Executes, ExecutesInside}
 use Rattle.sqlite_tied.specs.Compute.{everything}
 use Rattle.sqlite_rules.specs.Edit.{with_rowid, next_rowid, numbered, put_all}
 use Rattle.sqlite_rules.specs.Cast.{cast_row}
-use Rattle.sqlite_trees.specs.Tree.{rowid}
 use Rattle.sqlite.proofs.Callers.{statement_of, runs_as}
 use Rattle.sqlite_keyed.proofs.ListLemmas.{map-map, filter-map}
 use Rattle.thes_base.specs.declared.data.Link.{Link}
@@ -34,7 +33,7 @@ use Rattle.thes_rows.specs.declared.rows.HierRow.{HierRow}
 use Rattle.thes_rows.specs.Tables.{Tables}
 use Rattle.thes_rows.specs.Cells.{number_cell, hier_type_no}
 use Rattle.thes_sql.specs.Schema.{meta, link, hier, store_schema}
-use Rattle.thes_sql.specs.Stored.{Keeps, AreHidden, AreNumbered, AreSpelled, hidden_row, values, HoldResources, HoldOutside, HoldPostings, HoldMoves, label_values, link_values, hier_values}
+use Rattle.thes_sql.specs.Stored.{Keeps, AreHidden, hidden_row, values, link_values, hier_values}
 use Rattle.thes_rows.specs.OldRows.{is_broader, untyped, renewed}
 use Rattle.thes_sql.specs.Older.{KeepsAs, stored_version, copied, IsEnlarged, IsCopied, IsMoved, IsRenewed}
 use Rattle.thes_sql.specs.Does.{TurnsEach}
@@ -42,7 +41,7 @@ use Rattle.thes_sql.specs.Reads.{tree_of}
 use Rattle.thes_sql.proofs.Texts.{plain_query, whole, same, Means}
 use Rattle.thes_sql.proofs.Writing.{inserted, cast_int, cast_null}
 use Rattle.thes_sql.proofs.Statements.{Rewrites, retold, updates, deletes}
-use Rattle.thes_sql.proofs.Holding.{untouched}
+use Rattle.thes_sql.proofs.Holding.{untouched, HoldsAs, keeps_all, kept_now}
 use Rattle.thes_sql.proofs.Adding.{hidden_push, hidden_drop}
 use Rattle.thes_sql.proofs.Creating.{cast_meta}
 use Rattle.thes_sql.proofs.Reading.{in_order, in_turn}
@@ -65,16 +64,7 @@ copy_query = record (in_order 6 broader_filters copy_project) { collations = Bin
 -- no row is told apart by these
 in_order_too : (db : Trees) (params : Row) (out : List Row) → IsAnswer copy_query db params out
     → IsAnswer (in_order 6 broader_filters copy_project) db params out
-in_order_too db params out a = record {
-  staged = a.staged;
-  grouped = a.grouped;
-  kept = a.kept;
-  distinct = a.distinct;
-  ordered = a.ordered;
-  same = a.same;
-  sorted = a.sorted;
-  shown = a.shown;
-}
+in_order_too db params out a = search rules
 
 copy_is : Means copy_text (Insert 7 (Asked (whole copy_query)))
 unfolding understood everything
@@ -99,17 +89,6 @@ version_is = (refl, (refl, refl))
 
 -- Half-way a table is rewritten.
 
--- what the tree of a table holds, where meta has this version
-abbrev HoldsAs : ℕ → Name → Tables → List Row → Type 0
-HoldsAs version table.Meta t tree = tree ≡ stored_version version t.base ∷ []
-HoldsAs version table.Resource t tree = HoldResources t.resource tree
-HoldsAs version table.Outside t tree = HoldOutside t.outside tree
-HoldsAs version table.Label t tree = AreHidden label_values t.label tree
-HoldsAs version table.Link t tree = AreHidden link_values t.link tree
-HoldsAs version table.Hier t tree = AreHidden hier_values t.hier tree
-HoldsAs version table.Posting t tree = HoldPostings t.posting tree
-HoldsAs version table.Move t tree = HoldMoves t.move tree
-
 held_as : (version : ℕ) (db : Database) (t : Tables) → KeepsAs version db t → (p : Name)
     → HoldsAs version p t (db.trees (tree_of p))
 held_as version db t k table.Meta = k.hold.meta
@@ -121,25 +100,6 @@ held_as version db t k table.Hier = k.hier
 held_as version db t k table.Posting = k.hold.posting
 held_as version db t k table.Move = k.hold.move
 
-keeps_all : (version : ℕ) (db : Database) (t : Tables) → db.schema ≡ store_schema
-    → ((p : Name) → HoldsAs version p t (db.trees (tree_of p))) → AreNumbered 1 t.posting → AreSpelled t
-    → KeepsAs version db t
-keeps_all version db t has each numbered spelled = record {
-  schema = has;
-  hold = record {
-    meta = each table.Meta;
-    resource = each table.Resource;
-    outside = each table.Outside;
-    label = each table.Label;
-    link = each table.Link;
-    posting = each table.Posting;
-    numbered = numbered;
-    move = each table.Move;
-    spelled = spelled;
-  };
-  hier = each table.Hier;
-}
-
 module _ (version : ℕ) (old new : State) (t : Tables) (kept : KeepsAs version old.now t) where
   -- another table holds what it held
   other : {tree : ℕ} {Held : List Row → Type 0} → Rewrites tree Held old new → (p : Name) → tree_of p ≢ tree
@@ -149,51 +109,18 @@ module _ (version : ℕ) (old new : State) (t : Tables) (kept : KeepsAs version 
 
   as_hier : (rows : List HierRow) → Rewrites 11 (AreHidden hier_values rows) old new
       → KeepsAs version new.now (record t { hier = rows })
-  as_hier rows w = keeps_all version new.now (record t { hier = rows }) w.schema each kept.hold.numbered kept.hold.spelled
-    where
-      each : (p : Name) → HoldsAs version p (record t { hier = rows }) (new.now.trees (tree_of p))
-      each table.Hier = w.rows
-      each p = other w p (λ e. omega (arith, e))
+  as_hier rows w = keeps_all version new.now (record t { hier = rows }) w.schema
+      (elim [ table.Hier ↦ w.rows | p ↦ other w p (λ e. omega (arith, e)) ]) kept.hold.numbered kept.hold.spelled
 
   as_link : (rows : List Link) → Rewrites 6 (AreHidden link_values rows) old new
       → KeepsAs version new.now (record t { link = rows })
-  as_link rows w = keeps_all version new.now (record t { link = rows }) w.schema each kept.hold.numbered kept.hold.spelled
-    where
-      each : (p : Name) → HoldsAs version p (record t { link = rows }) (new.now.trees (tree_of p))
-      each table.Link = w.rows
-      each p = other w p (λ e. omega (arith, e))
+  as_link rows w = keeps_all version new.now (record t { link = rows }) w.schema
+      (elim [ table.Link ↦ w.rows | p ↦ other w p (λ e. omega (arith, e)) ]) kept.hold.numbered kept.hold.spelled
 
   as_version : (next : ℕ) → Rewrites 0 (λ tree. tree ≡ stored_version next t.base ∷ []) old new
       → KeepsAs next new.now t
-  as_version next w = keeps_all next new.now t w.schema each kept.hold.numbered kept.hold.spelled
-    where
-      each : (p : Name) → HoldsAs next p t (new.now.trees (tree_of p))
-      each table.Meta = w.rows
-      each table.Resource = other w table.Resource (λ e. omega (arith, e))
-      each table.Outside = other w table.Outside (λ e. omega (arith, e))
-      each table.Label = other w table.Label (λ e. omega (arith, e))
-      each table.Link = other w table.Link (λ e. omega (arith, e))
-      each table.Hier = other w table.Hier (λ e. omega (arith, e))
-      each table.Posting = other w table.Posting (λ e. omega (arith, e))
-      each table.Move = other w table.Move (λ e. omega (arith, e))
-
--- of version 2 they are the tables of a store
-kept_now : (db : Database) (t : Tables) → KeepsAs 2 db t → Keeps db t
-kept_now db t k = record {
-  schema = k.schema;
-  hold = record {
-    meta = k.hold.meta;
-    resource = k.hold.resource;
-    outside = k.hold.outside;
-    label = k.hold.label;
-    link = k.hold.link;
-    hier = k.hier;
-    posting = k.hold.posting;
-    numbered = k.hold.numbered;
-    move = k.hold.move;
-    spelled = k.hold.spelled;
-  };
-}
+  as_version next w = keeps_all next new.now t w.schema
+      (elim [ table.Meta ↦ w.rows | p ↦ other w p (λ e. omega (arith, e)) ]) kept.hold.numbered kept.hold.spelled
 
 -- Links are copied.
 

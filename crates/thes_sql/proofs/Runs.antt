@@ -1,5 +1,6 @@
 -- Changes in turn.
-use Rattle.std.proofs.Common.{arith, ◌≡◌, ℕ, suc, ◌+◌, ◌<◌, get_or, drop-cons, true, List, ◌∷◌, length, drop, refl, sym, ap, subst, ◌∙◌, IsTrue}
+use Rattle.std.proofs.Common.{arith, ◌≡◌, ℕ, ◌+◌, ◌<◌, get_or, true, List, ◌∷◌, length, drop, refl, sym, ap, subst, ◌∙◌, IsTrue}
+use Rattle.std.proofs.lemmas.List.{drop_more}
 use Rattle.sqlite.specs.Tree.{Trees}
 use Rattle.sqlite.specs.State.{State, HasCleanDisk, KeepsCommit, Survives}
 use Rattle.sqlite.specs.Held.{Held, state}
@@ -35,8 +36,7 @@ survives_on a b c p q = survives_then a b c _ _ (λ _. ⊥) (λ _ db none. none)
 
 pub taken : {X : Type 0} (xs : List X) (i : ℕ) (x : X) → i < length xs → x ≡ get_or xs i x
     → drop i xs ≡ x ∷ drop (i + 1) xs
-taken xs i x low is = drop-cons xs i x low ∙ ap (λ y. y ∷ drop (suc i) xs) (sym is)
-    ∙ (let n : suc i ≡ i + 1 = omega arith in ap (λ n. x ∷ drop n xs) n)
+taken xs i x low is = drop_more xs i x low ∙ ap (λ y. y ∷ drop (i + 1) xs) (sym is)
 
 -- a commit after the changes: a crash leaves the old tables, or those with all of the changes
 pub committed_later : (changes : List Change) (old mid new : State) → Survives old mid (λ _. ⊥)

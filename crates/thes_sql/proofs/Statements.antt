@@ -2,7 +2,7 @@
 use Rattle.std.proofs.Common.{◌≡◌, ◌≢◌, ℕ, pos, List, [], ◌∷◌, ◌++◌, map, filter, flat_map, slice_get, drop, nat_le, unwrap_or, None, ◌^◌, ◌-◌, Bool, true, false, not, cond, if◌then◌else◌, Some, Ok, refl, sym, ap, subst, ◌∙◌}
 use Rattle.std.specs.List.{AllByRecursion, list_all}
 use Rattle.std.specs.List.Sorted.{IsPermutation}
-use Rattle.std.proofs.lemmas.List.Sorted.{IsPermutation-refl, IsPermutation-cons, IsPermutation-trans, IsPermutation-append_left, IsPermutation-append_comm}
+use Rattle.std.proofs.lemmas.List.Sorted.{IsPermutation-map}
 use Rattle.sqlite.specs.declared.types.Value.TheVariants.{Null, Int}
 use Rattle.sqlite.specs.Order.{Row}
 use Rattle.sqlite.specs.Term.{Term, col, holds}
@@ -21,7 +21,7 @@ use Rattle.sqlite.specs.Table.{Table}
 use Rattle.sqlite.specs.Listing.{understood}
 use Rattle.sqlite.specs.State.{State, Executes}
 use Rattle.sqlite.proofs.Callers.{statement_of, runs_as}
-use Rattle.sqlite_keyed.proofs.ListLemmas.{along_permutation, map-map}
+use Rattle.sqlite_keyed.proofs.ListLemmas.{map-map}
 use Rattle.thes_sql.specs.Schema.{store_schema}
 use Rattle.thes_sql.specs.Stored.{AreKeyed}
 use Rattle.thes_sql.proofs.Texts.{plain_query, whole, Means}
@@ -37,15 +37,6 @@ pub record Rewrites (tree : ℕ) (Holds : List Row → Type 0) (old new : State)
   pub schema : new.now.schema ≡ store_schema
   pub rows : Holds (new.now.trees tree)
   pub others : Untouched tree old.now.trees new.now.trees
-
-pub IsPermutation-map : {A B : Type 0} (g : A → B) (xs ys : List A) → IsPermutation xs ys
-    → IsPermutation (map g xs) (map g ys)
-IsPermutation-map {A} {B} g = along_permutation (λ (xs ys : List A). IsPermutation (map g xs) (map g ys))
-    (λ xs. IsPermutation-refl (map g xs))
-    (λ x xs ys h. IsPermutation-cons (g x) (map g xs) (map g ys) h)
-    (λ x y xs. IsPermutation-append_left (map g xs) (g x ∷ g y ∷ []) (g y ∷ g x ∷ [])
-    (IsPermutation-append_comm (g x ∷ []) (g y ∷ [])))
-    (λ xs ys zs p q. IsPermutation-trans _ _ _ p q)
 
 -- what the tree holds, told in another way
 pub retold : (tree : ℕ) {P Q : List Row → Type 0} (old new : State)

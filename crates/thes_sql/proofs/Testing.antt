@@ -58,9 +58,8 @@ flag_is false = refl
 
 turned : (a b : Bool) → (a && (b && true)) ≡ (b && a)
 turned true true = refl
-turned true false = refl
 turned false true = refl
-turned false false = refl
+turned _ _ = refl
 
 pub by_place : (params : Row) (source : ℕ) (x : PostingRow) →
     list_all (holds ((Int (pos source) ∷ params) ∷ stored_posting x ∷ [])) move_all_query.filter ≡
@@ -93,21 +92,10 @@ by_link l row =
 same_types : (s t : HierType) → is_eq (nat_cmp (hier_type_no s) (hier_type_no t)) ≡ is_eq
     (nat_cmp (link_kind_no (hier_kind s)) (link_kind_no (hier_kind t)))
 same_types typ.Untyped typ.Untyped = refl
-same_types typ.Untyped typ.Generic = refl
-same_types typ.Untyped typ.Partitive = refl
-same_types typ.Untyped typ.Instantial = refl
 same_types typ.Generic typ.Untyped = refl
-same_types typ.Generic typ.Generic = refl
-same_types typ.Generic typ.Partitive = refl
-same_types typ.Generic typ.Instantial = refl
 same_types typ.Partitive typ.Untyped = refl
-same_types typ.Partitive typ.Generic = refl
-same_types typ.Partitive typ.Partitive = refl
-same_types typ.Partitive typ.Instantial = refl
 same_types typ.Instantial typ.Untyped = refl
-same_types typ.Instantial typ.Generic = refl
-same_types typ.Instantial typ.Partitive = refl
-same_types typ.Instantial typ.Instantial = refl
+same_types _ _ = refl
 
 last_first : (a b c : Bool) → (a && (b && c)) ≡ (c && (a && b))
 last_first true true true = refl
