@@ -28,7 +28,8 @@ module _ {K W : Type 0} (rows : K → Raw) (is_up : K → Type 0) (failed : K �
   WritesState after output output' (Err fault) result = (result ≡ Err (pipe.Fault fault)) × (output' ≡ output)
 
   -- The tables stay.
-  pub record WritesExport (before : Kept K) (output : Pipe W) (result : Result (Unit {0}) PipeFault) (after : Kept K) (output' : Pipe W) : Type 0 where
+  pub record WritesExport (before : Kept K) (output : Pipe W)
+      (result : Result (Unit {0}) PipeFault) (after : Kept K) (output' : Pipe W) : Type 0 where
     pub ready : Result (Unit {0}) Fault
     pub goes : Goes rows is_up failed before after ready
     pub same : Same rows is_up before after

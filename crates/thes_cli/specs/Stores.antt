@@ -24,20 +24,25 @@ adopted conn = record { conn = conn; failures = 0; first = conn }
 module _ {S F R W E : Type 0} (store : Ghosts S) (given : F → Option (List ℕ)) (remaining : R → Option (List ℕ))
     (out : W → Option (List ℕ)) (err : E → Option (List ℕ)) where
   -- It was done over the tables of the database.
-  pub record WorksInDatabase {L : Type 0} (task : Work F L) (file : List ℕ) (conn : Held S) (old : Streams R W E) (status : ℕ) (back : Held S) (new : Streams R W E) : Type 0 where
+  pub record WorksInDatabase {L : Type 0} (task : Work F L) (file : List ℕ) (conn : Held S)
+      (old : Streams R W E) (status : ℕ) (back : Held S) (new : Streams R W E) : Type 0 where
     pub keeper : Kept S
-    pub works : Works (raw_of_keeper store) (IsServing store) (λ k. k.failures) given remaining out err task (Some file) (adopted conn) old status keeper new
+    pub works : Works (raw_of_keeper store) (IsServing store)
+        (λ k. k.failures) given remaining out err task (Some file)
+        (adopted conn) old status keeper new
     pub kept : back ≡ keeper.conn
 
   -- The tables of a new store were made, if the database had none, and it was done over them.
-  pub record MakesStore {L : Type 0} (task : Work F L) (file base : List ℕ) (conn : Held S) (old : Streams R W E) (status : ℕ) (back : Held S) (new : Streams R W E) : Type 0 where
+  pub record MakesStore {L : Type 0} (task : Work F L) (file base : List ℕ) (conn : Held S)
+      (old : Streams R W E) (status : ℕ) (back : Held S) (new : Streams R W E) : Type 0 where
     pub made : Held S
     pub tables : HasCleanDisk (state store made) → IsEmpty schema_0 (state store conn).now
         → Keeps (state store made).committed (no_rows base) × Keeps (state store made).now (no_rows base)
     pub works : WorksInDatabase task file made old status back new
 
   -- They could not be made, which is told; the database is as it was.
-  pub record TellsUnmade (file : List ℕ) (conn : Held S) (old : Streams R W E) (status : ℕ) (back : Held S) (new : Streams R W E) : Type 0 where
+  pub record TellsUnmade (file : List ℕ) (conn : Held S) (old : Streams R W E) (status : ℕ)
+      (back : Held S) (new : Streams R W E) : Type 0 where
     pub fault : Fault
     pub kind : IsKeeperFault fault
     pub left : IsUp (state store back) → IsLeft (state store conn) (state store back)

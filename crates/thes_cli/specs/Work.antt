@@ -45,7 +45,8 @@ module _ {K F R W E : Type 0} (rows : K → Raw) (is_up : K → Type 0) (failed 
       old.output new.output old.errors new.errors status after
 
   -- The store was opened, and it was done; the keeper is handed back.
-  pub record WorksOpened {L : Type 0} (work : Work F L) (keeper : K) (old : Streams R W E) (status : ℕ) (back : K) (new : Streams R W E) : Type 0 where
+  pub record WorksOpened {L : Type 0} (work : Work F L) (keeper : K) (old : Streams R W E)
+      (status : ℕ) (back : K) (new : Streams R W E) : Type 0 where
     pub before : Kept K
     pub opened : IsOpened rows is_up failed keeper before
     pub after : Kept K
@@ -53,7 +54,8 @@ module _ {K F R W E : Type 0} (rows : K → Raw) (is_up : K → Type 0) (failed 
     pub kept : back ≡ after.keeper
 
   -- It could not be opened, which is told.
-  pub record TellsUnopened (file : Option (List ℕ)) (keeper : K) (old : Streams R W E) (status : ℕ) (back : K) (new : Streams R W E) : Type 0 where
+  pub record TellsUnopened (file : Option (List ℕ)) (keeper : K) (old : Streams R W E) (status : ℕ)
+      (back : K) (new : Streams R W E) : Type 0 where
     pub fault : Fault
     pub unopened : IsUnopened rows is_up failed keeper fault back
     pub input : new.input ≡ old.input
@@ -65,7 +67,8 @@ module _ {K F R W E : Type 0} (rows : K → Raw) (is_up : K → Type 0) (failed 
   Works work file keeper old status back new =
       WorksOpened work keeper old status back new ⊎ TellsUnopened file keeper old status back new
 
-module _ {F R W E : Type 0} (given : F → Option (List ℕ)) (remaining : R → Option (List ℕ)) (out : W → Option (List ℕ)) (err : E → Option (List ℕ)) where
+module _ {F R W E : Type 0} (given : F → Option (List ℕ)) (remaining : R → Option (List ℕ))
+    (out : W → Option (List ℕ)) (err : E → Option (List ℕ)) where
   -- no store could be made, which is told
   pub record TellsNoMemory (old : Streams R W E) (status : ℕ) (new : Streams R W E) : Type 0 where
     pub input : new.input ≡ old.input
@@ -74,7 +77,8 @@ module _ {F R W E : Type 0} (given : F → Option (List ℕ)) (remaining : R →
     pub status_is : status ≡ 3
 
   -- It was done over a new store in memory, which has this base and holds the empty state; or memory ran out first.
-  pub record WorksInMemory {L : Type 0} (work : Work F L) (base : List ℕ) (old : Streams R W E) (status : ℕ) (new : Streams R W E) : Type 0 where
+  pub record WorksInMemory {L : Type 0} (work : Work F L) (base : List ℕ) (old : Streams R W E)
+      (status : ℕ) (new : Streams R W E) : Type 0 where
     pub shows : Shows (listed (no_rows base)) base empty_state
     pub nothing : sizes_of empty_state ≡ no_sizes
     pub left : Tables

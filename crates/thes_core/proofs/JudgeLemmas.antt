@@ -28,7 +28,7 @@ use Rattle.thes_core.specs.Decides.{Accepts, MayApply}
 use Rattle.thes_core.specs.Facts.{AreFacts}
 use Rattle.thes_core.specs.Requests.{Judges, unless_linkable}
 use Rattle.thes_core.specs.View.{state_of, setting_of, kept_of, IsKept}
-use Rattle.thes_core.specs.Room.{HasRoom, Counts, counts_of, counts_in}
+use Rattle.thes_core.specs.Room.{HasRoom, Amounts, counts_of, counts_in}
 use Rattle.thes_core.proofs.GrowthLemmas.{Grows, growth_of, within_of_room, room_of_within}
 
 -- A count that is not to rise is within any limit.
@@ -40,7 +40,7 @@ module _ (t : Thesaurus) (hs : List History) {growth : Growth} where
   pub room_summed : AreSums hs t.book → HasRoom t.limits (counts_in t) growth ↔ HasRoom t.limits (counts_of (state_of t hs)) growth
   room_summed are =
       let same : counts_in t ≡ counts_of (state_of t hs) = λ i. record (counts_in t) { postings = are.accepted i; moves = are.moves i } in
-      (subst (λ (held : Counts). HasRoom t.limits held growth) same, subst (λ (held : Counts). HasRoom t.limits held growth) (sym same))
+      (subst (λ (held : Amounts). HasRoom t.limits held growth) same, subst (λ (held : Amounts). HasRoom t.limits held growth) (sym same))
 
   pub room_unposted : growth.postings ≡ 0 → growth.moves ≡ 0 → HasRoom t.limits (counts_in t) growth ↔ HasRoom t.limits (counts_of (state_of t hs)) growth
   room_unposted postings moves = (

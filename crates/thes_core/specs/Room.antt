@@ -8,14 +8,14 @@ use Rattle.thes_core.specs.declared.room.Growth.{Growth}
 use Rattle.thes_core.specs.declared.thesaurus.Thesaurus.{Thesaurus}
 
 -- how many there are of each sort that a limit binds
-pub record Counts : Type 0 where
+pub record Amounts : Type 0 where
   pub resources : ℕ
   pub labels : ℕ
   pub links : ℕ
   pub postings : ℕ
   pub moves : ℕ
 
-abbrev pub counts_of : State → Counts
+abbrev pub counts_of : State → Amounts
 counts_of s =
     record {
       resources = length s.resources;
@@ -26,7 +26,7 @@ counts_of s =
     }
 
 -- the same by the parts
-abbrev pub counts_in : Thesaurus → Counts
+abbrev pub counts_in : Thesaurus → Amounts
 counts_in t =
     record {
       resources = length t.vocab.resources;
@@ -37,7 +37,7 @@ counts_in t =
     }
 
 -- no count rises past its limit with so many more
-pub record HasRoom (limits : Limits) (held : Counts) (growth : Growth) : Type 0 where
+pub record HasRoom (limits : Limits) (held : Amounts) (growth : Growth) : Type 0 where
   pub for_resources : Fits limits.resources held.resources (held.resources + growth.resources)
   pub for_labels : Fits limits.labels held.labels (held.labels + growth.labels)
   pub for_links : Fits limits.links held.links (held.links + growth.links)

@@ -15,7 +15,7 @@ use Rattle.thes_display.specs.declared.walk.Child.{Child}
 use Rattle.thes_display.specs.declared.walk.Types.{Types}
 use Rattle.thes_display.specs.Order.{Term}
 use Rattle.thes_display.specs.Lines.{Line, IsLine, IsHomeward, IsPlaced, HasTypes, untyped, line_cmp}
-use Rattle.thes_display.specs.Below.{at, child, child_cmp, IsUnder, IsTypedUnder, IsHierarchy, IsHierarchyText}
+use Rattle.thes_display.specs.Below.{at, child, child_cmp, IsChildOf, IsTypedUnder, IsHierarchy, IsHierarchyText}
 use Rattle.thes_display.specs.Hierarchical.{HasKey, IsBroader, IsTop, IsHome, IsAway, AreTypes, AreTerms, IsHierarchical}
 use Rattle.thes_display.specs.Gathered.{IsGathered, IsChildAt, IsChild, IsClosed, IsRoot}
 use Rattle.thes_display.proofs.WalkLemmas.{Among, among, rises_none}
@@ -80,7 +80,7 @@ module _ (links : Links) (terms : List Term) (tops : List Child) (below : List (
       by_bound (inl l) = (g.below_listed b l).sound c i
       by_bound (inr l) = let s = g.size in let e = at_past below b (omega (arith, s, l)) in absurd (subst (Among c) e (among c (at below b) i))
 
-  under : (home : Bool) (k b : ℕ) → IsUnder tops below home k b → IsChildAt links terms home k b
+  under : (home : Bool) (k b : ℕ) → IsChildOf tops below home k b → IsChildAt links terms home k b
   under home k b c = (listed_under (child k c.0 home) b c.1).0
 
   typed_under : (types : Types) (k b : ℕ) → IsTypedUnder tops below types k b → AreTypes links terms types k b
@@ -120,7 +120,7 @@ module _ (links : Links) (terms : List Term) (tops : List Child) (below : List (
   }
 
   -- what stands below a concept is listed there, with its types
-  listed : (home : Bool) (k b : ℕ) → IsChildAt links terms home k b → IsUnder tops below home k b
+  listed : (home : Bool) (k b : ℕ) → IsChildAt links terms home k b → IsChildOf tops below home k b
   listed home k b p =
       let r = broader_of home k b p in
       let types = types_between links r.lower r.upper in

@@ -6,7 +6,7 @@ use Rattle.std.specs.List.Sorted.{IsStrictlySortedBy}
 use Rattle.thes_display.specs.declared.walk.Child.{Child}
 use Rattle.thes_display.specs.declared.walk.Types.{Types}
 use Rattle.thes_display.specs.Lines.{Line, IsHomeward, IsPlaced, HasTypes, untyped}
-use Rattle.thes_display.specs.Below.{at, child, child_cmp, IsTopOf, IsUnder, IsTypedUnder, IsLineOf, IsHierarchy}
+use Rattle.thes_display.specs.Below.{at, child, child_cmp, IsTopOf, IsChildOf, IsTypedUnder, IsLineOf, IsHierarchy}
 use Rattle.thes_display.proofs.WalkLemmas.{Among, among, contains_of, among_map, map_among, each_of, up, onto, Extends, placed}
 
 not_below_itself : (x : ℕ) → nat_cmp x x ≡ Less → ⊥
@@ -25,15 +25,15 @@ one_child (c ∷ cs) s k x y p q (inr a) (inr b) = one_child cs s.1 k x y p q a 
 
 module _ (tops : List Child) (below : List (List Child)) (n : ℕ) (o : IsHierarchy tops below n) where
   abbrev Homeward : List ℕ → Type 0
-  Homeward = IsHomeward (IsTopOf tops below) (IsUnder tops below true) (IsUnder tops below false) (IsTypedUnder tops below)
+  Homeward = IsHomeward (IsTopOf tops below) (IsChildOf tops below true) (IsChildOf tops below false) (IsTypedUnder tops below)
 
   abbrev Placed : Bool → List ℕ → Type 0
-  Placed = IsPlaced (IsTopOf tops below) (IsUnder tops below true) (IsUnder tops below false) (IsTypedUnder tops below)
+  Placed = IsPlaced (IsTopOf tops below) (IsChildOf tops below true) (IsChildOf tops below false) (IsTypedUnder tops below)
 
   abbrev Typed : Types → List ℕ → Type 0
-  Typed = HasTypes (IsTopOf tops below) (IsUnder tops below true) (IsUnder tops below false) (IsTypedUnder tops below)
+  Typed = HasTypes (IsTopOf tops below) (IsChildOf tops below true) (IsChildOf tops below false) (IsTypedUnder tops below)
 
-  kinds : (k b : ℕ) (g h : Bool) → IsUnder tops below g k b → IsUnder tops below h k b → g ≡ h
+  kinds : (k b : ℕ) (g h : Bool) → IsChildOf tops below g k b → IsChildOf tops below h k b → g ≡ h
   kinds k b g h p q = ap (λ (c : Child). c.at_home) (one_child (at below b) (o.rises b) k (child k p.0 g) (child k q.0 h) refl refl (among _ _ p.1) (among _ _ q.1))
 
   -- a place has one types
@@ -54,7 +54,7 @@ module _ (tops : List Child) (below : List (List Child)) (n : ℕ) (o : IsHierar
   same_place (k ∷ b ∷ above) false true p q = kinds k b false true p.0 q.0
 
   -- what stands further down stands below a child that is at home or is the line itself
-  child_of : (r : List ℕ) (x k : ℕ) (ys : List ℕ) (h : Bool) → Placed h (onto r (x ∷ k ∷ ys)) → ((g : Bool) × IsUnder tops below g x k × ((r ≡ []) → g ≡ h)) × Homeward (k ∷ ys)
+  child_of : (r : List ℕ) (x k : ℕ) (ys : List ℕ) (h : Bool) → Placed h (onto r (x ∷ k ∷ ys)) → ((g : Bool) × IsChildOf tops below g x k × ((r ≡ []) → g ≡ h)) × Homeward (k ∷ ys)
   child_of [] x k ys true p = ((true, p.0, λ e. refl), p.1)
   child_of [] x k ys false p = ((false, p.0, λ e. refl), p.1)
   child_of (y ∷ r) x k ys h p = let deeper = (child_of r y x (k ∷ ys) h p).1 in ((true, deeper.0, λ e. absurd (cc)), deeper.1)
@@ -89,7 +89,7 @@ module _ (tops : List Child) (below : List (List Child)) (n : ℕ) (o : IsHierar
   placed_line : (p : Line) → Homeward (up p) → (c : Child) → Among c (at below p.key) → IsIt (placed (up p) c)
   placed_line p i c a =
       let here = contains_of c (at below p.key) a in (
-        elim c.at_home as (λ h. IsUnder tops below h c.key p.key → Placed h (c.key ∷ up p)) [
+        elim c.at_home as (λ h. IsChildOf tops below h c.key p.key → Placed h (c.key ∷ up p)) [
           | true ↦ λ u. (u, i)
           | false ↦ λ u. (u, i)
         ] (c.types, here),

@@ -4,7 +4,7 @@ use Rattle.thes_display.specs.declared.walk.Child.{Child}
 use Rattle.thes_display.specs.declared.walk.Waiting.{Waiting}
 use Rattle.thes_display.specs.Order.{Term}
 use Rattle.thes_display.specs.Lines.{Line, lines_text, path, line_cmp, line_text, line_end, placed_text, types_text, text_at, IsHomeward, IsPlaced, untyped}
-use Rattle.thes_display.specs.Below.{at, IsLineOf, IsHierarchy, waiting_at, IsHierarchyText, child, IsTopOf, IsUnder, IsTypedUnder}
+use Rattle.thes_display.specs.Below.{at, IsLineOf, IsHierarchy, waiting_at, IsHierarchyText, child, IsTopOf, IsChildOf, IsTypedUnder}
 use Rattle.std.proofs.lemmas.List.{reverse-append, reverse-reverse, length-reverse, map-append}
 use Rattle.std.proofs.lemmas.List.Concat.{flat_map-append}
 use Rattle.thes_display.proofs.WalkLemmas.{Among, among, contains_of, among_map, map_among, among_left, among_right, among_append, IsWalk, rises_none, less_itself, up, onto, placed, placed_apart, walk_step, walk_done}
@@ -48,10 +48,10 @@ module _ (terms : List Term) (tops : List Child) (below : List (List Child)) (n 
   IsIt = IsLineOf tops below
 
   abbrev Homeward : List ℕ → Type 0
-  Homeward = IsHomeward (IsTopOf tops below) (IsUnder tops below true) (IsUnder tops below false) (IsTypedUnder tops below)
+  Homeward = IsHomeward (IsTopOf tops below) (IsChildOf tops below true) (IsChildOf tops below false) (IsTypedUnder tops below)
 
   abbrev Placed : Bool → List ℕ → Type 0
-  Placed = IsPlaced (IsTopOf tops below) (IsUnder tops below true) (IsUnder tops below false) (IsTypedUnder tops below)
+  Placed = IsPlaced (IsTopOf tops below) (IsChildOf tops below true) (IsChildOf tops below false) (IsTypedUnder tops below)
 
   onto_more : (r : List ℕ) (k : ℕ) (u : List ℕ) → onto (r ++ k ∷ []) u ≡ k ∷ onto r u
   onto_more [] k u = refl

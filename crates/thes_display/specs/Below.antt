@@ -26,15 +26,15 @@ module _ (tops : List Child) (below : List (List Child)) where
   abbrev pub IsTopOf : ℕ → Type 0
   IsTopOf k = Contains tops (child k untyped true)
 
-  abbrev pub IsUnder : Bool → ℕ → ℕ → Type 0
-  IsUnder home k b = (types : Types) × Contains (at below b) (child k types home)
+  abbrev pub IsChildOf : Bool → ℕ → ℕ → Type 0
+  IsChildOf home k b = (types : Types) × Contains (at below b) (child k types home)
 
   abbrev pub IsTypedUnder : Types → ℕ → ℕ → Type 0
   IsTypedUnder types k b = (home : Bool) × Contains (at below b) (child k types home)
 
   -- a line of these lists
   abbrev pub IsLineOf : Line → Type 0
-  IsLineOf = IsLine IsTopOf (IsUnder true) (IsUnder false) IsTypedUnder
+  IsLineOf = IsLine IsTopOf (IsChildOf true) (IsChildOf false) IsTypedUnder
 
   -- Each list is in order, all keys are known, tops are at home and untyped, and each key has one
   -- home at most, a top none.
@@ -44,8 +44,8 @@ module _ (tops : List Child) (below : List (List Child)) where
     pub rises : (b : ℕ) → IsStrictlySortedBy child_cmp (at below b)
     pub tops_home : (c : Child) → Contains tops c → (c.at_home ≡ true) × (c.types ≡ untyped) × (c.key < n)
     pub known : (b : ℕ) (c : Child) → Contains (at below b) c → c.key < n
-    pub one_home : (k b c : ℕ) → IsUnder true k b → IsUnder true k c → b ≡ c
-    pub top_home : (k b : ℕ) → IsTopOf k → IsUnder true k b → ⊥
+    pub one_home : (k b c : ℕ) → IsChildOf true k b → IsChildOf true k c → b ≡ c
+    pub top_home : (k b : ℕ) → IsTopOf k → IsChildOf true k b → ⊥
 
 -- the lists of a vector of vectors
 abbrev pub lists : List (Vec Child Global) → List (List Child)

@@ -57,8 +57,10 @@ pub record IsGathered (links : Links) (terms : List Term) (tops : List Child) (b
 
 -- What a link within a scheme joins to a concept with a key has a key.
 pub record IsClosed (links : Links) (terms : List Term) : Type 0 where
-  pub upward : (kind : LinkKind) (a b k : ℕ) → form_of kind ≡ Within → HasLink links kind a b → HasKey terms a k → (j : ℕ) × HasKey terms b j
-  pub downward : (kind : LinkKind) (a b k : ℕ) → form_of kind ≡ Within → HasLink links kind a b → HasKey terms b k → (j : ℕ) × HasKey terms a j
+  pub upward : (kind : LinkKind) (a b k : ℕ) → form_of kind ≡ Within → HasLink links kind a b
+      → HasKey terms a k → (j : ℕ) × HasKey terms b j
+  pub downward : (kind : LinkKind) (a b k : ℕ) → form_of kind ≡ Within → HasLink links kind a b
+      → HasKey terms b k → (j : ℕ) × HasKey terms a j
 
 -- What stands below each concept with a key below m.
 pub record AreBelow (links : Links) (terms : List Term) (m : ℕ) (below : List (List Child)) : Type 0 where

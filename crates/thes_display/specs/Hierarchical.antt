@@ -66,7 +66,8 @@ pub record IsHierarchical (s : State) (scheme : ℕ) (tag text : List ℕ) : Typ
   pub terms : List Term
   pub are_terms : AreTerms s scheme tag terms
   pub lines : List Line
-  pub are_lines : IsListing line_cmp (IsLine (IsTop s.links terms) (IsHome s.links terms) (IsAway s.links terms) (AreTypes s.links terms)) lines
+  pub are_lines : IsListing line_cmp
+      (IsLine (IsTop s.links terms) (IsHome s.links terms) (IsAway s.links terms) (AreTypes s.links terms)) lines
   pub is : text ≡ lines_text terms lines
 
 -- A scheme of a state has at most one hierarchical display in a language.

@@ -22,7 +22,8 @@ IsNoScheme resources n _ = ⊥
 module _ {W : Type 0} (contents : W → Option (List ℕ)) where
   -- the display of a scheme is written; nothing is written where there is none
   abbrev pub IsShown : List Resource → ℕ → (List ℕ → Type 0) → Pipe W → Pipe W → Shown → Type 0
-  IsShown resources scheme IsText old new Written = IsScheme resources scheme × ((text : List ℕ) × IsText text × Appends (written contents old) (written contents new) text)
+  IsShown resources scheme IsText old new Written = IsScheme resources scheme
+      × ((text : List ℕ) × IsText text × Appends (written contents old) (written contents new) text)
   IsShown resources scheme IsText old new (No refusal) = IsNoScheme resources scheme refusal × (new ≡ old)
 
   -- a front of the display was written; nothing where memory was refused

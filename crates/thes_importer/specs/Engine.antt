@@ -54,7 +54,9 @@ module _ {W : Type 0} (contents : W → Option (List ℕ)) (old new : Pipe W) wh
 
   -- What was performed is told.
   abbrev pub Writes : Result Imported Halted → Result Ended Stopped → Type 0
-  Writes imported (Ok e) = Ends imported e × Appends (written contents old) (written contents new) (told_text imported) × (failed_of new ≡ false)
+  Writes imported (Ok e) = Ends imported e
+      × Appends (written contents old) (written contents new) (told_text imported)
+      × (failed_of new ≡ false)
   Writes imported (Err stopped) = (stopped.counts ≡ told_counts imported) × IsCause imported stopped.fault
 
 -- what an import is handed
@@ -66,7 +68,8 @@ pub record Scene (R W K : Type 0) : Type 0 where
 abbrev pub scene : {R W K : Type 0} → Pipe R → Pipe W → Kept K → Scene R W K
 scene reader writer office = record { reader = reader; writer = writer; office = office }
 
-module _ {R W K : Type 0} (remaining : R → Option (List ℕ)) (contents : W → Option (List ℕ)) (tables : K → Raw) (is_up : K → Type 0) (failed : K → ℕ) (old new : Scene R W K) where
+module _ {R W K : Type 0} (remaining : R → Option (List ℕ)) (contents : W → Option (List ℕ))
+    (tables : K → Raw) (is_up : K → Type 0) (failed : K → ℕ) (old new : Scene R W K) where
   -- The file was read whole and performed, and what was performed is told.
   pub record ImportsFile (result : Result Ended Stopped) : Type 0 where
     pub file : List ℕ

@@ -31,7 +31,8 @@ ReplacementFits resources n r None = Unit {0}
 ReplacementFits resources n r (Some m) = (r.live ≡ false) × (m ≢ n) × IsConcept resources m × (scheme_of resources m ≡ r.scheme)
 
 abbrev pub Fits : List Resource → ℕ → Resource → Type 0
-Fits resources n r = SchemeFits resources r.kind r.scheme × (r.live ≡ false → is_concept_kind r.kind ≡ true) × ReplacementFits resources n r r.replaced
+Fits resources n r = SchemeFits resources r.kind r.scheme
+    × (r.live ≡ false → is_concept_kind r.kind ≡ true) × ReplacementFits resources n r r.replaced
 
 abbrev pub EachFits : List Resource → Type 0
 EachFits resources = (n : ℕ) (r : Resource) → numbered resources n ≡ Some r → Fits resources n r

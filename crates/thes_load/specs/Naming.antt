@@ -24,7 +24,8 @@ pub record HasOutside (base : List ℕ) (resources : List Resource) (v : Vocabul
   pub are : v ≡ vocabulary_of base resources rows []
   pub greatest : IsLast rows last
 
-pub record HasLabels (base : List ℕ) (resources : List Resource) (outside : List (ℕ × List ℕ)) (v : Vocabulary) (rows : List Label) : Type 0 where
+pub record HasLabels (base : List ℕ) (resources : List Resource) (outside : List (ℕ × List ℕ))
+    (v : Vocabulary) (rows : List Label) : Type 0 where
   pub once : Once rows
   pub forms : EachRow (λ l. IsLabelForm l.kind l.tag l.text) rows
   pub are : v ≡ vocabulary_of base resources outside rows

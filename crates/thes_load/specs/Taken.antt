@@ -29,7 +29,8 @@ KeyIsTaken old new key fresh =
     × ((q : List ℕ) → has_key new q ≡ cond (eq_by_cmp (slice_cmp nat_cmp) key q) true (has_key old q))
 
 -- the rows meet the rule, and the keys, the first concepts, the places and the sums are theirs
-pub record HasPostings (resources : List Resource) (keys : List (List ℕ)) (firsts ats : List ℕ) (sums : Sums) (rows : List PostingRow) : Type 0 where
+pub record HasPostings (resources : List Resource) (keys : List (List ℕ)) (firsts ats : List ℕ)
+    (sums : Sums) (rows : List PostingRow) : Type 0 where
   pub rule : PostingRule resources rows
   pub keys_are : (q : List ℕ) → has_key keys q ≡ has_key (map (λ (row : PostingRow). row.key) rows) q
   pub firsts_are : firsts ≡ map (λ (row : PostingRow). row.first) rows
@@ -60,7 +61,8 @@ pub record AtPlaces (postings : List PostingRow) (rows : List MoveRow) (places :
       (n : ℕ) (p : PostingRow) → numbered postings n ≡ Some p
       → numbered places n ≡ Some (place (history_of rows p))
 
-pub record HasMoves (resources : List Resource) (postings : List PostingRow) (taken : ℕ) (places : List ℕ) (rows : List MoveRow) : Type 0 where
+pub record HasMoves (resources : List Resource) (postings : List PostingRow) (taken : ℕ)
+    (places : List ℕ) (rows : List MoveRow) : Type 0 where
   pub order : AreInOrder (λ (posting : PostingRow). posting.number) postings
   pub so_far : MovesSoFar resources postings rows
   pub count : length rows ≡ taken

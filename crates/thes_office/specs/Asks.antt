@@ -20,7 +20,8 @@ pub record Asks {K T : Type 0} (rows : K → Raw) (is_up : K → Type 0) (failed
   pub cause : HasCause (failed old) (failed new) result
 
 -- The tables are read, and stay; of the faults, one of the store has its cause.
-pub record IsRead {K T : Type 0} (rows : K → Raw) (is_up : K → Type 0) (failed : K → ℕ) (old new : K) (result : Result T Fault) : Type 0 where
+pub record IsRead {K T : Type 0} (rows : K → Raw) (is_up : K → Type 0) (failed : K → ℕ)
+    (old new : K) (result : Result T Fault) : Type 0 where
   pub same : is_up new → rows new ≡ rows old
   pub was : is_up new → is_up old
   pub later : failed old ≤ failed new

@@ -22,7 +22,8 @@ abbrev pub rows_at : State → ℕ → List PostingRow
 rows_at s concept = map posting_row (standing_histories concept s.histories)
 
 -- The sink took the rows, or none where the number is no concept's; a fault comes after some first ones.
-abbrev pub Lists : {S : Type 0} → (S → PostingRow → Result (Unit {0}) Fault → S → Type 0) → Raw → ℕ → S → Result (Option Refusal) Fault → S → Type 0
+abbrev pub Lists : {S : Type 0} → (S → PostingRow → Result (Unit {0}) Fault → S → Type 0) → Raw → ℕ
+    → S → Result (Option Refusal) Fault → S → Type 0
 Lists gives raw concept old (Ok None) new =
     InShown raw (λ s. JudgesConcept s concept None × Takes gives old (rows_at s concept) new)
 Lists gives raw concept old (Ok (Some refusal)) new =

@@ -44,7 +44,8 @@ pub record IsCopy (raw : Raw) (limits : Limits) (copy : core.Kept) : Type 0 wher
 
 -- The tables show a state, and the copy is that state unless it is stale. It is stale only where memory for it ran out, or
 -- once the keeper has failed.
-pub record IsConsistent {K : Type 0} (rows : K → Raw) (is_up : K → Type 0) (failed : K → ℕ) (keeper : K) (copy : core.Kept) (limits : Limits) (stale : Bool) : Type 0 where
+pub record IsConsistent {K : Type 0} (rows : K → Raw) (is_up : K → Type 0) (failed : K → ℕ)
+    (keeper : K) (copy : core.Kept) (limits : Limits) (stale : Bool) : Type 0 where
   pub few : AreLimits limits
   pub shows : is_up keeper → (base : List ℕ) × (s : State) × Shows (rows keeper) base s
   pub unspent : stale ≡ false → copy.spent ≡ false
@@ -53,7 +54,8 @@ pub record IsConsistent {K : Type 0} (rows : K → Raw) (is_up : K → Type 0) (
 
 -- What each call keeps. A fault is OutOfMemory, or Store: then the count of failures rose, or stood at its
 -- greatest value, and the copy is stale.
-pub record Goes {K T : Type 0} (rows : K → Raw) (is_up : K → Type 0) (failed : K → ℕ) (old new : Kept K) (result : Result T Fault) : Type 0 where
+pub record Goes {K T : Type 0} (rows : K → Raw) (is_up : K → Type 0) (failed : K → ℕ)
+    (old new : Kept K) (result : Result T Fault) : Type 0 where
   pub limits : new.limits ≡ old.limits
   pub was : is_up new.keeper → is_up old.keeper
   pub later : failed old.keeper ≤ failed new.keeper
@@ -101,7 +103,8 @@ Performed rows is_up old command (Err fault) new = Same rows is_up old new
 
 -- Some of the requests were answered, but not all, and their answers stand after those before; the tables are those after
 -- just these.
-pub record RanPart {K : Type 0} (rows : K → Raw) (is_up : K → Type 0) (old : Kept K) (commands : List Command) (before after : List Answer) (new : Kept K) : Type 0 where
+pub record RanPart {K : Type 0} (rows : K → Raw) (is_up : K → Type 0) (old : Kept K)
+    (commands : List Command) (before after : List Answer) (new : Kept K) : Type 0 where
   pub done : List Command
   pub left : List Command
   pub answers : List Answer
@@ -111,13 +114,15 @@ pub record RanPart {K : Type 0} (rows : K → Raw) (is_up : K → Type 0) (old :
   pub goes_on : is_up new.keeper → GoesOn old.limits (rows old.keeper) done answers (rows new.keeper)
 
 -- All of the requests were.
-pub record RanAll {K : Type 0} (rows : K → Raw) (is_up : K → Type 0) (old : Kept K) (commands : List Command) (before after : List Answer) (new : Kept K) : Type 0 where
+pub record RanAll {K : Type 0} (rows : K → Raw) (is_up : K → Type 0) (old : Kept K)
+    (commands : List Command) (before after : List Answer) (new : Kept K) : Type 0 where
   pub answers : List Answer
   pub kept : after ≡ before ++ answers
   pub goes_on : is_up new.keeper → GoesOn old.limits (rows old.keeper) commands answers (rows new.keeper)
 
 -- The answers and the tables are those of a run of the machine; a fault ends it after some of the requests.
-abbrev pub Ran : {K : Type 0} → (K → Raw) → (K → Type 0) → Kept K → List Command → List Answer → List Answer → Result (Unit {0}) Fault → Kept K → Type 0
+abbrev pub Ran : {K : Type 0} → (K → Raw) → (K → Type 0) → Kept K → List Command → List Answer
+    → List Answer → Result (Unit {0}) Fault → Kept K → Type 0
 Ran rows is_up old commands before after (Ok done) new = RanAll rows is_up old commands before after new
 Ran rows is_up old commands before after (Err fault) new = RanPart rows is_up old commands before after new
 
@@ -127,7 +132,8 @@ pub record IsShown {K : Type 0} (rows : K → Raw) (is_up : K → Type 0) (new :
   pub copies : is_up new.keeper → IsCopy (rows new.keeper) new.limits copy
 
 -- A core that was handed out is that of the tables, which are as before.
-pub record Readied {K : Type 0} (rows : K → Raw) (is_up : K → Type 0) (failed : K → ℕ) (old : Kept K) (result : Result (Bor core.Kept) Fault) (new : Kept K) : Type 0 where
+pub record Readied {K : Type 0} (rows : K → Raw) (is_up : K → Type 0) (failed : K → ℕ)
+    (old : Kept K) (result : Result (Bor core.Kept) Fault) (new : Kept K) : Type 0 where
   pub goes : Goes rows is_up failed old new result
   pub same : Same rows is_up old new
   pub fresh : OnOk result (new.stale ≡ false)

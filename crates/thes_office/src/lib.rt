@@ -1,11 +1,11 @@
 //! Requests over a keeper of the tables.
 #![tactic(auto)]
 
-pub mod facts;
-pub mod loading;
+mod facts;
+mod loading;
 pub mod numbers;
 pub mod office;
-pub mod reading;
-pub mod serving;
+mod reading;
+mod serving;
 
 pub use office::Office;

@@ -42,7 +42,8 @@ AreFound resources labels names =
     (scheme n : ℕ) (tag text : List ℕ) → IsHolder resources labels scheme tag text n
     → holder_in names scheme tag text ≡ Some n
 
-pub record IsLoading (base : List ℕ) (resources : List Resource) (iris : Iris) (labels : Labels) (names : Names) (concepts : Lists ℕ) : Type 0 where
+pub record IsLoading (base : List ℕ) (resources : List Resource) (iris : Iris) (labels : Labels)
+    (names : Names) (concepts : Lists ℕ) : Type 0 where
   pub sound : AreSound resources
   pub iris_so_far : AreIrisSoFar base resources iris
   pub labels_so_far : AreLabelsSoFar resources labels
