@@ -21,7 +21,8 @@ use std::alloc::{AllocError, Global};
 use thes_base::fault::Refusal;
 use thes_base::number::ResNo;
 
-// Advances the walk that has met fewer nodes, and answers whether it found a goal.
+// Advances the walk that would then have read less, and answers whether it found a goal. What a walk has read is about what it
+// has met; so none reads the many links of a broad node while the other still has few.
 fn take_turn<L: Links>(
     links: &mut L,
     sight: &Sight,
@@ -43,7 +44,11 @@ fn take_turn<L: Links>(
         → MatchBool found (HaveMet sight.now (L.held links.old) lows.now highs.now low high from (L.count links.new))
         (AreInTurn sight.now (L.held links.old) lows.now highs.now low high up.new down.new from (L.count links.new))) }
 {
-    if up.nodes.as_slice().len() <= down.nodes.as_slice().len() {
+    let up_part = up.next_part(links, Relation::Broader);
+    let down_part = down.next_part(links, Relation::Narrower);
+    let up_read = up.nodes.as_slice().len().saturating_add(up_part.size());
+    let down_read = down.nodes.as_slice().len().saturating_add(down_part.size());
+    if up_read <= down_read {
         let found = up.advance(links, sight, Relation::Broader, lows)?;
         return Ok(found);
     }

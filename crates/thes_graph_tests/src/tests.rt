@@ -369,7 +369,45 @@ fn visits_on_one_side(rt: HostRuntime) -> Result<(), Fail> {
     for n in 2..503u32 {
         run(&rt, alloc, &mut graph, &[(Broader, n, 1, None)])?;
     }
-    assert_eq!(rt; visits(alloc, &graph, &link(Broader, 600, 2))?, Some(3));
+    // the link is looked up, and the one link up from 2 is read
+    assert_eq!(rt; visits(alloc, &graph, &link(Broader, 600, 2))?, Some(2));
+    Ok(())
+}
+
+// How many visits it takes to judge the merge, where nothing speaks against it.
+fn visits_of_merge(
+    alloc: Global,
+    graph: &Graph,
+    source: u32,
+    target: u32,
+) -> Result<Option<u64>, AllocError> {
+    if source == target {
+        return Ok(None);
+    }
+    match graph.check_whole(alloc)? {
+        None => {
+            let mut walk = graph.walk();
+            let answer = judge_contract(alloc, &mut walk, no(source), no(target))?;
+            Ok(answer.is_none().then_some(walk.visits()))
+        }
+        Some(_) => Ok(None),
+    }
+}
+
+// Where the way up is short, nothing of what lies below a broad concept is read, though it is the one that the edit is about.
+#[test]
+fn visits_above_a_broad_concept(rt: HostRuntime) -> Result<(), Fail> {
+    let alloc = rt.alloc();
+    let mut graph = Graph::new(alloc);
+    run(&rt, alloc, &mut graph, &[(Broader, 600, 601, None)])?;
+    for n in 2..503u32 {
+        run(&rt, alloc, &mut graph, &[(Broader, n, 1, None)])?;
+    }
+    // the link is looked up, and the one link up from 600 is read
+    assert_eq!(rt; visits(alloc, &graph, &link(Broader, 1, 600))?, Some(2));
+    run(&rt, alloc, &mut graph, &[(Broader, 1, 600, None)])?;
+    // the links up from the target are read: from 1, and from 600
+    assert_eq!(rt; visits_of_merge(alloc, &graph, 700, 1)?, Some(2));
     Ok(())
 }
 

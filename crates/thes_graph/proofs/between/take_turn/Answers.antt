@@ -1,8 +1,8 @@
 use Rattle.thes_graph.proofs.BetweenLemmas.{turn_up, turn_down}
 use Rattle.thes_graph.proofs.between.take_turn.Goals as goal
 
-pub returns-then-as_slice-clause-goes : goal.returns-then-as_slice-clause-goes
-returns-then-as_slice-clause-goes g c low high from =
+pub returns-then-up_read-down_read-clause-goes : goal.returns-then-up_read-down_read-clause-goes
+returns-then-up_read-down_read-clause-goes g c low high from =
     turn_up c.args.sight.now (g.L.Links.held c.args.links.now) c.args.lows.now c.args.highs.now low high from c.args.up.now c.args.down.now
     c.advance.new.self (g.L.Links.count c.args.links.now) (g.L.Links.count c.advance.new.links) c.in_ok-found.found (c.in_ok-found.ensures.goes high)
 
