@@ -381,13 +381,14 @@ fn visits_of_merge(
     source: u32,
     target: u32,
 ) -> Result<Option<u64>, AllocError> {
+    let (source, target) = (no(source), no(target));
     if source == target {
         return Ok(None);
     }
     match graph.check_whole(alloc)? {
         None => {
             let mut walk = graph.walk();
-            let answer = judge_contract(alloc, &mut walk, no(source), no(target))?;
+            let answer = judge_contract(alloc, &mut walk, source, target)?;
             Ok(answer.is_none().then_some(walk.visits()))
         }
         Some(_) => Ok(None),
