@@ -7,7 +7,7 @@ use Rattle.thes_base.specs.declared.data.Link.{Link}
 use Rattle.thes_base.specs.declared.fault.Refusal.{Refusal}
 use Rattle.thes_base.specs.declared.fault.Refusal.TheVariants as no
 use Rattle.thes_base.specs.Links.{Links, Chain, IsBroader, IsAbove}
-use Rattle.thes_base.proofs.ListMembers.{Contains-head, Contains-cons_cases, Contains-none}
+use Rattle.thes_base.proofs.ListMembers.{Contains-head}
 use Rattle.thes_graph.specs.declared.relation.Relation.{Relation}
 use Rattle.thes_graph.specs.declared.relation.Relation.TheVariants.{Broader, Narrower}
 use Rattle.thes_graph.specs.declared.side.Side.TheVariants.{Beside}
@@ -17,14 +17,12 @@ use Rattle.thes_graph.specs.Side.{side_in}
 use Rattle.thes_graph.specs.Sight.{WouldBe, CoversAt}
 use Rattle.thes_graph.specs.Steps.{Steps, Reaches}
 use Rattle.thes_graph.specs.Trail.{spent, IsHierarchy, IsTrail, LeadsTo, GoesOn, AreInTurn, HaveMet, IsRest, IsBrokenBetween, CoversBetween}
+use Rattle.thes_graph.proofs.ReachLemmas.{only}
 use Rattle.thes_graph.proofs.PivotLemmas.{Chain-turn}
 use Rattle.thes_graph.proofs.ProbeLemmas.{narrower_from, narrower_to, below_from, below_to}
 use Rattle.thes_graph.proofs.KindLemmas.{related_turns}
 use Rattle.thes_graph.proofs.SpentLemmas.{spent_two}
 use Rattle.thes_graph.proofs.GoesLemmas.{IsTrail-start, IsTrail-paid, IsTrail-reach, IsTrail-away, leads_one_way}
-
-only : (x y : ℕ) → Contains (x ∷ []) y → x ≡ y
-only x y has = elim (Contains-cons_cases x [] y has) [ inl same ↦ same | inr none ↦ absurd (Contains-none y none) ]
 
 module _ (sight : Sight) (held : Links) where
   abbrev Would : Link → Type 0
