@@ -76,28 +76,34 @@ module _ (sight : Sight) (held : Links) where
 
   -- the walk up is done
   module _ (low high : ℕ) (up down : Trail) (a : ℕ) (done : length up.nodes ≤ up.next) (is : IsTrail sight held Broader (low ∷ []) high up a) where
+    off_up : IsAbove Would high low → ⊥
+    off_up above = IsTrail-away sight held Broader (low ∷ []) high up a done is (low, Contains-head low [], above)
+
     pub broken_up : (rest : Option Refusal) → IsRest sight held Narrower (high ∷ []) up.nodes low rest → IsBrokenBetween Would low high rest
     broken_up None apart = (
-      λ above. IsTrail-away sight held Broader (low ∷ []) high up a done is (low, Contains-head low [], above),
+      off_up,
       λ x y to from related. apart y x ((IsTrail-reach sight held Broader (low ∷ []) high up a done is).complete y from) (below_to Would low x to) (related_turns Would x y related),
     )
     broken_up (Some no.Cycle) leads = found_down low high leads
     broken_up (Some no.S27) (x, y, has, reach, related) = (
-      λ above. IsTrail-away sight held Broader (low ∷ []) high up a done is (low, Contains-head low [], above),
+      off_up,
       (y, x, below_from Would low y reach, (IsTrail-reach sight held Broader (low ∷ []) high up a done is).sound x has, related_turns Would x y related),
     )
     broken_up (Some _) h = absurd h
 
   -- the walk down is done
   module _ (low high : ℕ) (down : Trail) (b : ℕ) (done : length down.nodes ≤ down.next) (is : IsTrail sight held Narrower (high ∷ []) low down b) where
+    off_down : IsAbove Would high low → ⊥
+    off_down above = IsTrail-away sight held Narrower (high ∷ []) low down b done is (high, Contains-head high [], chain_down low high above)
+
     pub broken_down : (rest : Option Refusal) → IsRest sight held Broader (low ∷ []) down.nodes high rest → IsBrokenBetween Would low high rest
     broken_down None apart = (
-      λ above. IsTrail-away sight held Narrower (high ∷ []) low down b done is (high, Contains-head high [], chain_down low high above),
+      off_down,
       λ x y to from related. apart x y ((IsTrail-reach sight held Narrower (high ∷ []) low down b done is).complete x (below_to Would low x to)) from related,
     )
     broken_down (Some no.Cycle) leads = found_up low high leads
     broken_down (Some no.S27) (x, y, has, reach, related) = (
-      λ above. IsTrail-away sight held Narrower (high ∷ []) low down b done is (high, Contains-head high [], chain_down low high above),
+      off_down,
       (x, y, below_from Would low x ((IsTrail-reach sight held Narrower (high ∷ []) low down b done is).sound x has), reach, related),
     )
     broken_down (Some _) h = absurd h
