@@ -1,5 +1,5 @@
 -- A merge: the new links are added, and those at the source dropped.
-use Rattle.std.proofs.Common.{◌≡◌, ◌≢◌, ◌⊎◌, ◌+◌, ◌<◌, ◌++◌, length, get_or, inl, inr, ℕ, zero, suc, List, [], ◌∷◌, Bool, true, false, ◌==◌, Contains, take, Option, Some, None, if◌then◌else◌, refl, sym, ap, subst, ◌∙◌}
+use Rattle.std.proofs.Common.{◌≡◌, ◌≢◌, ◌⊎◌, ◌+◌, ◌<◌, ◌++◌, length, get_or, inl, inr, ℕ, List, [], ◌∷◌, Bool, true, false, ◌==◌, Contains, take, Option, Some, None, if◌then◌else◌, refl, sym, ap, subst, ◌∙◌}
 use Rattle.std.specs.Prelude.{option_and_then}
 use Rattle.std.specs.List.{filter_map, cons_option}
 use Rattle.std.specs.Option.{option_to_list}
@@ -11,7 +11,6 @@ use Rattle.std.proofs.lemmas.Bool.{false_from_ne_true, both_ways}
 use Rattle.std.proofs.lemmas.Option.{none-some, same_Some}
 use Rattle.thes_base.specs.declared.data.Link.{Link}
 use Rattle.thes_base.specs.Links.{Links, HeldIn, norm, sent, sent_link, contracted, without_node}
-use Rattle.thes_base.proofs.ListMembers.{Contains-none, Contains-head, Contains-later, Contains-cons_cases}
 use Rattle.thes_base.proofs.LinkLemmas.{sent_never, sent_other, sent_stays}
 use Rattle.thes_base.proofs.ResourceLemmas.{same_or_not}
 use Rattle.thes_graph.specs.Reading.{HaveTwoEnds, EndsAt}
@@ -26,14 +25,6 @@ use Rattle.thes_graph.proofs.SetLemmas.{same_links}
 use Rattle.thes_graph.proofs.ContractLemmas.{contracted_from, contracted_to}
 use Rattle.thes_graph.proofs.IndexLemmas.{standings_from, standings_to}
 use Rattle.thes_graph.proofs.ChangeLemmas.{with_from, with_keeps, with_has, without_node_from, without_node_to}
-
-pub Contains-take : {X : Type 0} → (i : ℕ) (xs : List X) (x : X) → Contains (take i xs) x → Contains xs x
-Contains-take zero xs x has = absurd (Contains-none x has)
-Contains-take (suc i) [] x has = absurd (Contains-none x has)
-Contains-take {X} (suc i) (y ∷ ys) x has = elim (Contains-cons_cases y (take i ys) x has) [
-  | inl same ↦ subst (λ (z : X). Contains (y ∷ ys) z) same (Contains-head y ys)
-  | inr later ↦ Contains-later y ys x (Contains-take i ys x later)
-]
 
 unless_held-some : (links : Links) (l m : Link) → unless_held links l ≡ Some m → (l ≡ m) × (HeldIn links l → ⊥)
 unless_held-some links l m e = go (contains links l) refl e
