@@ -13,9 +13,9 @@ use Rattle.thes_base.specs.Texts.{IsPostingForm}
 use Rattle.thes_base.proofs.NumberedLemmas.{push_cases, numbered_bound}
 use Rattle.thes_base.proofs.SetMembers.{or_swap}
 use Rattle.thes_rows.specs.declared.rows.PostingRow.{PostingRow}
-use Rattle.thes_rows.proofs.Sets.{clash, in_any, any_in}
+use Rattle.thes_rows.proofs.Sets.{clash, in_any, any_in, in_map, map_in}
 use Rattle.thes_tables.specs.Rules.{PostingRule}
-use Rattle.thes_tables.proofs.Lists.{in_numbered, numbered_in, in_map, map_in}
+use Rattle.thes_tables.proofs.Lists.{in_numbered, numbered_in}
 use Rattle.thes_load.specs.Forms.{HasPostingForm}
 use Rattle.thes_post.specs.Sums.{Sums, IsTold}
 use Rattle.thes_load.specs.Counted.{AreSumsOf}
@@ -53,7 +53,7 @@ module _ (rs : List Resource) (keys : List (List ℕ)) (firsts ats : List ℕ) (
 
   pub key_held : has_key keys p.key ≡ true → (more : List PostingRow) → PostingRule rs (rows ++ p ∷ more) → ⊥
   key_held held more all =
-      let row = map_in key_of rows p.key (in_any nat_list_cmp_total keys_exact p.key (map key_of rows) (sym (has.keys_are p.key) ∙ held)) in
+      let row = in_map key_of p.key rows (in_any nat_list_cmp_total keys_exact p.key (map key_of rows) (sym (has.keys_are p.key) ∙ held)) in
       let at = in_numbered rows row.0 row.1 in
       let same = all.keys at.0 (length rows + 1) row.0 p (numbered_still rows (p ∷ more) at.0 row.0 at.1) (numbered_next rows p more) (sym row.2) in
       let b = (numbered_bound rows at.0 row.0 at.1).1 in
@@ -61,7 +61,7 @@ module _ (rs : List Resource) (keys : List (List ℕ)) (firsts ats : List ℕ) (
 
   -- a row that has the key
   row_held : (n : ℕ) (row : PostingRow) → numbered rows n ≡ Some row → row.key ≡ p.key → has_key keys p.key ≡ true
-  row_held n row e same = has.keys_are p.key ∙ ap (has_key (map key_of rows)) (sym same) ∙ any_in nat_list_cmp_total keys_exact row.key (map key_of rows) (in_map key_of rows row (numbered_in rows n row e))
+  row_held n row e same = has.keys_are p.key ∙ ap (has_key (map key_of rows)) (sym same) ∙ any_in nat_list_cmp_total keys_exact row.key (map key_of rows) (map_in key_of row rows (numbered_in rows n row e))
 
   keys_push : has_key keys p.key ≡ false → (m n : ℕ) (x y : PostingRow) → numbered (rows ++ p ∷ []) m ≡ Some x → numbered (rows ++ p ∷ []) n ≡ Some y → x.key ≡ y.key → m ≡ n
   keys_push free m n x y ex ey same = both (push_cases rows p x m ex) (push_cases rows p y n ey)
