@@ -1,14 +1,10 @@
 -- What a call that prints has written.
-use Rattle.std.proofs.Common.{◌≡◌, ◌⊎◌, inl, inr, Bool, true, false, Result, Ok, Err}
+use Rattle.std.proofs.Common.{◌⊎◌, inl, inr, Bool, true, false, Result, Ok, Err}
 use Rattle.std.specs.Prelude.{MatchBool, OnOk, OnErr}
 
 pub either : (b : Bool) (A B : Type 0) → MatchBool b A B → A ⊎ B
 either true A B h = inl h
 either false A B h = inr h
-
-pub whole : (b : Bool) (A B : Type 0) → MatchBool b A B → b ≡ true → A
-whole true A B h e = h
-whole false A B h e = cc
 
 pub done_or_not : {T X : Type 0} (result : Result T X) (A B : Type 0) → OnOk result A → OnErr result B → A ⊎ B
 done_or_not (Ok x) A B h k = inl h

@@ -1,5 +1,5 @@
 -- The changes that are listed are those of the request.
-use Rattle.std.proofs.Common.{◌≡◌, ◌≢◌, ◌⊎◌, ◌<◌, ℕ, zero, suc, ◌+◌, length, List, [], ◌∷◌, ◌++◌, refl, sym, ap, ◌∙◌, subst, arith, map, take, false, inl, inr, Contains}
+use Rattle.std.proofs.Common.{◌≡◌, ◌≢◌, ◌<◌, ℕ, zero, suc, ◌+◌, length, List, [], ◌∷◌, ◌++◌, refl, sym, ap, ◌∙◌, subst, arith, map, take, false, inl, inr, Contains}
 use Rattle.std.specs.Prelude.{Some, None, Result, IfOk, AllPairs, slice_get}
 use Rattle.std.specs.List.Sorted.{IsPermutation, IsNonDecreasing}
 use Rattle.std.proofs.lemmas.List.{append-nil}
@@ -11,13 +11,13 @@ use Rattle.thes_base.specs.declared.request.Command.TheVariants as request
 use Rattle.thes_base.specs.Resources.{scheme_of, replacements}
 use Rattle.thes_base.specs.Postings.{move_count, end_of, moves_along}
 use Rattle.thes_base.specs.Changes.{concept_resource, next_number, is_listed, deprecated}
-use Rattle.thes_base.specs.Links.{HeldIn, without_node}
+use Rattle.thes_base.specs.Links.{HeldIn, without_node, HasEnd}
 use Rattle.thes_base.specs.Machine.{next_state}
 use Rattle.thes_base.proofs.Forwarding.{along_led}
 use Rattle.thes_base.proofs.LinkSets.{links_total, links_exact, without_node_from, without_node_to}
-use Rattle.thes_base.proofs.ResourceLemmas.{same_or_not}
 use Rattle.thes_base.proofs.ListMembers.{Contains-head, Contains-later, Contains-cons_cases, Contains-none}
-use Rattle.thes_graph.specs.Reading.{IsRow, EndsAt}
+use Rattle.thes_graph.specs.Reading.{IsRow}
+use Rattle.thes_graph.proofs.NormLemmas.{ends_or_not}
 use Rattle.thes_rows.specs.declared.rows.MoveRow.{MoveRow}
 use Rattle.thes_rows.specs.declared.change.Change.{Change}
 use Rattle.thes_rows.specs.declared.change.Change.TheVariants as change
@@ -103,12 +103,6 @@ pub once_apart : {A : Type 0} (xs : List A) → AllPairs (λ x y. x ≢ y) xs �
 once_apart [] apart = tt
 once_apart (x ∷ xs) apart = (λ h. (let c = in_contains xs x h in apart 0 (suc c.0) x (omega arith) (let l = c.1 in omega arith) (sym c.2)), once_apart xs (λ i j d l m. apart (suc i) (suc j) d (omega arith) (omega arith)))
 
-pub ends_or_not : (n : ℕ) (l : Link) → EndsAt n l ⊎ (EndsAt n l → ⊥)
-ends_or_not n l = elim (same_or_not l.a n) [
-  | inl a ↦ inl (inl a)
-  | inr a ↦ elim (same_or_not l.b n) [ inl b ↦ inl (inr b) | inr b ↦ inr (λ at. elim at [ inl e ↦ a e | inr e ↦ b e ]) ]
-]
-
 -- A deprecation: the links at the concept go.
 module _ (t : Thesaurus) (hs : List History) (concept : ℕ) (ok : Allows t hs (request.Deprecate concept)) (gone : List Link) (row : IsRow t.graph.links concept gone) where
   goes : Lists (λ q. HeldIn t.graph.links q × (HeldIn (without_node concept t.graph.links) q → ⊥)) gone
@@ -118,7 +112,7 @@ module _ (t : Thesaurus) (hs : List History) (concept : ℕ) (ok : Allows t hs (
     once = once_apart gone row.once;
   }
     where
-      ends : (q : Link) → HeldIn t.graph.links q × (HeldIn (without_node concept t.graph.links) q → ⊥) → EndsAt concept q
+      ends : (q : Link) → HeldIn t.graph.links q × (HeldIn (without_node concept t.graph.links) q → ⊥) → HasEnd concept q
       ends q h = elim (ends_or_not concept q) [ inl at ↦ at | inr off ↦ absurd (h.1 (without_node_to concept t.graph.links q (h.0, off))) ]
 
   comes : Lists (λ q. HeldIn (without_node concept t.graph.links) q × (HeldIn t.graph.links q → ⊥)) []

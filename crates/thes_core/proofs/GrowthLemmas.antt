@@ -18,8 +18,9 @@ use Rattle.thes_base.specs.Changes.{label, made, label_added, labels_relabelled,
 use Rattle.thes_base.specs.Legal.{Legal, LegalLabels}
 use Rattle.thes_base.proofs.LabelSets.{len_inserted, labels_total, inserted_cases, removed_cases}
 use Rattle.thes_base.proofs.PreferredLemmas.{preferred_found, preferred_of_label}
-use Rattle.thes_base.proofs.ResourceLemmas.{marked_dead_at, length_set}
+use Rattle.thes_base.proofs.ResourceLemmas.{marked_dead_at}
 use Rattle.std.proofs.lemmas.Bool.{false_from_ne_true}
+use Rattle.std.proofs.lemmas.List.{length-set}
 use Rattle.thes_base.proofs.Forwarding.{count_posted}
 use Rattle.thes_base.proofs.MoveLemmas.{count_moved, length_moved}
 use Rattle.thes_base.proofs.NumberedLemmas.{numbered_bound}
@@ -170,7 +171,7 @@ length_marked_dead rs n rep = go (numbered rs n) refl
   where
     go : (o : Option Resource) → numbered rs n ≡ o → length (marked_dead n rep rs) ≡ length rs
     go None e = ap (λ (o : Option Resource). length {A = Resource} (elim o [ None ↦ rs | Some x ↦ set_numbered rs n (dead rep x) ])) e
-    go (Some r) e = ap length (marked_dead_at rs n rep r e) ∙ length_set rs (n - 1) (dead rep r)
+    go (Some r) e = ap length (marked_dead_at rs n rep r e) ∙ length-set rs (n - 1) (dead rep r)
 
 pub merged_grows : (s : State) (source target taken : ℕ) → set.len (set.union s.labels (taken_labels source target s.labels)) ≡ set.len s.labels + taken → set.len (contracted (is_outside s.resources) source target s.links) ≤ set.len s.links → Grows s (merged source target s) (growth_of 0 taken 0 0 (standing_count source s.histories))
 merged_grows s source target taken labels links = record {

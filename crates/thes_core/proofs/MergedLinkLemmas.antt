@@ -5,16 +5,16 @@ use Rattle.std.specs.FinSet.{contains}
 use Rattle.std.proofs.lemmas.Bool.{eqb-false, ne_eqb}
 use Rattle.std.proofs.lemmas.Option.{same_Some}
 use Rattle.thes_base.specs.declared.data.Link.{Link}
-use Rattle.thes_base.specs.Links.{Links, HeldIn, norm, sent, sent_link, contracted}
+use Rattle.thes_base.specs.Links.{Links, HeldIn, norm, sent, sent_link, contracted, HasEnd}
 use Rattle.thes_base.proofs.LinkSets.{links_total, links_exact, contracted_from, contracted_to}
 use Rattle.thes_base.proofs.LinkLemmas.{sent_never, sent_other, sent_stays}
 use Rattle.thes_graph.specs.Net.{Net, is_marked}
-use Rattle.thes_graph.specs.Reading.{IsRow, EndsAt}
-use Rattle.thes_graph.proofs.NormLemmas.{norm_ends}
+use Rattle.thes_graph.specs.Reading.{IsRow}
+use Rattle.thes_graph.proofs.NormLemmas.{norm_ends, ends_or_not}
 use Rattle.thes_rows.specs.Tables.{IsIn, Lists}
 use Rattle.thes_rows.proofs.Sets.{clash, absent, lists_same}
 use Rattle.thes_core.specs.Deltas.{joined_link}
-use Rattle.thes_core.proofs.DeltaLemmas.{contains_in, in_contains, once_apart, ends_or_not}
+use Rattle.thes_core.proofs.DeltaLemmas.{contains_in, in_contains, once_apart}
 
 module _ (net : Net) (source target : ℕ) (different : source ≢ target)
     (two_ends : (l : Link) → HeldIn net.links l → l.a ≢ l.b) (normal : (l : Link) → HeldIn net.links l → norm (is_marked net) l ≡ l)
@@ -26,16 +26,16 @@ module _ (net : Net) (source target : ℕ) (different : source ≢ target)
   become l = norm (is_marked net) (sent_link source target l)
 
   -- A link at the source goes.
-  never : (q : Link) → EndsAt source q → HeldIn after q → ⊥
+  never : (q : Link) → HasEnd source q → HeldIn after q → ⊥
   never q at kept =
       let c = contracted_from (is_marked net) source target net.links q kept in
-      elim (norm_ends (is_marked net) (sent_link source target c.0) source (subst (EndsAt source) c.3 at)) [ inl a ↦ sent_never source target different c.0.a a | inr b ↦ sent_never source target different c.0.b b ]
+      elim (norm_ends (is_marked net) (sent_link source target c.0) source (subst (HasEnd source) c.3 at)) [ inl a ↦ sent_never source target different c.0.a a | inr b ↦ sent_never source target different c.0.b b ]
 
   -- Another link stays.
-  stays_itself : (q : Link) → HeldIn net.links q → (EndsAt source q → ⊥) → become q ≡ q
+  stays_itself : (q : Link) → HeldIn net.links q → (HasEnd source q → ⊥) → become q ≡ q
   stays_itself q held off = ap (norm (is_marked net)) (sent_stays source target q (λ a. off (inl a)) (λ b. off (inr b))) ∙ normal q held
 
-  stays : (q : Link) → HeldIn net.links q → (EndsAt source q → ⊥) → HeldIn after q
+  stays : (q : Link) → HeldIn net.links q → (HasEnd source q → ⊥) → HeldIn after q
   stays q held off =
       contracted_to (is_marked net) source target net.links q
       (q, held, λ e. two_ends q held (sym (sent_other source target q.a (λ k. off (inl k))) ∙ e ∙ sent_other source target q.b (λ k. off (inr k))), sym (stays_itself q held off))

@@ -4,18 +4,18 @@
 mod arguments;
 mod changes;
 mod changing;
-pub mod displayed;
-pub mod exported;
-pub mod facts;
+mod displayed;
+mod exported;
+mod facts;
 mod judging;
-pub mod machine;
+mod machine;
 mod named;
-pub mod parts;
+mod parts;
 pub mod reading;
 mod room;
-pub mod shown;
+mod shown;
 mod thesaurus;
-pub mod verdict;
+mod verdict;
 
 pub use facts::Facts;
 pub use machine::Core;

@@ -5,7 +5,7 @@
 #![tactic(auto)]
 
 pub mod failing;
-pub mod store;
+mod store;
 pub mod ways;
 
 pub use store::{Store, invalid, store_after};

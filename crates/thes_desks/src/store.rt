@@ -44,8 +44,8 @@ impl Store {
         open(alloc, MemKeeper::new(alloc, base), limits)
     }
 
-    /// Closes the store, and opens its tables again.
-    pub fn reopened(self, alloc: Global, limits: Limits) -> io::Result<Store> {
+    // Closes the store, and opens its tables again.
+    fn reopened(self, alloc: Global, limits: Limits) -> io::Result<Store> {
         let Store { desk } = self;
         open(alloc, desk.into_office().into_keeper(), limits)
     }

@@ -7,9 +7,9 @@ use Rattle.thes_display.specs.Lines.{Line, lines_text, path, line_cmp, line_text
 use Rattle.thes_display.specs.Below.{at, IsLineOf, IsHierarchy, waiting_at, IsHierarchyText, child, IsTopOf, IsChildOf, IsTypedUnder}
 use Rattle.std.proofs.lemmas.List.{reverse-append, reverse-reverse, length-reverse, map-append}
 use Rattle.std.proofs.lemmas.List.Concat.{flat_map-append}
+use Rattle.std.proofs.lemmas.Bool.{cases_eq}
 use Rattle.thes_display.proofs.WalkLemmas.{Among, among, contains_of, among_map, map_among, among_left, among_right, among_append, IsWalk, rises_none, less_itself, up, onto, placed, placed_apart, walk_step, walk_done}
 use Rattle.thes_display.proofs.PlaceLemmas.{below_away, below_home, children_below, one_home_line, line_known}
-use Rattle.thes_base.proofs.ResourceLemmas.{same_or_not}
 
 -- a line as it waits
 abbrev pub frame : Line → Waiting
@@ -178,7 +178,7 @@ module _ (terms : List Term) (tops : List Child) (below : List (List Child)) (n 
     left_more : (left' : List (List Child)) → next.at_home ≡ true → left' ≡ set left next.key [] → (k : ℕ) → (at left' k ≡ at below k) ⊎ ((w : Line) × Among w (s.written ++ s.line ∷ []) × (w.at_home ≡ true) × (w.key ≡ k))
     left_more left' home e k =
         let here : next.key ≡ s.line.key = ap (λ (f : Waiting). f.key) s.next_is in
-        elim (same_or_not k next.key) [
+        elim (cases_eq k next.key) [
           | inl same ↦ inr (s.line, among_right s.line s.written (s.line ∷ []) (inl refl), sym next_home ∙ home, sym here ∙ sym same)
           | inr other ↦
               ⊎_elim (λ f. inl (ap (λ x. at x k) e ∙ at_other left next.key k other ∙ f))

@@ -13,7 +13,7 @@ mod members;
 mod numeral;
 pub mod request;
 pub mod script;
-pub mod serve;
+mod serve;
 mod tree;
 pub mod view;
 pub mod viewing;

@@ -7,7 +7,7 @@ use Rattle.thes_base.specs.declared.data.Link.{Link}
 use Rattle.thes_base.specs.declared.fault.Refusal.{Refusal}
 use Rattle.thes_base.specs.declared.fault.Refusal.TheVariants as no
 use Rattle.thes_base.specs.Links.{Links, Chain, IsBroader, IsAbove}
-use Rattle.thes_base.proofs.ListMembers.{Contains-head, Contains-cons_cases, Contains-none}
+use Rattle.thes_base.proofs.ListMembers.{Contains-head}
 use Rattle.thes_graph.specs.declared.relation.Relation.{Relation}
 use Rattle.thes_graph.specs.declared.relation.Relation.TheVariants.{Broader, Narrower}
 use Rattle.thes_graph.specs.declared.side.Side.TheVariants.{Beside}
@@ -17,14 +17,12 @@ use Rattle.thes_graph.specs.Side.{side_in}
 use Rattle.thes_graph.specs.Sight.{WouldBe, CoversAt}
 use Rattle.thes_graph.specs.Steps.{Steps, Reaches}
 use Rattle.thes_graph.specs.Trail.{spent, IsHierarchy, IsTrail, LeadsTo, GoesOn, AreInTurn, HaveMet, IsRest, IsBrokenBetween, CoversBetween}
+use Rattle.thes_graph.proofs.ReachLemmas.{only}
 use Rattle.thes_graph.proofs.PivotLemmas.{Chain-turn}
 use Rattle.thes_graph.proofs.ProbeLemmas.{narrower_from, narrower_to, below_from, below_to}
 use Rattle.thes_graph.proofs.KindLemmas.{related_turns}
 use Rattle.thes_graph.proofs.SpentLemmas.{spent_two}
 use Rattle.thes_graph.proofs.GoesLemmas.{IsTrail-start, IsTrail-paid, IsTrail-reach, IsTrail-away, leads_one_way}
-
-only : (x y : ℕ) → Contains (x ∷ []) y → x ≡ y
-only x y has = elim (Contains-cons_cases x [] y has) [ inl same ↦ same | inr none ↦ absurd (Contains-none y none) ]
 
 module _ (sight : Sight) (held : Links) where
   abbrev Would : Link → Type 0
@@ -78,28 +76,34 @@ module _ (sight : Sight) (held : Links) where
 
   -- the walk up is done
   module _ (low high : ℕ) (up down : Trail) (a : ℕ) (done : length up.nodes ≤ up.next) (is : IsTrail sight held Broader (low ∷ []) high up a) where
+    off_up : IsAbove Would high low → ⊥
+    off_up above = IsTrail-away sight held Broader (low ∷ []) high up a done is (low, Contains-head low [], above)
+
     pub broken_up : (rest : Option Refusal) → IsRest sight held Narrower (high ∷ []) up.nodes low rest → IsBrokenBetween Would low high rest
     broken_up None apart = (
-      λ above. IsTrail-away sight held Broader (low ∷ []) high up a done is (low, Contains-head low [], above),
+      off_up,
       λ x y to from related. apart y x ((IsTrail-reach sight held Broader (low ∷ []) high up a done is).complete y from) (below_to Would low x to) (related_turns Would x y related),
     )
     broken_up (Some no.Cycle) leads = found_down low high leads
     broken_up (Some no.S27) (x, y, has, reach, related) = (
-      λ above. IsTrail-away sight held Broader (low ∷ []) high up a done is (low, Contains-head low [], above),
+      off_up,
       (y, x, below_from Would low y reach, (IsTrail-reach sight held Broader (low ∷ []) high up a done is).sound x has, related_turns Would x y related),
     )
     broken_up (Some _) h = absurd h
 
   -- the walk down is done
   module _ (low high : ℕ) (down : Trail) (b : ℕ) (done : length down.nodes ≤ down.next) (is : IsTrail sight held Narrower (high ∷ []) low down b) where
+    off_down : IsAbove Would high low → ⊥
+    off_down above = IsTrail-away sight held Narrower (high ∷ []) low down b done is (high, Contains-head high [], chain_down low high above)
+
     pub broken_down : (rest : Option Refusal) → IsRest sight held Broader (low ∷ []) down.nodes high rest → IsBrokenBetween Would low high rest
     broken_down None apart = (
-      λ above. IsTrail-away sight held Narrower (high ∷ []) low down b done is (high, Contains-head high [], chain_down low high above),
+      off_down,
       λ x y to from related. apart x y ((IsTrail-reach sight held Narrower (high ∷ []) low down b done is).complete x (below_to Would low x to)) from related,
     )
     broken_down (Some no.Cycle) leads = found_up low high leads
     broken_down (Some no.S27) (x, y, has, reach, related) = (
-      λ above. IsTrail-away sight held Narrower (high ∷ []) low down b done is (high, Contains-head high [], chain_down low high above),
+      off_down,
       (x, y, below_from Would low x ((IsTrail-reach sight held Narrower (high ∷ []) low down b done is).sound x has), reach, related),
     )
     broken_down (Some _) h = absurd h

@@ -4,17 +4,15 @@ use Rattle.std.specs.Option.{MatchOption}
 use Rattle.std.specs.FinSet.{insert, remove, contains, len, len-remove, empty_of_len, contains-empty}
 use Rattle.std.proofs.lemmas.Option.{slice_get_within, get_or_from_slice_get}
 use Rattle.std.proofs.lemmas.List.{take_more}
-use Rattle.std.proofs.lemmas.Bool.{both_ways, false_from_ne_true, not-true, not_from_false}
+use Rattle.std.proofs.lemmas.Bool.{both_ways}
 use Rattle.thes_base.specs.declared.data.Link.{Link}
-use Rattle.thes_base.specs.Links.{Links, link_cmp, HeldIn, without_node}
-use Rattle.thes_base.proofs.LinkSets.{links_total, link_inserted_cases, link_retained}
+use Rattle.thes_base.specs.Links.{Links, link_cmp, HeldIn, without_node, HasEnd}
+use Rattle.thes_base.proofs.LinkSets.{links_total, link_inserted_cases, link_retained, without_node_from, without_node_to}
 use Rattle.thes_base.proofs.ListMembers.{Contains-none, Contains-head, Contains-later, Contains-cons_cases}
-use Rattle.thes_graph.specs.Reading.{EndsAt}
 use Rattle.thes_graph.specs.Net.{Net, ends_at}
 use Rattle.thes_graph.specs.Moved.{with_all, without_all}
 use Rattle.thes_graph.proofs.WeightLemmas.{past_of_none}
-use Rattle.thes_graph.proofs.SetLemmas.{same_links, inserted_held, insert_keeps, remove_keeps, removed_cases, retain_keeps}
-use Rattle.thes_graph.proofs.IndexLemmas.{ends_of_test, test_of_ends}
+use Rattle.thes_graph.proofs.SetLemmas.{same_links, inserted_held, insert_keeps, remove_keeps, removed_cases}
 
 -- the last item of a list, if there is one
 pub last_of : {X : Type 0} (xs : List X) (o : Option X) → o ≡ slice_get xs (length xs - 1) → MatchOption o ((x : X) → Contains xs x → ⊥) (λ x. Contains xs x)
@@ -22,24 +20,17 @@ last_of xs None e = λ x (k, within, is). let past : length xs ≤ length xs - 1
 last_of xs (Some x) e = (length xs - 1, slice_get_within xs (length xs - 1) x (sym e), get_or_from_slice_get xs (length xs - 1) x x (sym e))
 
 -- taking away one link at the node leaves the same without the node
-pub without_node_removed : (n : ℕ) (links : Links) (l : Link) → EndsAt n l → without_node n (remove links l) ≡ without_node n links
+pub without_node_removed : (n : ℕ) (links : Links) (l : Link) → HasEnd n l → without_node n (remove links l) ≡ without_node n links
 without_node_removed n links l at =
     same_links (without_node n (remove links l)) (without_node n links)
-    (λ m held. let r = link_retained (remove links l) (λ l. not (ends_at n l)) m held in retain_keeps links (λ l. not (ends_at n l)) m (removed_cases links l m r.0).1 r.1)
-    (λ m held. let r = link_retained links (λ l. not (ends_at n l)) m held in retain_keeps (remove links l) (λ l. not (ends_at n l)) m (remove_keeps links l m (λ same. both_ways (ends_at n m) (not-true _ r.1) (test_of_ends n m (subst (EndsAt n) (sym same) at))) r.0) r.1)
+    (λ m held. let r = without_node_from n (remove links l) m held in without_node_to n links m ((removed_cases links l m r.0).1, r.1))
+    (λ m held. let r = without_node_from n links m held in without_node_to n (remove links l) m (remove_keeps links l m (λ same. r.1 (subst (HasEnd n) (sym same) at)) r.0, r.1))
 
-pub without_node_none : (n : ℕ) (links : Links) → ((l : Link) → HeldIn links l → EndsAt n l → ⊥) → without_node n links ≡ links
+pub without_node_none : (n : ℕ) (links : Links) → ((l : Link) → HeldIn links l → HasEnd n l → ⊥) → without_node n links ≡ links
 without_node_none n links none =
     same_links (without_node n links) links
     (λ m held. (link_retained links (λ l. not (ends_at n l)) m held).0)
-    (λ m held. retain_keeps links (λ l. not (ends_at n l)) m held (not_from_false _ (false_from_ne_true (ends_at n m) (λ e. none m held (ends_of_test n m e)))))
-
-pub without_node_from : (n : ℕ) (links : Links) (m : Link) → HeldIn (without_node n links) m → HeldIn links m × (EndsAt n m → ⊥)
-without_node_from n links m held =
-    let r = link_retained links (λ l. not (ends_at n l)) m held in (r.0, λ at. both_ways (ends_at n m) (not-true _ r.1) (test_of_ends n m at))
-
-pub without_node_to : (n : ℕ) (links : Links) (m : Link) → HeldIn links m → (EndsAt n m → ⊥) → HeldIn (without_node n links) m
-without_node_to n links m held off = retain_keeps links (λ l. not (ends_at n l)) m held (not_from_false _ (false_from_ne_true (ends_at n m) (λ e. off (ends_of_test n m e))))
+    (λ m held. without_node_to n links m (held, none m held))
 
 pub fewer_links : (links : Links) (l : Link) → HeldIn links l → len (remove links l) < len links
 fewer_links links l held =

@@ -14,6 +14,7 @@ use Rattle.thes_graph.specs.Steps.{GrowsBy, step_along}
 use Rattle.thes_graph.specs.Local.{NoCycleAt}
 use Rattle.thes_graph.specs.Whole.{IsSomeCycle}
 use Rattle.thes_graph.specs.Climb.{LeadsOn, IsClimb, still, to_do}
+use Rattle.thes_graph.proofs.ReachLemmas.{only}
 use Rattle.thes_graph.proofs.PivotLemmas.{Chain-join, Chain-one}
 use Rattle.thes_graph.proofs.StepLemmas.{step_from_Leads, Leads-from_step, Leads-first}
 use Rattle.thes_graph.proofs.SightLemmas.{filter_map-from, filter_map-to}
@@ -69,9 +70,6 @@ lead_up-all held n row above is made h = (to, from)
     from (l, held, leads) =
         subst (λ (hs : List ℕ). Contains hs h) (sym made)
         (filter_map-to (λ (l : Link). step_along Broader l n) row l h (is.complete l held (Leads-first (broader_way l.kind) l.a l.b n h leads)) (step_from_Leads (broader_way l.kind) l.a l.b n h leads))
-
-only : {X : Type 0} (x y : X) → Contains (x ∷ []) y → x ≡ y
-only x y has = elim (Contains-cons_cases x [] y has) [ inl same ↦ same | inr later ↦ absurd (Contains-none y later) ]
 
 module _ (Held : Link → Type 0) where
   pub IsClimb-start : (done : List ℕ) (t : Stop) → ((n : ℕ) → Contains done n → NoCycleAt Held n) → ((h : ℕ) → Contains t.above.items h ↔ IsBroader Held t.node h) → IsClimb Held (t.node ∷ []) done (t ∷ [])

@@ -13,22 +13,22 @@ use Rattle.std.specs.Set.{remove_key}
 use Rattle.std.proofs.lemmas.Bool.Decides.{Decides-eqb}
 use Rattle.std.proofs.lemmas.List.{length-map, get_or-map, get_or_default}
 use Rattle.std.proofs.lemmas.Map.Keys.{sorted_tail, Less-from_sorted}
-use Rattle.std.proofs.lemmas.Bool.{false_from_ne_true}
+use Rattle.std.proofs.lemmas.Bool.{false_from_ne_true, cases_eq}
 use Rattle.thes_base.specs.declared.data.Link.{Link}
-use Rattle.thes_base.specs.Links.{Links, link_cmp, HeldIn, norm}
+use Rattle.thes_base.specs.Links.{Links, link_cmp, HeldIn, norm, HasEnd}
 use Rattle.thes_base.specs.Listing.{IsListing}
 use Rattle.thes_base.proofs.LinkSets.{links_total, links_exact, link_inserted_cases}
+use Rattle.thes_base.proofs.OneListing.{one_listing}
 use Rattle.thes_base.proofs.ListMembers.{Contains-none, Contains-map, Contains-from_map, Contains-filter, Contains-from_filter}
-use Rattle.thes_base.proofs.ResourceLemmas.{same_or_not}
 use Rattle.thes_lists.specs.declared.lists.Lists.{Lists}
 use Rattle.thes_lists.specs.Lists.{listed_at, AreSame, ChangesAt}
 use Rattle.thes_lists.proofs.MemberLemmas.{Has-from, Contains-from}
 use Rattle.thes_lists.proofs.OrderLemmas.{sorted_none, above_head, insert_cases, insert_sorted, remove_had, remove_sorted, never_below_itself}
 use Rattle.thes_lists.proofs.OrderLemmas as order
-use Rattle.thes_lists.proofs.ListingLemmas.{insert_has, remove_apart, remove_keeps, listing_as, listing_insert, listing_remove, listing_same}
+use Rattle.thes_lists.proofs.ListingLemmas.{insert_has, remove_apart, remove_keeps, listing_as, listing_insert, listing_remove}
 use Rattle.thes_graph.specs.declared.side.Standing.{Standing}
 use Rattle.thes_graph.specs.Side.{standing_at, standing_cmp}
-use Rattle.thes_graph.specs.Reading.{EndsAt, IsRow}
+use Rattle.thes_graph.specs.Reading.{IsRow}
 use Rattle.thes_graph.specs.Net.{Net, ends_at, in_order, listed, arranged, standings_at, links_at}
 use Rattle.thes_graph.specs.Whole.{AreAll}
 use Rattle.thes_graph.specs.Index.{IsIndexed}
@@ -110,7 +110,7 @@ listed_sorted links = in_order_sorted link_cmp links_total links_exact (items li
 -- a list in order is that of its set
 pub listed_is : (ks : List Link) → IsSorted ks → listed (from_list ks) ≡ ks
 listed_is ks sorted =
-    listing_same link_cmp links_total links_exact (Contains ks) (listed (from_list ks)) ks
+    one_listing links_total {P = Contains ks} (listed (from_list ks)) ks
     (record {
       rises = listed_sorted (from_list ks);
       sound = λ m has. listed_of_held ks m (held_of_listed (from_list ks) m has);
@@ -120,14 +120,14 @@ listed_is ks sorted =
 
 -- the links at a node
 
-pub ends_of_test : (n : ℕ) (l : Link) → ends_at n l ≡ true → EndsAt n l
+pub ends_of_test : (n : ℕ) (l : Link) → ends_at n l ≡ true → HasEnd n l
 ends_of_test n l e = go (l.a == n) refl e
   where
-    go : (b : Bool) → (l.a == n) ≡ b → (b || (l.b == n)) ≡ true → EndsAt n l
+    go : (b : Bool) → (l.a == n) ≡ b → (b || (l.b == n)) ≡ true → HasEnd n l
     go true is e = inl ((Decides-eqb l.a n).0 is)
     go false is e = inr ((Decides-eqb l.b n).0 e)
 
-pub test_of_ends : (n : ℕ) (l : Link) → EndsAt n l → ends_at n l ≡ true
+pub test_of_ends : (n : ℕ) (l : Link) → HasEnd n l → ends_at n l ≡ true
 test_of_ends n l (inl at) = ap (λ b. b || (l.b == n)) ((Decides-eqb l.a n).1 at)
 test_of_ends n l (inr at) = go (l.a == n)
   where
@@ -137,7 +137,7 @@ test_of_ends n l (inr at) = go (l.a == n)
 
 -- one of these links, as it stands at the node
 abbrev Stands : List Link → ℕ → Standing → Type 0
-Stands ks n s = Contains ks s.link × EndsAt n s.link × (standing_at n s.link ≡ s)
+Stands ks n s = Contains ks s.link × HasEnd n s.link × (standing_at n s.link ≡ s)
 
 arranged_listing : (n : ℕ) (ks : List Link) → IsListing standing_cmp (Stands ks n) (arranged n ks)
 arranged_listing n ks = record {
@@ -156,10 +156,10 @@ arranged_listing n ks = record {
 same_arranged : (n : ℕ) (ks : List Link) (P : Standing → Type 0) (ss : List Standing) → ((s : Standing) → P s → Stands ks n s) → ((s : Standing) → Stands ks n s → P s) → IsListing standing_cmp P ss
     → arranged n ks ≡ ss
 same_arranged n ks P ss to from is =
-    listing_same standing_cmp standings_total standings_exact (Stands ks n) (arranged n ks) ss (arranged_listing n ks) (listing_as standing_cmp P (Stands ks n) ss to from is)
+    one_listing standings_total (arranged n ks) ss (arranged_listing n ks) (listing_as standing_cmp P (Stands ks n) ss to from is)
 
 module _ (n : ℕ) (ks : List Link) (l : Link) where
-  arranged_with : EndsAt n l → arranged n (with_key ks l) ≡ insert_key standing_cmp (arranged n ks) (standing_at n l)
+  arranged_with : HasEnd n l → arranged n (with_key ks l) ≡ insert_key standing_cmp (arranged n ks) (standing_at n l)
   arranged_with at =
       same_arranged n (with_key ks l) (λ s. Stands ks n s ⊎ (s ≡ standing_at n l)) (insert_key standing_cmp (arranged n ks) (standing_at n l))
       (λ s p. elim p [
@@ -169,11 +169,11 @@ module _ (n : ℕ) (ks : List Link) (l : Link) where
       (λ s (has, ends, same). elim (with_cases ks l s.link has) [ inl here ↦ inr (sym same ∙ ap (standing_at n) here) | inr old ↦ inl (old, ends, same) ])
       (listing_insert standing_cmp standings_total standings_exact (Stands ks n) (arranged n ks) (standing_at n l) (arranged_listing n ks))
 
-  arranged_with_other : (EndsAt n l → ⊥) → arranged n (with_key ks l) ≡ arranged n ks
+  arranged_with_other : (HasEnd n l → ⊥) → arranged n (with_key ks l) ≡ arranged n ks
   arranged_with_other off =
       same_arranged n (with_key ks l) (Stands ks n) (arranged n ks)
       (λ s (has, ends, same). (with_old ks l s.link has, ends, same))
-      (λ s (has, ends, same). (elim (with_cases ks l s.link has) [ inl here ↦ absurd (off (subst (EndsAt n) here ends)) | inr old ↦ old ], ends, same))
+      (λ s (has, ends, same). (elim (with_cases ks l s.link has) [ inl here ↦ absurd (off (subst (HasEnd n) here ends)) | inr old ↦ old ], ends, same))
       (arranged_listing n ks)
 
   arranged_without : IsSorted ks → arranged n (without_key l ks) ≡ remove_key (is_at (standing_cmp (standing_at n l))) (arranged n ks)
@@ -183,32 +183,32 @@ module _ (n : ℕ) (ks : List Link) (l : Link) where
       (λ s (has, ends, same). let old = without_cases ks l s.link sorted has in ((old.0, ends, same), λ e. old.1 (ap (λ (w : Standing). w.link) e)))
       (listing_remove standing_cmp standings_total standings_exact (Stands ks n) (arranged n ks) (standing_at n l) (arranged_listing n ks))
 
-  arranged_without_other : IsSorted ks → (EndsAt n l → ⊥) → arranged n (without_key l ks) ≡ arranged n ks
+  arranged_without_other : IsSorted ks → (HasEnd n l → ⊥) → arranged n (without_key l ks) ≡ arranged n ks
   arranged_without_other sorted off =
       same_arranged n (without_key l ks) (Stands ks n) (arranged n ks)
-      (λ s (has, ends, same). (without_old ks l s.link has (λ e. off (subst (EndsAt n) e ends)), ends, same))
+      (λ s (has, ends, same). (without_old ks l s.link has (λ e. off (subst (HasEnd n) e ends)), ends, same))
       (λ s (has, ends, same). ((without_cases ks l s.link sorted has).0, ends, same))
       (arranged_listing n ks)
 
 pub standings_sorted : (links : Links) (n : ℕ) → IsStrictlySortedBy standing_cmp (standings_at links n)
 standings_sorted links n = (arranged_listing n (listed links)).rises
 
-pub standings_from : (links : Links) (n : ℕ) (s : Standing) → Contains (standings_at links n) s → HeldIn links s.link × EndsAt n s.link × (standing_at n s.link ≡ s)
+pub standings_from : (links : Links) (n : ℕ) (s : Standing) → Contains (standings_at links n) s → HeldIn links s.link × HasEnd n s.link × (standing_at n s.link ≡ s)
 standings_from links n s has = let is = (arranged_listing n (listed links)).sound s has in (held_of_listed links s.link is.0, is.1, is.2)
 
-pub standings_to : (links : Links) (n : ℕ) (l : Link) → HeldIn links l → EndsAt n l → Contains (standings_at links n) (standing_at n l)
+pub standings_to : (links : Links) (n : ℕ) (l : Link) → HeldIn links l → HasEnd n l → Contains (standings_at links n) (standing_at n l)
 standings_to links n l held ends = (arranged_listing n (listed links)).complete (standing_at n l) (listed_held links l held, ends, refl)
 
 abbrev link_of : Standing → Link
 link_of s = s.link
 
-pub links_at_from : (links : Links) (n : ℕ) (l : Link) → Contains (links_at links n) l → HeldIn links l × EndsAt n l
+pub links_at_from : (links : Links) (n : ℕ) (l : Link) → Contains (links_at links n) l → HeldIn links l × HasEnd n l
 links_at_from links n l has =
     let from = Contains-from_map link_of (standings_at links n) l has in
     let is = standings_from links n from.0 from.1 in
-    subst (λ (w : Link). HeldIn links w × EndsAt n w) from.2 (is.0, is.1)
+    subst (λ (w : Link). HeldIn links w × HasEnd n w) from.2 (is.0, is.1)
 
-pub links_at_to : (links : Links) (n : ℕ) (l : Link) → HeldIn links l → EndsAt n l → Contains (links_at links n) l
+pub links_at_to : (links : Links) (n : ℕ) (l : Link) → HeldIn links l → HasEnd n l → Contains (links_at links n) l
 links_at_to links n l held ends = Contains-map link_of (standings_at links n) (standing_at n l) (standings_to links n l held ends)
 
 -- the links that stand at two places differ
@@ -279,10 +279,10 @@ from_list_without ks l sorted = same_links (from_list (without_key l ks)) (remov
 
 module _ (op : List Standing → Standing → List Standing) (ks later : List Link) (old one both : Lists Standing) (l : Link) (two : l.a ≢ l.b)
     (first : ChangesAt old one l.a (op (listed_at old l.a) (standing_at l.a l))) (second : ChangesAt one both l.b (op (listed_at one l.b) (standing_at l.b l)))
-    (was : (n : ℕ) → listed_at old n ≡ arranged n ks) (here : (n : ℕ) → EndsAt n l → arranged n later ≡ op (arranged n ks) (standing_at n l))
-    (others : (n : ℕ) → (EndsAt n l → ⊥) → arranged n later ≡ arranged n ks) where
+    (was : (n : ℕ) → listed_at old n ≡ arranged n ks) (here : (n : ℕ) → HasEnd n l → arranged n later ≡ op (arranged n ks) (standing_at n l))
+    (others : (n : ℕ) → (HasEnd n l → ⊥) → arranged n later ≡ arranged n ks) where
   rows_changed : (n : ℕ) → listed_at both n ≡ arranged n later
-  rows_changed n = go (same_or_not l.a n) (same_or_not l.b n)
+  rows_changed n = go (cases_eq l.a n) (cases_eq l.b n)
     where
       at_a : listed_at both l.a ≡ arranged l.a later
       at_a = second.others l.a two ∙ first.here ∙ ap (λ row. op row (standing_at l.a l)) (was l.a) ∙ sym (here l.a (inl refl))

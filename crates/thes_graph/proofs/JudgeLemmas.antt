@@ -4,10 +4,10 @@ use Rattle.std.proofs.lemmas.List.Elements.{Contains-append_left, Contains-appen
 use Rattle.thes_base.specs.declared.data.Link.{Link}
 use Rattle.thes_base.specs.declared.data.LinkKind.{LinkKind}
 use Rattle.thes_base.specs.declared.fault.Refusal.{Refusal}
-use Rattle.thes_base.specs.Links.{Links, HeldIn, S46, IsFirstBroken}
+use Rattle.thes_base.specs.Links.{Links, HeldIn, S46, IsFirstBroken, HasEnd}
 use Rattle.thes_base.proofs.ListMembers.{Contains-cons_cases}
 use Rattle.thes_graph.specs.declared.sight.Sight.TheVariants.{AsHeld, With, Merged}
-use Rattle.thes_graph.specs.Reading.{HaveTwoEnds, EndsAt}
+use Rattle.thes_graph.specs.Reading.{HaveTwoEnds}
 use Rattle.thes_graph.specs.Sight.{node_after, WouldBe, TouchesAt}
 use Rattle.thes_graph.specs.Local.{BreakNone, AwayFrom, IsS46At, NoS46At, IsFirstBrokenAt, CoversNear}
 use Rattle.thes_graph.specs.Whole.{IsSomeS46}
@@ -64,7 +64,7 @@ module _ (held : Links) (source target : ℕ) (two : source ≢ target) (legal :
   pub CoversNear-joined : (ns : List Link) → CoversEdit (Merged source target) held target ns → CoversNear (Merged source target) held target ns
   CoversNear-joined ns all n near l has touch = go touch
     where
-      by : (x : ℕ) → ((m : ℕ) → x ≡ m → EndsAt m l) → (source ≡ x) ⊎ (n ≡ x) → Contains ns l
+      by : (x : ℕ) → ((m : ℕ) → x ≡ m → HasEnd m l) → (source ≡ x) ⊎ (n ≡ x) → Contains ns l
       by x ends (inl same) = all l has source (inl (inl refl)) (ends source (sym same))
       by x ends (inr same) = all l has n (inr near) (ends n (sym same))
 

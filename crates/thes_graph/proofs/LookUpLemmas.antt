@@ -8,16 +8,15 @@ use Rattle.std.specs.Result.{is_ok}
 use Rattle.std.proofs.lemmas.Bool.{cases_lt, false_from_ne_true}
 use Rattle.std.proofs.lemmas.List.{get_or_default}
 use Rattle.thes_base.specs.declared.data.Link.{Link}
-use Rattle.thes_base.specs.Links.{Links, HeldIn}
+use Rattle.thes_base.specs.Links.{Links, HeldIn, HasEnd}
 use Rattle.thes_lists.proofs.OrderLemmas.{never_below_itself, rising}
 use Rattle.thes_graph.specs.declared.side.Standing.{Standing}
 use Rattle.thes_graph.specs.Side.{standing_at, standing_cmp}
-use Rattle.thes_graph.specs.Reading.{EndsAt}
 use Rattle.thes_graph.specs.Net.{standings_at}
 use Rattle.thes_graph.proofs.LinkOrderLemmas.{arranging, arranging_is, standings_total, standings_exact}
 use Rattle.thes_graph.proofs.IndexLemmas.{standings_sorted, standings_from, standings_to}
 
-module _ (links : Links) (n : ℕ) (l : Link) (ends : EndsAt n l) where
+module _ (links : Links) (n : ℕ) (l : Link) (ends : HasEnd n l) where
   -- a search in order finds the link exactly when it is held
   searched : (r : Result ℕ ℕ) → IsSearchInRange r (length (standings_at links n)) → IsBinarySearchResult (λ y. standing_cmp y (standing_at n l)) (standings_at links n) r → is_ok r ≡ contains links l
   searched (Ok i) within is =
@@ -40,7 +39,7 @@ module _ (links : Links) (n : ℕ) (l : Link) (ends : EndsAt n l) where
       ]
 
 -- the same for a search by the order that `cmp` computes
-pub looked_up_at : (links : Links) (n : ℕ) (l : Link) (row : List Standing) (s : Standing) (r : Result ℕ ℕ) → EndsAt n l → row ≡ standings_at links n → s ≡ standing_at n l
+pub looked_up_at : (links : Links) (n : ℕ) (l : Link) (row : List Standing) (s : Standing) (r : Result ℕ ℕ) → HasEnd n l → row ≡ standings_at links n → s ≡ standing_at n l
     → IsSearchInRange r (length row) → IsBinarySearchResult (λ y. arranging y s) row r → is_ok r ≡ contains links l
 looked_up_at links n l row s r ends is same within found =
     searched links n l ends r (subst (λ (xs : List Standing). IsSearchInRange r (length xs)) is within)

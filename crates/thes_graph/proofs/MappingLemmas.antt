@@ -13,12 +13,12 @@ use Rattle.thes_base.specs.declared.data.LinkKind.TheVariants.{Broader, Exact, C
 use Rattle.thes_base.specs.declared.data.TypedKind.{TypedKind}
 use Rattle.thes_base.specs.declared.data.TypedKind.TheVariants as typed
 use Rattle.thes_base.specs.declared.data.Link.{Link}
-use Rattle.thes_base.specs.Links.{Links, HeldIn}
+use Rattle.thes_base.specs.Links.{Links, HeldIn, HasEnd}
 use Rattle.thes_base.specs.Words.{link_word}
 use Rattle.thes_base.specs.Views.{HasLink, IsMapping, mapping_cmp, IsTyped}
 use Rattle.thes_base.proofs.WordOrders.{mapping_total}
 use Rattle.thes_lists.proofs.OrderLemmas.{rising, insert_found, insert_missing}
-use Rattle.thes_graph.specs.Reading.{HaveTwoEnds, EndsAt}
+use Rattle.thes_graph.specs.Reading.{HaveTwoEnds}
 use Rattle.thes_graph.specs.Mapped.{seen, as_seen_from, typed_seen, as_typed_from, word_place}
 use Rattle.thes_graph.proofs.NumberLemmas.{same_of, other_of}
 use Rattle.thes_graph.proofs.ReaderLemmas.{IsSeen}
@@ -66,10 +66,10 @@ module _ (links : Links) (n : ℕ) where
   seen_backward Narrow m p held e = subst (IsMapping links n) (same_Some (Broad, m) p e) (inr held)
   seen_backward _ m p held e = absurd (none-some p e)
 
-  pub seen_from : (l : Link) (p : LinkKind × ℕ) → HeldIn links l → EndsAt n l → as_seen_from n l ≡ Some p → IsMapping links n p
+  pub seen_from : (l : Link) (p : LinkKind × ℕ) → HeldIn links l → HasEnd n l → as_seen_from n l ≡ Some p → IsMapping links n p
   seen_from l p held at e = go (l.a == n) refl e
     where
-      second : l.a ≢ n → EndsAt n l → l.b ≡ n
+      second : l.a ≢ n → HasEnd n l → l.b ≡ n
       second other (inl a) = absurd (other a)
       second other (inr b) = b
 
@@ -85,13 +85,13 @@ module _ (links : Links) (n : ℕ) where
   seen_as_second k m other = ap (λ t. seen t k (if t then n else m)) (false_from_ne_true (m == n) (λ e. other (same_of m n e)))
 
   module _ (two_ends : HaveTwoEnds (HeldIn links)) where
-    first : (k : LinkKind) (m : ℕ) (p : LinkKind × ℕ) → HasLink links k n m → seen true k m ≡ Some p → (l : Link) × HeldIn links l × EndsAt n l × (as_seen_from n l ≡ Some p)
+    first : (k : LinkKind) (m : ℕ) (p : LinkKind × ℕ) → HasLink links k n m → seen true k m ≡ Some p → (l : Link) × HeldIn links l × HasEnd n l × (as_seen_from n l ≡ Some p)
     first k m p held gives = (record { kind = k; a = n; b = m }, held, inl refl, seen_as_first k m ∙ gives)
 
-    second : (k : LinkKind) (m : ℕ) (p : LinkKind × ℕ) → HasLink links k m n → seen false k m ≡ Some p → (l : Link) × HeldIn links l × EndsAt n l × (as_seen_from n l ≡ Some p)
+    second : (k : LinkKind) (m : ℕ) (p : LinkKind × ℕ) → HasLink links k m n → seen false k m ≡ Some p → (l : Link) × HeldIn links l × HasEnd n l × (as_seen_from n l ≡ Some p)
     second k m p held gives = (record { kind = k; a = m; b = n }, held, inr refl, seen_as_second k m (two_ends (record { kind = k; a = m; b = n }) held) ∙ gives)
 
-    pub seen_to : (p : LinkKind × ℕ) → IsMapping links n p → (l : Link) × HeldIn links l × EndsAt n l × (as_seen_from n l ≡ Some p)
+    pub seen_to : (p : LinkKind × ℕ) → IsMapping links n p → (l : Link) × HeldIn links l × HasEnd n l × (as_seen_from n l ≡ Some p)
     seen_to (Exact, m) (inl held) = first Exact m (Exact, m) held refl
     seen_to (Exact, m) (inr held) = second Exact m (Exact, m) held refl
     seen_to (Close, m) (inl held) = first Close m (Close, m) held refl
@@ -121,7 +121,7 @@ module _ (links : Links) (n : ℕ) where
   pub typed_from : (p : TypedKind × ℕ) → IsSeen links n (as_typed_from n) p → IsTyped links n p
   typed_from p (l, held, at, e) = go (l.a == n) refl e
     where
-      second : l.a ≢ n → EndsAt n l → l.b ≡ n
+      second : l.a ≢ n → HasEnd n l → l.b ≡ n
       second other (inl a) = absurd (other a)
       second other (inr b) = b
 

@@ -1,5 +1,5 @@
 -- The resources marked as outside concepts.
-use Rattle.std.proofs.Common.{◌≡◌, ◌≢◌, inl, inr, ℕ, List, Bool, true, false, cond, ◌&&◌, ◌||◌, nat_lt, if◌then◌else◌, refl, sym, ap, ◌∙◌}
+use Rattle.std.proofs.Common.{◌≡◌, ◌≢◌, inl, inr, ℕ, List, Bool, true, cond, ◌&&◌, ◌||◌, nat_lt, if◌then◌else◌, sym, ap, ◌∙◌}
 use Rattle.std.specs.List.{list_any}
 use Rattle.std.specs.Ordering.{nat_cmp, eq_by_cmp}
 use Rattle.std.specs.Cmp.{nat_cmp_total, nat_eq_equiv, unsigned_tied}
@@ -7,12 +7,12 @@ use Rattle.std.specs.FinSet.{FinSet, insert, contains, from_list, same_set, cont
 use Rattle.std.specs.BTreeMap.{is_at}
 use Rattle.std.proofs.lemmas.Bool.{false_from_ne_true}
 use Rattle.thes_base.specs.declared.data.Link.{Link}
-use Rattle.thes_base.specs.Links.{HeldIn, is_symmetric, exchanged, norm}
-use Rattle.thes_graph.specs.Reading.{EndsAt}
+use Rattle.thes_base.specs.Links.{HeldIn, is_symmetric, exchanged, norm, HasEnd}
 use Rattle.thes_lists.specs.declared.lists.Lists.{Lists}
 use Rattle.thes_graph.specs.declared.side.Standing.{Standing}
 use Rattle.thes_graph.specs.Index.{IsIndexed}
 use Rattle.thes_graph.proofs.NumberLemmas.{same_of}
+use Rattle.thes_graph.proofs.SetLemmas.{cond-or}
 
 -- one more number
 pub from_list_marked : (old new : List ℕ) (n : ℕ) → ((q : ℕ) → list_any (eq_by_cmp nat_cmp q) new ≡ cond (is_at (nat_cmp n) q) true (list_any (eq_by_cmp nat_cmp q) old))
@@ -21,12 +21,8 @@ from_list_marked old new n updates =
     same_set nat_cmp_total nat_cmp-IsAntisymmetric (from_list new) (insert (from_list old) n)
     (λ q. contains-from_list nat_cmp_total new q ∙ updates q
     ∙ ap (λ b. cond b true (list_any (eq_by_cmp nat_cmp q) old)) (unsigned_tied n q ∙ nat_eq_equiv.symm n q ∙ sym (unsigned_tied q n))
-    ∙ either (eq_by_cmp nat_cmp q n) (list_any (eq_by_cmp nat_cmp q) old)
+    ∙ cond-or (eq_by_cmp nat_cmp q n) (list_any (eq_by_cmp nat_cmp q) old)
     ∙ sym (contains-insert nat_cmp_total (from_list old) n q ∙ ap (λ b. eq_by_cmp nat_cmp q n || b) (contains-from_list nat_cmp_total old q)))
-  where
-    either : (a b : Bool) → cond a true b ≡ (a || b)
-    either true b = refl
-    either false b = refl
 
 still_marked : (s : FinSet nat_cmp) (n q : ℕ) → q ≢ n → contains (insert s n) q ≡ contains s q
 still_marked s n q other =
@@ -41,7 +37,7 @@ norm_same f g l a b =
 
 -- links without an end at n stay as they are kept
 pub IsIndexed-marked : (ks : List Link) (rows : Lists Standing) (old new : List ℕ) (n : ℕ) → IsIndexed ks rows old → from_list {R = nat_cmp} new ≡ insert (from_list old) n
-    → ((l : Link) → HeldIn (from_list ks) l → EndsAt n l → ⊥) → IsIndexed ks rows new
+    → ((l : Link) → HeldIn (from_list ks) l → HasEnd n l → ⊥) → IsIndexed ks rows new
 IsIndexed-marked ks rows old new n index is free = record {
   ordered = index.ordered;
   two_ends = index.two_ends;

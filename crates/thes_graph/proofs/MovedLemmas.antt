@@ -1,5 +1,5 @@
 -- A merge: the new links are added, and those at the source dropped.
-use Rattle.std.proofs.Common.{◌≡◌, ◌≢◌, ◌⊎◌, ◌+◌, ◌<◌, ◌++◌, length, get_or, inl, inr, ℕ, zero, suc, List, [], ◌∷◌, Bool, true, false, ◌==◌, Contains, take, Option, Some, None, if◌then◌else◌, refl, sym, ap, subst, ◌∙◌}
+use Rattle.std.proofs.Common.{◌≡◌, ◌≢◌, ◌⊎◌, ◌+◌, ◌<◌, ◌++◌, length, get_or, inl, inr, ℕ, List, [], ◌∷◌, Bool, true, false, ◌==◌, Contains, take, Option, Some, None, if◌then◌else◌, refl, sym, ap, subst, ◌∙◌}
 use Rattle.std.specs.Prelude.{option_and_then}
 use Rattle.std.specs.List.{filter_map, cons_option}
 use Rattle.std.specs.Option.{option_to_list}
@@ -10,30 +10,21 @@ use Rattle.std.proofs.lemmas.Bool.Decides.{Decides-eqb}
 use Rattle.std.proofs.lemmas.Bool.{false_from_ne_true, both_ways}
 use Rattle.std.proofs.lemmas.Option.{none-some, same_Some}
 use Rattle.thes_base.specs.declared.data.Link.{Link}
-use Rattle.thes_base.specs.Links.{Links, HeldIn, norm, sent, sent_link, contracted, without_node}
-use Rattle.thes_base.proofs.ListMembers.{Contains-none, Contains-head, Contains-later, Contains-cons_cases}
+use Rattle.thes_base.specs.Links.{Links, HeldIn, norm, sent, sent_link, contracted, without_node, HasEnd}
+use Rattle.thes_base.proofs.LinkSets.{without_node_from, without_node_to}
 use Rattle.thes_base.proofs.LinkLemmas.{sent_never, sent_other, sent_stays}
-use Rattle.thes_base.proofs.ResourceLemmas.{same_or_not}
-use Rattle.thes_graph.specs.Reading.{HaveTwoEnds, EndsAt}
+use Rattle.thes_graph.specs.Reading.{HaveTwoEnds}
 use Rattle.thes_graph.specs.Sight.{becomes}
 use Rattle.thes_graph.specs.declared.side.Standing.{Standing}
 use Rattle.thes_graph.specs.Side.{standing_at}
 use Rattle.thes_graph.specs.Net.{Net, is_marked, standings_at}
 use Rattle.thes_graph.specs.Moved.{AreNormal, AreMoved, AreNew, merged_link, unless_held, with_all}
 use Rattle.thes_graph.proofs.SightLemmas.{becomes-ends, filter_map-from, filter_map-to}
-use Rattle.thes_graph.proofs.NormLemmas.{norm_ends, norm_two, norm_again}
+use Rattle.thes_graph.proofs.NormLemmas.{norm_ends, norm_two, norm_again, ends_or_not}
 use Rattle.thes_graph.proofs.SetLemmas.{same_links}
 use Rattle.thes_graph.proofs.ContractLemmas.{contracted_from, contracted_to}
 use Rattle.thes_graph.proofs.IndexLemmas.{standings_from, standings_to}
-use Rattle.thes_graph.proofs.ChangeLemmas.{with_from, with_keeps, with_has, without_node_from, without_node_to}
-
-pub Contains-take : {X : Type 0} → (i : ℕ) (xs : List X) (x : X) → Contains (take i xs) x → Contains xs x
-Contains-take zero xs x has = absurd (Contains-none x has)
-Contains-take (suc i) [] x has = absurd (Contains-none x has)
-Contains-take {X} (suc i) (y ∷ ys) x has = elim (Contains-cons_cases y (take i ys) x has) [
-  | inl same ↦ subst (λ (z : X). Contains (y ∷ ys) z) same (Contains-head y ys)
-  | inr later ↦ Contains-later y ys x (Contains-take i ys x later)
-]
+use Rattle.thes_graph.proofs.ChangeLemmas.{with_from, with_keeps, with_has}
 
 unless_held-some : (links : Links) (l m : Link) → unless_held links l ≡ Some m → (l ≡ m) × (HeldIn links l → ⊥)
 unless_held-some links l m e = go (contains links l) refl e
@@ -69,7 +60,7 @@ module _ (net : Net) (source target : ℕ) where
         let made = merged_from r.0.link m r.2 in
         (r.0.link, made.0, (standings_from net.links source r.0 r.1).0, made.1, made.2, made.3)
 
-    moved_to : (l n : Link) → HeldIn net.links l → EndsAt source l → becomes source target l ≡ Some n → (HeldIn net.links (norm (is_marked net) n) → ⊥) → Contains moved (norm (is_marked net) n)
+    moved_to : (l n : Link) → HeldIn net.links l → HasEnd source l → becomes source target l ≡ Some n → (HeldIn net.links (norm (is_marked net) n) → ⊥) → Contains moved (norm (is_marked net) n)
     moved_to l n held at gives new =
         subst (λ (ms : List Link). Contains ms (norm (is_marked net) n)) (sym are)
         (filter_map-to merged_standing (standings_at net.links source) (standing_at source l) (norm (is_marked net) n) (standings_to net.links source l held at) (merged_to l n gives new))
@@ -88,33 +79,25 @@ module _ (net : Net) (source target : ℕ) where
         normal m (l, n, _, _, is, _) = ap (norm (is_marked net)) is ∙ norm_again (is_marked net) n ∙ sym is
 
     module _ (different : source ≢ target) (two_ends : HaveTwoEnds (HeldIn net.links)) (normal : AreNormal net) where
-      off_a : (l : Link) → (EndsAt source l → ⊥) → l.a ≢ source
+      off_a : (l : Link) → (HasEnd source l → ⊥) → l.a ≢ source
       off_a l off e = off (inl e)
 
-      off_b : (l : Link) → (EndsAt source l → ⊥) → l.b ≢ source
+      off_b : (l : Link) → (HasEnd source l → ⊥) → l.b ≢ source
       off_b l off e = off (inr e)
 
-      apart : (l : Link) → HeldIn net.links l → (EndsAt source l → ⊥) → (sent source target l.a == sent source target l.b) ≡ false
+      apart : (l : Link) → HeldIn net.links l → (HasEnd source l → ⊥) → (sent source target l.a == sent source target l.b) ≡ false
       apart l held off = false_from_ne_true (sent source target l.a == sent source target l.b)
           (λ e. two_ends l held (sym (sent_other source target l.a (off_a l off)) ∙ (Decides-eqb (sent source target l.a) (sent source target l.b)).0 e ∙ sent_other source target l.b (off_b l off)))
 
-      becomes_itself : (l : Link) → HeldIn net.links l → (EndsAt source l → ⊥) → becomes source target l ≡ Some l
+      becomes_itself : (l : Link) → HeldIn net.links l → (HasEnd source l → ⊥) → becomes source target l ≡ Some l
       becomes_itself l held off = ap (λ b. if b then None else Some (sent_link source target l)) (apart l held off) ∙ ap Some (sent_stays source target l (off_a l off) (off_b l off))
 
-      never_source : (l n : Link) → becomes source target l ≡ Some n → EndsAt source (norm (is_marked net) n) → ⊥
+      never_source : (l n : Link) → becomes source target l ≡ Some n → HasEnd source (norm (is_marked net) n) → ⊥
       never_source l n gives at = go (norm_ends (is_marked net) n source at)
         where
-          go : EndsAt source n → ⊥
+          go : HasEnd source n → ⊥
           go (inl a) = sent_never source target different l.a (sym (becomes-ends source target l n gives).1 ∙ a)
           go (inr b) = sent_never source target different l.b (sym (becomes-ends source target l n gives).2 ∙ b)
-
-      ends_or_not : (l : Link) → EndsAt source l ⊎ (EndsAt source l → ⊥)
-      ends_or_not l = go (same_or_not l.a source) (same_or_not l.b source)
-        where
-          go : (l.a ≡ source) ⊎ (l.a ≢ source) → (l.b ≡ source) ⊎ (l.b ≢ source) → EndsAt source l ⊎ (EndsAt source l → ⊥)
-          go (inl a) _ = inl (inl a)
-          go (inr _) (inl b) = inl (inr b)
-          go (inr a) (inr b) = inr (λ at. elim at [ inl e ↦ a e | inr e ↦ b e ])
 
       held_or_not : (l : Link) → HeldIn net.links l ⊎ (HeldIn net.links l → ⊥)
       held_or_not l = elim (contains net.links l) as (λ b. (b ≡ true) ⊎ (b ≡ true → ⊥)) [ true ↦ inl refl | false ↦ inr (λ e. both_ways false refl e) ]
@@ -136,7 +119,7 @@ module _ (net : Net) (source target : ℕ) where
           there : (l n : Link) → HeldIn net.links l → becomes source target l ≡ Some n → HeldIn (with_all net.links moved) (norm (is_marked net) n)
           there l n held gives = elim (held_or_not (norm (is_marked net) n)) [
             | inl old ↦ with_keeps net.links moved (norm (is_marked net) n) old
-            | inr new ↦ elim (ends_or_not l) [
+            | inr new ↦ elim (ends_or_not source l) [
               | inl at ↦ with_has net.links moved (norm (is_marked net) n) (moved_to l n held at gives new)
               | inr off ↦ absurd (new (subst (HeldIn net.links) (sym (ap (norm (is_marked net)) (same_Some n l (sym gives ∙ becomes_itself l held off)) ∙ normal l held)) held))
             ]
@@ -148,7 +131,7 @@ module _ (net : Net) (source target : ℕ) where
               go : (l : Link) × (n : Link) × HeldIn net.links l × (becomes source target l ≡ Some n) × (m ≡ norm (is_marked net) n) → HeldIn (without_node source (with_all net.links moved)) m
               go (l, n, was, gives, is) =
                   subst (HeldIn (without_node source (with_all net.links moved))) (sym is)
-                  (without_node_to source (with_all net.links moved) (norm (is_marked net) n) (there l n was gives) (never_source l n gives))
+                  (without_node_to source (with_all net.links moved) (norm (is_marked net) n) (there l n was gives, never_source l n gives))
 
 -- a loop's step over the links at the source
 pub filter_map_more : {X Y : Type 0} → (f : X → Option Y) (xs : List X) (i : ℕ) (x : X) (o : Option Y) → i < length xs → x ≡ get_or xs i x → o ≡ f x

@@ -10,7 +10,7 @@ use Rattle.thes_graph.specs.Sight.{WouldBe}
 use Rattle.thes_graph.specs.Local.{IsNear}
 use Rattle.thes_graph.specs.Judge.{IsChanged, CoversEdit}
 use Rattle.thes_graph.proofs.NormLemmas.{Says, Says-itself, above_to, exact_to}
-use Rattle.thes_graph.proofs.ContractLemmas.{inserted_to, merged_to}
+use Rattle.thes_graph.proofs.ContractLemmas.{inserted_to, would_to}
 
 -- what is near in links that say the same is near
 near_to : (Would After : Link → Type 0) → ((l : Link) → Would l → (m : Link) × After m × Says l m) → (p n : ℕ) → IsNear Would p n
@@ -44,4 +44,4 @@ module _ (is_outside : ℕ → Bool) (held : Links) (ns : List Link) where
       near_one (inl (inl same)) = (n, n, inl (sym same), inl refl, at)
       near_one (inl (inr same)) = (n, n, inr (sym same), inl refl, at)
       near_one (inr close) =
-          (target, n, inr refl, near_to (WouldBe (Merged source target) held) (HeldIn (contracted is_outside source target held)) (merged_to is_outside source target held) target n close, at)
+          (target, n, inr refl, near_to (WouldBe (Merged source target) held) (HeldIn (contracted is_outside source target held)) (would_to is_outside source target held) target n close, at)

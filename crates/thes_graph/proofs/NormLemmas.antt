@@ -4,15 +4,21 @@ use Rattle.thes_base.specs.declared.data.Link.{Link}
 use Rattle.thes_base.specs.declared.data.LinkKind.{LinkKind}
 use Rattle.thes_base.specs.declared.data.Direction.TheVariants.{Either}
 use Rattle.thes_base.specs.declared.fault.Refusal.{Refusal}
-use Rattle.thes_base.specs.Links.{broader_way, related_way, exact_way, apart_way, is_symmetric, exchanged, norm, Leads, Joined, IsBroader, IsAbove, IsRelated, IsExact, IsApart, NoCycle, S27, S46, IsFirstBroken, Links, HeldIn}
+use Rattle.thes_base.specs.Links.{broader_way, related_way, exact_way, apart_way, is_symmetric, exchanged, norm, Leads, Joined, IsBroader, IsAbove, IsRelated, IsExact, IsApart, NoCycle, S27, S46, IsFirstBroken, Links, HeldIn, HasEnd}
 use Rattle.thes_base.specs.declared.fault.Refusal.TheVariants as no
 use Rattle.thes_base.specs.declared.data.LinkKind.TheVariants.{Related, Exact, Close, RelMatch}
-use Rattle.thes_graph.specs.Reading.{EndsAt}
 use Rattle.thes_graph.proofs.PivotLemmas.{Chain-map, BreakNone-within}
 use Rattle.thes_graph.specs.Local.{BreakNone, AwayFrom}
 use Rattle.thes_base.proofs.LinkSets.{link_inserted_cases}
 use Rattle.thes_base.proofs.LinksKept.{two_lts}
 use Rattle.std.specs.FinSet.{insert}
+use Rattle.std.proofs.lemmas.Bool.{cases_eq}
+
+pub ends_or_not : (n : ℕ) (l : Link) → HasEnd n l ⊎ (HasEnd n l → ⊥)
+ends_or_not n l = elim (cases_eq l.a n) [
+  | inl a ↦ inl (inl a)
+  | inr a ↦ elim (cases_eq l.b n) [ inl b ↦ inl (inr b) | inr b ↦ inr (λ at. elim at [ inl e ↦ a e | inr e ↦ b e ]) ]
+]
 
 -- what l says, m says too
 pub record Says (l m : Link) : Type 0 where
@@ -120,33 +126,33 @@ norm_two f l two = go (norm_cases f l)
     go (inr (is, _)) = subst (λ (w : Link). w.a ≢ w.b) (sym is) (λ e. two (sym e))
 
 -- its ends are the link's
-pub norm_ends : (f : ℕ → Bool) (l : Link) (n : ℕ) → EndsAt n (norm f l) → EndsAt n l
+pub norm_ends : (f : ℕ → Bool) (l : Link) (n : ℕ) → HasEnd n (norm f l) → HasEnd n l
 norm_ends f l n = go (norm_cases f l)
   where
-    turn : EndsAt n (exchanged l) → EndsAt n l
+    turn : HasEnd n (exchanged l) → HasEnd n l
     turn (inl at) = inr at
     turn (inr at) = inl at
 
-    go : (norm f l ≡ l) ⊎ ((norm f l ≡ exchanged l) × (nat_lt l.b l.a ≡ true)) → EndsAt n (norm f l) → EndsAt n l
-    go (inl same) at = subst (EndsAt n) same at
-    go (inr (is, _)) at = turn (subst (EndsAt n) is at)
+    go : (norm f l ≡ l) ⊎ ((norm f l ≡ exchanged l) × (nat_lt l.b l.a ≡ true)) → HasEnd n (norm f l) → HasEnd n l
+    go (inl same) at = subst (HasEnd n) same at
+    go (inr (is, _)) at = turn (subst (HasEnd n) is at)
 
-pub ends_norm : (f : ℕ → Bool) (l : Link) (n : ℕ) → EndsAt n l → EndsAt n (norm f l)
+pub ends_norm : (f : ℕ → Bool) (l : Link) (n : ℕ) → HasEnd n l → HasEnd n (norm f l)
 ends_norm f l n = go (norm_cases f l)
   where
-    turn : EndsAt n l → EndsAt n (exchanged l)
+    turn : HasEnd n l → HasEnd n (exchanged l)
     turn (inl at) = inr at
     turn (inr at) = inl at
 
-    go : (norm f l ≡ l) ⊎ ((norm f l ≡ exchanged l) × (nat_lt l.b l.a ≡ true)) → EndsAt n l → EndsAt n (norm f l)
-    go (inl same) at = subst (EndsAt n) (sym same) at
-    go (inr (is, _)) at = subst (EndsAt n) (sym is) (turn at)
+    go : (norm f l ≡ l) ⊎ ((norm f l ≡ exchanged l) × (nat_lt l.b l.a ≡ true)) → HasEnd n l → HasEnd n (norm f l)
+    go (inl same) at = subst (HasEnd n) (sym same) at
+    go (inr (is, _)) at = subst (HasEnd n) (sym is) (turn at)
 
 -- Where the links break no rule, and one with an end at p is added, those without an end at p break none: the condition of `check_at`.
-pub away_of_added : (is_outside : ℕ → Bool) (links : Links) (l : Link) (p : ℕ) → EndsAt p l → BreakNone (HeldIn links) → BreakNone (AwayFrom (HeldIn (insert links (norm is_outside l))) p)
+pub away_of_added : (is_outside : ℕ → Bool) (links : Links) (l : Link) (p : ℕ) → HasEnd p l → BreakNone (HeldIn links) → BreakNone (AwayFrom (HeldIn (insert links (norm is_outside l))) p)
 away_of_added is_outside links l p at = BreakNone-within (AwayFrom (HeldIn (insert links (norm is_outside l))) p) (HeldIn links) old
   where
-    off : EndsAt p (norm is_outside l) → (norm is_outside l).a ≢ p → (norm is_outside l).b ≢ p → ⊥
+    off : HasEnd p (norm is_outside l) → (norm is_outside l).a ≢ p → (norm is_outside l).b ≢ p → ⊥
     off (inl a) not_a not_b = not_a a
     off (inr b) not_a not_b = not_b b
 

@@ -1,16 +1,13 @@
 -- What tests on numbers say.
 use Rattle.std.proofs.Common.{◌≡◌, ◌≢◌, ℕ, Bool, true, false, not, nat_eq, sym, ◌∙◌}
-use Rattle.std.proofs.lemmas.Bool.{not-true, not-false}
+use Rattle.std.proofs.lemmas.Bool.{not-true, not-false, true≢false}
 use Rattle.std.proofs.lemmas.Bool.Decides.{Decides-eqb}
-
-true_false : true ≡ false → ⊥
-true_false e = cc
 
 pub same_of : (a b : ℕ) → nat_eq a b ≡ true → a ≡ b
 same_of a b e = (Decides-eqb a b).0 e
 
 pub other_of : (a b : ℕ) → nat_eq a b ≡ false → a ≢ b
-other_of a b e same = true_false (sym ((Decides-eqb a b).1 same) ∙ e)
+other_of a b e same = true≢false (sym ((Decides-eqb a b).1 same) ∙ e)
 
 -- what `==` and `!=` answered
 pub eq_same : (r : Bool) (a b : ℕ) → r ≡ nat_eq a b → r ≡ true → a ≡ b

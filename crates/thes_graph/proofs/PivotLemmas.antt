@@ -1,5 +1,6 @@
 -- Which rule a set of links breaks, where all links that may break one end at the pivot.
 use Rattle.std.proofs.Common.{◌≡◌, ◌≢◌, ℕ, ◌⊎◌, inl, inr, List, [], ◌∷◌, ◌++◌, Option, Some, None, sym, subst, ◌∙◌}
+use Rattle.std.proofs.lemmas.Bool.{cases_eq}
 use Rattle.thes_base.specs.declared.data.Link.{Link}
 use Rattle.thes_base.specs.declared.data.LinkKind.{LinkKind}
 use Rattle.thes_base.specs.declared.data.Direction.{Direction}
@@ -11,9 +12,9 @@ use Rattle.thes_graph.specs.Steps.{Reaches}
 use Rattle.thes_graph.specs.Local.{BreakNone, AwayFrom, UpTo, InClassOf, NoCycleAt, NoS27At, NoS46At, IsFirstBrokenAt}
 use Rattle.thes_base.specs.declared.fault.Refusal.TheVariants as no
 use Rattle.thes_base.specs.declared.data.LinkKind.TheVariants.{Exact}
-use Rattle.thes_base.proofs.ResourceLemmas.{same_or_not}
+use Rattle.thes_base.proofs.ResourcesKept.{path_map}
+use Rattle.thes_base.proofs.LinksKept.{fewer_no_cycle, fewer_s27, fewer_s46}
 
--- two numbers are equal or not
 -- joining chains
 module _ (S : ℕ → ℕ → Type 0) where
   Path-join : (x : ℕ) (ms : List ℕ) (y : ℕ) (ns : List ℕ) (z : ℕ) → Path S x ms y → Path S y ns z → Path S x (ms ++ y ∷ ns) z
@@ -34,37 +35,26 @@ module _ (S : ℕ → ℕ → Type 0) where
   Reaches-then_chain x y z (inl same) c = subst (λ (w : ℕ). Chain S w z) (sym same) c
   Reaches-then_chain x y z (inr d) c = Chain-join x y z d c
 
-  -- back along a symmetric relation
-  module _ (T : ℕ → ℕ → Type 0) (turns : (x y : ℕ) → S x y → T y x) where
-    Path-turn : (x : ℕ) (ms : List ℕ) (y : ℕ) → Path S x ms y → Chain T y x
-    Path-turn x [] y one = ([], turns x y one)
-    Path-turn x (m ∷ ms) y path = chain_push y m x (Path-turn m ms y path.1) (turns x m path.0)
-      where
-        push : (x : ℕ) (ms : List ℕ) (y z : ℕ) → Path T x ms y → T y z → Path T x (ms ++ y ∷ []) z
-        push x [] y z p one = (p, one)
-        push x (m ∷ ms) y z p one = (p.0, push m ms y z p.1 one)
+-- back along a symmetric relation
+module _ (S T : ℕ → ℕ → Type 0) (turns : (x y : ℕ) → S x y → T y x) where
+  Path-turn : (x : ℕ) (ms : List ℕ) (y : ℕ) → Path S x ms y → Chain T y x
+  Path-turn x [] y one = ([], turns x y one)
+  Path-turn x (m ∷ ms) y path = Chain-join T y m x (Path-turn m ms y path.1) ([], turns x m path.0)
 
-        chain_push : (x y z : ℕ) → Chain T x y → T y z → Chain T x z
-        chain_push x y z (ns, p) one = (ns ++ y ∷ [], push x ns y z p one)
+  pub Chain-turn : (x y : ℕ) → Chain S x y → Chain T y x
+  Chain-turn x y (ms, p) = Path-turn x ms y p
 
-    pub Chain-turn : (x y : ℕ) → Chain S x y → Chain T y x
-    Chain-turn x y (ms, p) = Path-turn x ms y p
+  pub Reaches-turn : (x y : ℕ) → Reaches S x y → Reaches T y x
+  Reaches-turn x y (inl same) = inl (sym same)
+  Reaches-turn x y (inr c) = inr (Chain-turn x y c)
 
-    pub Reaches-turn : (x y : ℕ) → Reaches S x y → Reaches T y x
-    Reaches-turn x y (inl same) = inl (sym same)
-    Reaches-turn x y (inr c) = inr (Chain-turn x y c)
+module _ (S T : ℕ → ℕ → Type 0) (more : (x y : ℕ) → S x y → T x y) where
+  pub Chain-map : (x y : ℕ) → Chain S x y → Chain T x y
+  Chain-map x y (ms, p) = (ms, path_map S T more x ms y p)
 
-  module _ (T : ℕ → ℕ → Type 0) (more : (x y : ℕ) → S x y → T x y) where
-    Path-map : (x : ℕ) (ms : List ℕ) (y : ℕ) → Path S x ms y → Path T x ms y
-    Path-map x [] y one = more x y one
-    Path-map x (m ∷ ms) y path = (more x m path.0, Path-map m ms y path.1)
-
-    pub Chain-map : (x y : ℕ) → Chain S x y → Chain T x y
-    Chain-map x y (ms, p) = (ms, Path-map x ms y p)
-
-    pub Reaches-map : (x y : ℕ) → Reaches S x y → Reaches T x y
-    Reaches-map x y (inl same) = inl same
-    Reaches-map x y (inr c) = inr (Chain-map x y c)
+  pub Reaches-map : (x y : ℕ) → Reaches S x y → Reaches T x y
+  Reaches-map x y (inl same) = inl same
+  Reaches-map x y (inr c) = inr (Chain-map x y c)
 
 -- a link that has an end at p joins p to something
 Leads-at : (d : Direction) (a b x y p : ℕ) → Leads d a b x y → ((a ≡ p) ⊎ (b ≡ p)) → (x ≡ p) ⊎ (y ≡ p)
@@ -91,9 +81,9 @@ module _ (Held : Link → Type 0) (p : ℕ) where
   step_at : (way : LinkKind → Direction) (x y : ℕ) → Joined Held way x y
       → Joined (AwayFrom Held p) way x y ⊎ ((x ≡ p) ⊎ (y ≡ p))
   step_at way x y (l, held, leads) =
-      elim (same_or_not l.a p) [
+      elim (cases_eq l.a p) [
         | inl at ↦ inr (Leads-at (way l.kind) l.a l.b x y p leads (inl at))
-        | inr not_a ↦ elim (same_or_not l.b p) [
+        | inr not_a ↦ elim (cases_eq l.b p) [
           | inl at ↦ inr (Leads-at (way l.kind) l.a l.b x y p leads (inr at))
           | inr not_b ↦ inl (l, (held, not_a, not_b), leads)
         ]
@@ -126,16 +116,8 @@ module _ (Held : Link → Type 0) (p : ℕ) where
       elim (path_at way x ms y path) [ inl away ↦ inl (ms, away) | inr through ↦ inr through ]
 
 -- fewer links break no more
-module _ (Sub Sup : Link → Type 0) (within : (l : Link) → Sub l → Sup l) where
-  Joined-within : (way : LinkKind → Direction) (x y : ℕ) → Joined Sub way x y → Joined Sup way x y
-  Joined-within way x y (l, held, leads) = (l, within l held, leads)
-
-  pub BreakNone-within : BreakNone Sup → BreakNone Sub
-  BreakNone-within (c1, s27, s46) = (
-    record { none = λ x above. c1.none x (Chain-map (IsBroader Sub) (IsBroader Sup) (Joined-within broader_way) x x above) },
-    record { none = λ x y related above. s27.none x y (Joined-within related_way x y related) (Chain-map (IsBroader Sub) (IsBroader Sup) (Joined-within broader_way) x y above) },
-    record { none = λ x y exact apart. s46.none x y (Chain-map (Joined Sub exact_way) (Joined Sup exact_way) (Joined-within exact_way) x y exact) (Joined-within apart_way x y apart) },
-  )
+pub BreakNone-within : (Sub Sup : Link → Type 0) → ((l : Link) → Sub l → Sup l) → BreakNone Sup → BreakNone Sub
+BreakNone-within Sub Sup within (c1, s27, s46) = (fewer_no_cycle Sub Sup within c1, fewer_s27 Sub Sup within s27, fewer_s46 Sub Sup within s46)
 
 Leads-exact_turns : (kind : LinkKind) (a b x y : ℕ) → Leads (exact_way kind) a b x y → Leads (exact_way kind) a b y x
 Leads-exact_turns Exact a b x y (inl (e, f)) = inr (f, e)

@@ -1,20 +1,20 @@
 -- The nodes that a walk met are those that the relation reaches.
-use Rattle.std.proofs.Common.{◌≡◌, ℕ, zero, suc, ◌+◌, ◌<◌, ◌≤◌, inl, inr, List, [], ◌∷◌, ◌++◌, length, get_or, Contains, nat_eq, refl, sym, subst, ◌∙◌, arith, below_more}
+use Rattle.std.proofs.Common.{◌≡◌, ℕ, zero, suc, ◌+◌, ◌<◌, ◌≤◌, inl, inr, List, [], ◌∷◌, length, get_or, Contains, nat_eq, refl, sym, subst, ◌∙◌, arith, below_more}
 use Rattle.std.specs.List.{IsDistinct}
 use Rattle.std.proofs.lemmas.List.{get_or_append_left, get_or_default}
 use Rattle.std.proofs.lemmas.List.Elements.{Contains-append_left, Contains-get_or}
 use Rattle.thes_base.specs.Links.{Path}
 use Rattle.thes_graph.specs.Steps.{Reaches, IsReachOf, IsClosedBelow, GrowsBy}
+use Rattle.thes_graph.proofs.PivotLemmas.{Reaches-then_chain}
+
+-- a list of one has nothing else
+pub only : {X : Type 0} → (x y : X) → Contains (x ∷ []) y → x ≡ y
+only x y (zero, lt, e) = e
+only x y (suc k, lt, e) = absurd (omega arith)
 
 module _ (S : ℕ → ℕ → Type 0) where
-  -- one more step behind a path
-  Path-push : (x : ℕ) (ms : List ℕ) (y z : ℕ) → Path S x ms y → S y z → Path S x (ms ++ y ∷ []) z
-  Path-push x [] y z path one = (path, one)
-  Path-push x (m ∷ ms) y z path one = (path.0, Path-push m ms y z path.1 one)
-
   pub Reaches-step : (x y z : ℕ) → Reaches S x y → S y z → Reaches S x z
-  Reaches-step x y z (inl same) one = inr ([], let P : ℕ → Type 0 = λ w. S w z in subst P (sym same) one)
-  Reaches-step x y z (inr (ms, path)) one = inr (ms ++ y ∷ [], Path-push x ms y z path one)
+  Reaches-step x y z reach one = inr (Reaches-then_chain S x y z reach ([], one))
 
   distinct_one : (x : ℕ) → IsDistinct nat_eq (x ∷ [])
   unfolding IsDistinct
@@ -24,14 +24,10 @@ module _ (S : ℕ → ℕ → Type 0) where
     pub IsClosedBelow-start : IsClosedBelow S start (start ∷ []) 0
     IsClosedBelow-start = record {
       starts = (0, omega arith, refl);
-      sound = λ y has. inl (only y has);
+      sound = λ y has. inl (only start y has);
       closed = λ k below. absurd (omega arith);
       distinct = distinct_one start;
     }
-      where
-        only : (y : ℕ) → Contains (start ∷ []) y → start ≡ y
-        only y (zero, lt, e) = e
-        only y (suc k, lt, e) = absurd (omega arith)
 
     pub IsClosedBelow-more : (nodes later : List ℕ) (i x : ℕ) → i < length nodes → x ≡ get_or nodes i 0
         → GrowsBy nodes later (S x) → IsClosedBelow S start nodes i → IsClosedBelow S start later (i + 1)

@@ -4,10 +4,10 @@ use Rattle.std.proofs.lemmas.Bool.Decides.{Decides-eqb}
 use Rattle.std.proofs.lemmas.List.Elements.{Contains-append_left, Contains-append_right, Contains-append_cases}
 use Rattle.std.proofs.lemmas.List.Sums.{sum_by-cons}
 use Rattle.thes_base.specs.declared.data.Link.{Link}
-use Rattle.thes_base.specs.Links.{Links, HeldIn}
+use Rattle.thes_base.specs.Links.{Links, HeldIn, HasEnd}
 use Rattle.thes_graph.specs.declared.sight.Sight.{Sight}
 use Rattle.thes_graph.specs.declared.sight.Sight.TheVariants.{AsHeld, Merged}
-use Rattle.thes_graph.specs.Reading.{EndsAt, IsRow}
+use Rattle.thes_graph.specs.Reading.{IsRow}
 use Rattle.thes_graph.specs.Sight.{node_after, TouchesAt, touches, IsReadOf, CoversAt}
 use Rattle.thes_graph.proofs.WeightLemmas.{length-apart}
 
@@ -22,7 +22,7 @@ touches_one : (sight : Sight) (n : ℕ) (l : Link) → TouchesAt sight n l → 1
 touches_one sight n l (inl a) = omega (arith, one_at_same (node_after sight l.a) n a)
 touches_one sight n l (inr b) = omega (arith, one_at_same (node_after sight l.b) n b)
 
-pub either_end : (sight : Sight) (n m : ℕ) (l : Link) → ((x : ℕ) → x ≡ m → node_after sight x ≡ n) → EndsAt m l → TouchesAt sight n l
+pub either_end : (sight : Sight) (n m : ℕ) (l : Link) → ((x : ℕ) → x ≡ m → node_after sight x ≡ n) → HasEnd m l → TouchesAt sight n l
 either_end sight n m l moves (inl a) = inl (moves l.a a)
 either_end sight n m l moves (inr b) = inr (moves l.b b)
 
@@ -33,7 +33,7 @@ module _ (sight : Sight) (held : Links) (node : ℕ) (row : List Link) (is : IsR
     complete = λ l has at. is.complete l has (ends l at);
   }
     where
-      ends : (l : Link) → TouchesAt sight node l → EndsAt node l
+      ends : (l : Link) → TouchesAt sight node l → HasEnd node l
       ends l (inl a) = inl (plain l.a a)
       ends l (inr b) = inr (plain l.b b)
 
@@ -72,7 +72,7 @@ module _ (source target : ℕ) (two : source ≢ target) where
       complete = λ l has at. complete l has at;
     }
       where
-        by_end : (l : Link) → HeldIn held l → EndsAt target l ⊎ EndsAt source l → Contains (row ++ more) l
+        by_end : (l : Link) → HeldIn held l → HasEnd target l ⊎ HasEnd source l → Contains (row ++ more) l
         by_end l has (inl t) = Contains-append_left row more l (at_target.complete l has t)
         by_end l has (inr s) = Contains-append_right row more l (at_source.complete l has s)
 

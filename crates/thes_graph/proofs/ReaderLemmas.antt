@@ -4,12 +4,13 @@ use Rattle.std.specs.List.{filter_map}
 use Rattle.std.specs.Cmp.{IsTotalOrder}
 use Rattle.std.specs.FinSet.{IsAntisymmetric}
 use Rattle.std.specs.BTreeSet.{insert_key}
+use Rattle.std.proofs.Math.Seq.{take-length}
 use Rattle.std.proofs.lemmas.List.Elements.{Contains-push, Contains-push_cases, Contains-append_left}
 use Rattle.thes_base.specs.declared.data.Link.{Link}
 use Rattle.thes_base.specs.declared.data.LinkKind.{LinkKind}
 use Rattle.thes_base.specs.declared.data.LinkKind.TheVariants.{Broader, Related, Member, BroaderGeneric, BroaderPartitive, BroaderInstantial}
 use Rattle.thes_base.specs.declared.data.Direction.{Direction}
-use Rattle.thes_base.specs.Links.{Links, HeldIn, Leads, IsHierarchical}
+use Rattle.thes_base.specs.Links.{Links, HeldIn, Leads, IsHierarchical, HasEnd}
 use Rattle.thes_base.specs.Listing.{IsListing}
 use Rattle.thes_base.specs.Views.{HasLink, HasBroader}
 use Rattle.thes_lists.proofs.ListingLemmas.{listing_as, listing_insert}
@@ -17,7 +18,6 @@ use Rattle.thes_graph.specs.declared.side.Standing.{Standing}
 use Rattle.thes_graph.specs.declared.linked.Linked.{Linked}
 use Rattle.thes_graph.specs.declared.linked.Linked.TheVariants as list
 use Rattle.thes_graph.specs.Side.{standing_at}
-use Rattle.thes_graph.specs.Reading.{EndsAt}
 use Rattle.thes_graph.specs.Steps.{turned}
 use Rattle.thes_graph.specs.Net.{standings_at}
 use Rattle.thes_graph.specs.Linked.{way_by, way_listed, IsLinked, led_to}
@@ -29,7 +29,7 @@ use Rattle.thes_graph.proofs.MovedLemmas.{filter_map_more}
 
 -- a held link at the node is seen as p
 abbrev pub IsSeen : {K : Type 0} → Links → ℕ → (Link → Option K) → K → Type 0
-IsSeen links n f p = (l : Link) × HeldIn links l × EndsAt n l × (f l ≡ Some p)
+IsSeen links n f p = (l : Link) × HeldIn links l × HasEnd n l × (f l ≡ Some p)
 
 module _ {K : Type 0} (c : K → K → Ordering) (f : Link → Option K) where
   abbrev seen_standing : Standing → Option K
@@ -63,8 +63,9 @@ module _ {K : Type 0} (c : K → K → Ordering) (f : Link → Option K) where
         (sym (filter_map_more seen_standing ss i s None within at none ∙ append-nil (filter_map seen_standing (take i ss)))) is
 
   -- the whole row
-  pub seen_listing : (links : Links) (n : ℕ) (P : K → Type 0) → ((p : K) → IsSeen links n f p → P p) → ((p : K) → P p → IsSeen links n f p) → (found : List K) → ListsSeen (standings_at links n) found → IsListing c P found
-  seen_listing links n P to from found is =
+  pub seen_listing : (links : Links) (n : ℕ) (P : K → Type 0) → ((p : K) → IsSeen links n f p → P p) → ((p : K) → P p → IsSeen links n f p)
+      → (row : List Standing) (i : ℕ) → i ≡ length row → row ≡ standings_at links n → (found : List K) → ListsSeen (take i row) found → IsListing c P found
+  seen_listing links n P to from row i end at_n found is =
       listing_as c (Contains (filter_map seen_standing (standings_at links n))) P found
       (λ p has.
       let r = filter_map-from seen_standing (standings_at links n) p has in
@@ -73,7 +74,7 @@ module _ {K : Type 0} (c : K → K → Ordering) (f : Link → Option K) where
       (λ p has.
       let l = from p has in
       filter_map-to seen_standing (standings_at links n) (standing_at n l.0) p (standings_to links n l.0 l.1 l.2) l.3)
-      is
+      (subst (λ (ss : List Standing). ListsSeen ss found) (ap (λ j. take j row) end ∙ take-length row ∙ at_n) is)
 
 -- what links lead to
 

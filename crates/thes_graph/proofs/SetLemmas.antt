@@ -1,12 +1,16 @@
 -- Sets of links by their members: what holds of any set, for links.
-use Rattle.std.proofs.Common.{◌≡◌, ◌≢◌, List, Bool, true, Contains, subst}
+use Rattle.std.proofs.Common.{◌≡◌, ◌≢◌, ◌||◌, List, Bool, true, false, cond, Contains, refl, subst}
 use Rattle.std.specs.Ordering.{eq_by_cmp}
 use Rattle.std.specs.Cmp.{Equal-is}
-use Rattle.std.specs.FinSet.{insert, remove, items, from_list, retain}
+use Rattle.std.specs.FinSet.{insert, remove, items, from_list}
 use Rattle.thes_base.specs.declared.data.Link.{Link}
 use Rattle.thes_base.specs.Links.{Links, link_cmp, HeldIn}
 use Rattle.thes_base.proofs.LinkSets.{links_total, links_exact}
 use Rattle.thes_base.proofs.SetMembers as set
+
+pub cond-or : (a b : Bool) → cond a true b ≡ (a || b)
+cond-or true b = refl
+cond-or false b = refl
 
 pub tied : (x y : Link) → eq_by_cmp link_cmp x y ≡ true → x ≡ y
 tied x y e = links_exact x y ((Equal-is (link_cmp x y)).0 e)
@@ -37,9 +41,6 @@ remove_keeps = set.removed_kept links_total links_exact
 
 pub removed_cases : (links : Links) (l m : Link) → HeldIn (remove links l) m → (m ≢ l) × HeldIn links m
 removed_cases = set.removed_cases links_total links_exact
-
-pub retain_keeps : (links : Links) (test : Link → Bool) (m : Link) → HeldIn links m → test m ≡ true → HeldIn (retain links test) m
-retain_keeps = set.retained_to links_total links_exact
 
 pub remove_absent : (links : Links) (l : Link) → (HeldIn links l → ⊥) → remove links l ≡ links
 remove_absent links l absent =

@@ -12,6 +12,7 @@ use Rattle.std.proofs.lemmas.Cmp.{ranked}
 use Rattle.std.proofs.lemmas.Map.Keys.{Less-from_sorted}
 use Rattle.std.proofs.lemmas.List.{length-map}
 use Rattle.std.proofs.lemmas.Option.{slice_get-map, slice_get_within, slice_get-get_or, get_or_from_slice_get}
+use Rattle.std.proofs.Math.Nat.{eq-or-lt_of_le}
 use Rattle.thes_base.specs.declared.data.Link.{Link}
 use Rattle.thes_base.specs.declared.data.LinkKind.{LinkKind}
 use Rattle.thes_base.specs.declared.data.LinkKind.TheVariants.{Broader, Related, Exact, RelMatch}
@@ -46,11 +47,8 @@ abbrev pub number_of : Standing → ℕ
 number_of s = side_no s.side
 
 pub sides_rise : (links : Links) (n : ℕ) → IsNonDecreasingBy number_of (standings_at links n)
-sides_rise links n i j d lt within = go (same_or_less i j lt)
+sides_rise links n i j d lt within = go (eq-or-lt_of_le lt)
   where
-    same_or_less : (i j : ℕ) → i ≤ j → (i ≡ j) ⊎ (i < j)
-    same_or_less i j lt = grind arith
-
     go : (i ≡ j) ⊎ (i < j) → number_of (get_or (standings_at links n) i d) ≤ number_of (get_or (standings_at links n) j d)
     go (inl same) = let P : ℕ → Type 0 = λ k. number_of (get_or (standings_at links n) i d) ≤ number_of (get_or (standings_at links n) k d) in subst P same (omega arith)
     go (inr below) =
@@ -126,11 +124,8 @@ module _ (links : Links) (n : ℕ) (side : Side) (part : Part) (within : part.to
   }
     where
       at_number : (a b : ℕ) → ltb a b ≡ false → leb a b ≡ true → a ≡ b
-      at_number a b low high = let top : a ≤ b = leb-true a b high in go (same_or_less a b top)
+      at_number a b low high = let top : a ≤ b = leb-true a b high in go (eq-or-lt_of_le top)
         where
-          same_or_less : (a b : ℕ) → a ≤ b → (a ≡ b) ⊎ (a < b)
-          same_or_less a b lt = grind arith
-
           go : (a ≡ b) ⊎ (a < b) → a ≡ b
           go (inl same) = same
           go (inr lt) = let on : ltb a b ≡ true = (Decides-ltb a b).1 lt in cc
@@ -186,13 +181,13 @@ module _ (a b n y : ℕ) (two : a ≢ b) where
   second_here : b ≡ n → (a == n) ≡ false
   second_here at = false_from_ne_true (a == n) (λ e. two (same_of a n e ∙ sym at))
 
+  never_either : (k : LinkKind) → broader_way k ≡ Either → ⊥
+  never_either Broader e = cc
+  never_either _ e = cc
+
   up_side : (k : LinkKind) → Leads (broader_way k) a b n y → side_by (broader_way k) (a == n) (related_way k) (exact_way k) ≡ Up
   up_side k leads = go (broader_way k) leads (never_either k)
     where
-      never_either : (k : LinkKind) → broader_way k ≡ Either → ⊥
-      never_either Broader e = cc
-      never_either _ e = cc
-
       go : (d : Direction) → Leads d a b n y → (d ≡ Either → ⊥) → side_by d (a == n) (related_way k) (exact_way k) ≡ Up
       go Forward (e, f) one = ap (λ t. if t then Up else Down) (first_here e)
       go Backward (e, f) one = ap (λ t. if t then Down else Up) (second_here e)
@@ -202,10 +197,6 @@ module _ (a b n y : ℕ) (two : a ≢ b) where
   down_side : (k : LinkKind) → Leads (turned (broader_way k)) a b n y → side_by (broader_way k) (a == n) (related_way k) (exact_way k) ≡ Down
   down_side k leads = go (broader_way k) leads (never_either k)
     where
-      never_either : (k : LinkKind) → broader_way k ≡ Either → ⊥
-      never_either Broader e = cc
-      never_either _ e = cc
-
       go : (d : Direction) → Leads (turned d) a b n y → (d ≡ Either → ⊥) → side_by d (a == n) (related_way k) (exact_way k) ≡ Down
       go Forward (e, f) one = ap (λ t. if t then Up else Down) (second_here e)
       go Backward (e, f) one = ap (λ t. if t then Down else Up) (first_here e)

@@ -3,11 +3,11 @@ use Rattle.std.proofs.Common.{◌≡◌, ◌≢◌, ◌==◌, ◌⊎◌, inl, in
 use Rattle.std.specs.List.{filter_map, cons_option}
 use Rattle.std.proofs.lemmas.List.Elements.{Contains-append_left, Contains-push, Contains-push_cases}
 use Rattle.thes_base.specs.declared.data.Link.{Link}
-use Rattle.thes_base.specs.Links.{Links, HeldIn}
+use Rattle.thes_base.specs.Links.{Links, HeldIn, HasEnd}
 use Rattle.thes_base.proofs.ListMembers.{Contains-none, Contains-head, Contains-later, Contains-cons_cases}
 use Rattle.thes_graph.specs.declared.sight.Sight.{Sight}
 use Rattle.thes_graph.specs.declared.sight.Sight.TheVariants.{AsHeld, With, Merged}
-use Rattle.thes_graph.specs.Reading.{EndsAt, HaveTwoEnds}
+use Rattle.thes_graph.specs.Reading.{HaveTwoEnds}
 use Rattle.thes_graph.specs.Sight.{node_after, becomes, WouldBe, TouchesAt, IsReadOf, IsFit, shown}
 
 module _ {X Y : Type 0} (h : X → Option Y) where
@@ -84,14 +84,14 @@ module _ (held : Links) (node : ℕ) (row : List Link) where
   shown-sound (With new) is m has = elim (Contains-push_cases row new m has) [ inl x ↦ inl (is.sound m x) | inr same ↦ inr same ]
   shown-sound (Merged source target) is m has = let r = filter_map-from (becomes source target) row m has in (r.0, is.sound r.0 r.1, r.2)
 
-  pub shown-complete : (sight : Sight) → IsReadOf sight held node row → (m : Link) → WouldBe sight held m → EndsAt node m → Contains (shown sight row) m
+  pub shown-complete : (sight : Sight) → IsReadOf sight held node row → (m : Link) → WouldBe sight held m → HasEnd node m → Contains (shown sight row) m
   shown-complete AsHeld is m has at = is.complete m has at
   shown-complete (With new) is m (inl has) at = Contains-append_left row (new ∷ []) m (is.complete m has at)
   shown-complete (With new) is m (inr same) at = subst (λ (w : Link). Contains (row ++ new ∷ []) w) same (Contains-push row new)
   shown-complete (Merged source target) is m (l, has, gives) at =
       filter_map-to (becomes source target) row l m (is.complete l has (touch at)) gives
     where
-      touch : EndsAt node m → TouchesAt (Merged source target) node l
+      touch : HasEnd node m → TouchesAt (Merged source target) node l
       touch (inl a) = inl (sym (becomes-ends source target l m gives).1 ∙ a)
       touch (inr b) = inr (sym (becomes-ends source target l m gives).2 ∙ b)
 

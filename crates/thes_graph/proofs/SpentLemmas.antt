@@ -4,10 +4,10 @@ use Rattle.std.proofs.Common.{◌≡◌, ◌≢◌, ◌==◌, ◌+◌, ◌*◌, 
 use Rattle.std.specs.List.{IsDistinct}
 use Rattle.thes_base.specs.declared.data.Link.{Link}
 use Rattle.std.proofs.lemmas.List.Sums.{sum_by-le-sum_by}
+use Rattle.std.proofs.lemmas.Bool.{cases_eq}
 use Rattle.thes_base.specs.declared.data.Direction.{Direction}
 use Rattle.thes_base.specs.declared.data.Direction.TheVariants.{Forward, Backward, Either, Never}
 use Rattle.thes_base.specs.Links.{broader_way, related_way, exact_way}
-use Rattle.thes_base.proofs.ResourceLemmas.{same_or_not}
 use Rattle.thes_graph.specs.declared.relation.Relation.{Relation}
 use Rattle.thes_graph.specs.declared.relation.Relation.TheVariants.{Broader, Narrower}
 use Rattle.thes_graph.specs.declared.side.Side.{Side}
@@ -136,9 +136,9 @@ module _ (source target : ℕ) where
       go p q r = grind arith
 
   merged_one : (n : ℕ) (side : Side) (l : Link) (p : ℕ) → ((m : ℕ) → on m side l ≤ one_at p m) → weight (Merged source target) n side l ≤ one_at (node_after (Merged source target) p) n
-  merged_one n side l p at = elim (same_or_not n source) [
+  merged_one n side l p at = elim (cases_eq n source) [
     | inl is ↦ subst IsWithin (sym is) (omega (arith, weight_source side l))
-    | inr off ↦ elim (same_or_not n target) [
+    | inr off ↦ elim (cases_eq n target) [
       | inl is ↦ subst IsWithin (sym is) (at_target (λ e. off (is ∙ e)))
       | inr away ↦ omega (arith, weight_other n off away side l, at n, other_one n p off)
     ]
@@ -151,9 +151,9 @@ module _ (source target : ℕ) where
       at_target off = omega (arith, weight_target off side l, at target, at source, target_one (λ e. off (sym e)) p)
 
   merged_two : (n : ℕ) (j k : Side) (l : Link) → side_no j ≢ side_no k → weight (Merged source target) n j l + weight (Merged source target) n k l ≤ touches (Merged source target) n l
-  merged_two n j k l differ = elim (same_or_not n source) [
+  merged_two n j k l differ = elim (cases_eq n source) [
     | inl at ↦ subst IsWithin (sym at) (omega (arith, weight_source j l, weight_source k l))
-    | inr off ↦ elim (same_or_not n target) [
+    | inr off ↦ elim (cases_eq n target) [
       | inl at ↦ subst IsWithin (sym at) (at_target (λ e. off (at ∙ e)))
       | inr away ↦ omega (arith, weight_other n off away j l, weight_other n off away k l, on_two n j k l differ, end_one n l, other_one n l.a off, other_one n l.b off)
     ]

@@ -1,11 +1,11 @@
 -- Two walks towards each other: what they find, and what they cost.
-use Rattle.std.proofs.Common.{◌≡◌, ◌≢◌, ◌+◌, ◌-◌, ◌≤◌, ◌<◌, ◌⊎◌, inl, inr, ℕ, List, [], ◌∷◌, length, sym, subst, arith, Contains, Bool, true, false, refl}
+use Rattle.std.proofs.Common.{◌≡◌, ◌≢◌, ◌+◌, ◌-◌, ◌≤◌, ◌<◌, ◌⊎◌, inl, inr, ℕ, List, [], ◌∷◌, length, sym, subst, arith, Bool, true, false, refl}
 use Rattle.std.specs.Bool.{MatchBool}
 use Rattle.thes_base.specs.declared.data.Link.{Link}
 use Rattle.thes_base.specs.Links.{Links, HeldIn, Chain, IsBroader}
 use Rattle.thes_graph.specs.Local.{UpTo}
 use Rattle.thes_graph.specs.Whole.{HasEndAbove, HasNoEndAbove}
-use Rattle.thes_base.proofs.ListMembers.{Contains-head, Contains-cons_cases, Contains-none}
+use Rattle.thes_base.proofs.ListMembers.{Contains-head}
 use Rattle.thes_graph.specs.declared.relation.Relation.{Relation}
 use Rattle.thes_graph.specs.declared.relation.Relation.TheVariants.{Broader, Narrower}
 use Rattle.thes_graph.specs.declared.sight.Sight.TheVariants.{AsHeld}
@@ -13,6 +13,7 @@ use Rattle.thes_graph.specs.declared.trail.Trail.{Trail}
 use Rattle.thes_graph.specs.Steps.{Steps}
 use Rattle.thes_graph.specs.Trail.{IsHierarchy, IsTrail, GoesOn}
 use Rattle.thes_graph.specs.Towards.{back, ArePaid, AreTowards, HasLed}
+use Rattle.thes_graph.proofs.ReachLemmas.{only}
 use Rattle.thes_graph.proofs.PivotLemmas.{Chain-turn}
 use Rattle.thes_graph.proofs.ProbeLemmas.{narrower_from, narrower_to}
 use Rattle.thes_graph.proofs.GoesLemmas.{IsTrail-start, IsTrail-paid, IsTrail-away}
@@ -77,9 +78,6 @@ module _ (held : Links) where
           → ArePaid held relation from before count
       AreTowards-paid first second left count (a, b, one, two, within, paid) ns covers =
           omega (arith, IsTrail-paid AsHeld held relation tos from walked first a one ns covers, within, paid)
-
-    only : (x y : ℕ) → Contains (x ∷ []) y → x ≡ y
-    only x y has = elim (Contains-cons_cases x [] y has) [ inl same ↦ same | inr none ↦ absurd (Contains-none y none) ]
 
     module _ (from to before : ℕ) (first second : Trail) (after : ℕ) where
       abbrev Led : Type 0

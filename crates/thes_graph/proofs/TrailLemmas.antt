@@ -6,12 +6,12 @@ use Rattle.std.proofs.lemmas.Option.{slice_get_within, slice_get-get_or, get_or_
 use Rattle.thes_base.specs.declared.data.Link.{Link}
 use Rattle.thes_base.specs.declared.data.Direction.{Direction}
 use Rattle.thes_base.specs.declared.data.Direction.TheVariants.{Forward, Backward, Either, Never}
-use Rattle.thes_base.specs.Links.{Links, HeldIn, Leads}
+use Rattle.thes_base.specs.Links.{Links, HeldIn, Leads, HasEnd}
 use Rattle.thes_graph.specs.declared.relation.Relation.{Relation}
 use Rattle.thes_graph.specs.declared.side.Part.{Part}
 use Rattle.thes_graph.specs.declared.sight.Sight.{Sight}
 use Rattle.thes_graph.specs.declared.sight.Sight.TheVariants.{AsHeld, With, Merged}
-use Rattle.thes_graph.specs.Reading.{HaveTwoEnds, EndsAt, IsRow}
+use Rattle.thes_graph.specs.Reading.{HaveTwoEnds, IsRow}
 use Rattle.thes_graph.specs.Side.{side_no, side_at, side_in, IsPart, IsWalked}
 use Rattle.thes_graph.specs.Sight.{node_after, becomes, WouldBe}
 use Rattle.thes_graph.specs.Steps.{way_of, step_along, Steps}
@@ -190,11 +190,11 @@ module _ (held : Links) (relation : Relation) where
 
 -- what reading a part costs: its places are distinct links that stand on its side
 
-pub on_one : (at : ℕ) (side : Side) (l : Link) → EndsAt at l → side_at at l ≡ side → on at side l ≡ 1
+pub on_one : (at : ℕ) (side : Side) (l : Link) → HasEnd at l → side_at at l ≡ side → on at side l ≡ 1
 on_one at side l ends is =
     ap (λ b. if b then 1 else 0) (both_true (ends_true ends) ((Decides-eqb (side_no (side_at at l)) (side_no side)).1 (ap side_no is)))
   where
-    ends_true : EndsAt at l → ends_at at l ≡ true
+    ends_true : HasEnd at l → ends_at at l ≡ true
     ends_true (inl a) = or_left (l.a == at) (l.b == at) ((Decides-eqb l.a at).1 a)
     ends_true (inr b) = or_right (l.a == at) (l.b == at) ((Decides-eqb l.b at).1 b)
 
@@ -210,7 +210,7 @@ module _ (held : Links) (at : ℕ) (side : Side) (row : List Link) (part : Part)
       places : List Link
       places = take (part.to - part.from) (drop part.from row)
 
-      stood : (l : Link) → Contains places l → HeldIn held l × EndsAt at l × (side_at at l ≡ side)
+      stood : (l : Link) → Contains places l → HeldIn held l × HasEnd at l × (side_at at l ≡ side)
       stood l (k, lt, is) =
           let below : k < part.to - part.from = omega (arith, length-take (part.to - part.from) (drop part.from row)) in
           let inside : part.from + k < length row = omega (arith, is_part.within) in

@@ -5,10 +5,9 @@ use Rattle.std.proofs.lemmas.List.Elements.{Contains-append_left, Contains-appen
 use Rattle.std.proofs.lemmas.List.Sums.{sum_by_push}
 use Rattle.std.proofs.Math.Seq.{take-length}
 use Rattle.thes_base.specs.declared.data.Link.{Link}
-use Rattle.thes_base.specs.Links.{Links}
+use Rattle.thes_base.specs.Links.{Links, HasEnd}
 use Rattle.thes_graph.specs.declared.relation.Relation.{Relation}
 use Rattle.thes_graph.specs.declared.sight.Sight.{Sight}
-use Rattle.thes_graph.specs.Reading.{EndsAt}
 use Rattle.thes_graph.specs.Steps.{way_of, Steps, IsClosedBelow, GrowsBy}
 use Rattle.thes_graph.specs.Sight.{WouldBe, touches, IsReadOf, CoversAt, shown}
 use Rattle.thes_graph.specs.Local.{IsGathered}
@@ -21,7 +20,7 @@ use Rattle.thes_graph.proofs.CountLemmas.{met_twice}
 pub record IsWalked (sight : Sight) (held : Links) (relation : Relation) (start : ℕ) (nodes : List ℕ) (links : List Link) (i from count : ℕ) : Type 0 where
   pub closed : IsClosedBelow (Steps relation (WouldBe sight held)) start nodes i
   pub sound : (l : Link) → Contains links l → WouldBe sight held l
-  pub complete : (l : Link) → WouldBe sight held l → (k : ℕ) → k < i → EndsAt (get_or nodes k 0) l → Contains links l
+  pub complete : (l : Link) → WouldBe sight held l → (k : ℕ) → k < i → HasEnd (get_or nodes k 0) l → Contains links l
   pub cost : (ns : List Link) → ((k : ℕ) → k < i → CoversAt sight held (get_or nodes k 0) ns) → count ≤ from + sum_by (λ n. sum_by (touches sight n) ns) (take i nodes)
   pub within : i ≤ length nodes
 
@@ -51,9 +50,9 @@ module _ (sight : Sight) (held : Links) (relation : Relation) (start : ℕ) wher
         })
         walked.closed;
     sound = λ l has. elim (Contains-append_cases links (shown sight raw) l has) [ inl old ↦ walked.sound l old | inr new ↦ shown-sound held x raw sight is l new ];
-    complete = λ l would. below_more (λ k. EndsAt (get_or later k 0) l → Contains (links ++ shown sight raw) l) i
-        (λ k lt ends. Contains-append_left links (shown sight raw) l (walked.complete l would k lt (let P : ℕ → Type 0 = λ n. EndsAt n l in subst P (same k (omega arith)) ends)))
-        (λ ends. Contains-append_right links (shown sight raw) l (shown-complete held x raw sight is l would (let P : ℕ → Type 0 = λ n. EndsAt n l in subst P (same i inside ∙ sym at) ends)));
+    complete = λ l would. below_more (λ k. HasEnd (get_or later k 0) l → Contains (links ++ shown sight raw) l) i
+        (λ k lt ends. Contains-append_left links (shown sight raw) l (walked.complete l would k lt (let P : ℕ → Type 0 = λ n. HasEnd n l in subst P (same k (omega arith)) ends)))
+        (λ ends. Contains-append_right links (shown sight raw) l (shown-complete held x raw sight is l would (let P : ℕ → Type 0 = λ n. HasEnd n l in subst P (same i inside ∙ sym at) ends)));
     cost = λ ns covers.
         let weight : ℕ → ℕ = λ n. sum_by (touches sight n) ns in
         let old : before ≤ from + sum_by weight (take i nodes) = walked.cost ns (λ k lt. let P : ℕ → Type 0 = λ n. CoversAt sight held n ns in subst P (same k (omega arith)) (covers k (omega arith))) in
@@ -79,7 +78,7 @@ module _ (sight : Sight) (held : Links) (relation : Relation) (start : ℕ) wher
     reach = IsClosedBelow-end (Steps relation (WouldBe sight held)) start nodes i done walked.closed;
     sound = walked.sound;
     complete = λ l would n (k, lt, is) ends.
-        walked.complete l would k (omega arith) (let P : ℕ → Type 0 = λ m. EndsAt m l in subst P (sym is ∙ get_or_default nodes k n 0 lt) ends);
+        walked.complete l would k (omega arith) (let P : ℕ → Type 0 = λ m. HasEnd m l in subst P (sym is ∙ get_or_default nodes k n 0 lt) ends);
   }
 
   pub IsWalked-cost : (nodes : List ℕ) (links : List Link) (i from count : ℕ) → length nodes ≤ i → IsWalked sight held relation start nodes links i from count

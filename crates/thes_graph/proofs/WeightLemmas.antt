@@ -42,15 +42,15 @@ module _ {X : Type 0} where
   once_drop (suc i) [] once = once
   once_drop (suc i) (x ∷ xs) once = once_drop i xs once.1
 
+  pub Contains-take : (i : ℕ) (xs : List X) (x : X) → Contains (take i xs) x → Contains xs x
+  Contains-take i xs x (k, lt, is) =
+      let below : k < i = omega (arith, length-take i xs) in
+      (k, omega (arith, length-take i xs), sym (get_or-take i xs k x below) ∙ is)
+
   pub once_take : (i : ℕ) (xs : List X) → IsOnce xs → IsOnce (take i xs)
   once_take zero xs once = tt
   once_take (suc i) [] once = once
   once_take (suc i) (x ∷ xs) once = ((λ y has. once.0 y (Contains-take i xs y has)), once_take i xs once.1)
-    where
-      Contains-take : (i : ℕ) (xs : List X) (y : X) → Contains (take i xs) y → Contains xs y
-      Contains-take i xs y (k, lt, is) =
-          let below : k < i = omega (arith, length-take i xs) in
-          (k, omega (arith, length-take i xs), sym (get_or-take i xs k y below) ∙ is)
 
   -- distinct elements of ns, each of weight one or more, are no more than the weight of ns
   pub length-once : (weight : X → ℕ) (xs ns : List X) → IsOnce xs → ((x : X) → Contains xs x → Contains ns x) → ((x : X) → Contains xs x → 1 ≤ weight x) → length xs ≤ sum_by weight ns

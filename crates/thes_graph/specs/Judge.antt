@@ -4,12 +4,11 @@ use Rattle.std.specs.FinSet.{insert}
 use Rattle.thes_base.specs.declared.data.Link.{Link}
 use Rattle.thes_base.specs.declared.fault.Refusal.TheVariants as no
 use Rattle.thes_base.specs.Rows.{Row, refused_if}
-use Rattle.thes_base.specs.Links.{Links, HeldIn, IsFirstBroken}
+use Rattle.thes_base.specs.Links.{Links, HeldIn, IsFirstBroken, HasEnd}
 use Rattle.thes_base.specs.Neighbourhood.{Edit}
 use Rattle.thes_base.specs.Neighbourhood as edit
 use Rattle.thes_graph.specs.declared.sight.Sight.{Sight}
 use Rattle.thes_graph.specs.declared.sight.Sight.TheVariants.{AsHeld, With, Merged}
-use Rattle.thes_graph.specs.Reading.{EndsAt}
 use Rattle.thes_graph.specs.Sight.{WouldBe}
 use Rattle.thes_graph.specs.Local.{IsNear}
 
@@ -27,7 +26,7 @@ IsChanged (Merged source target) p n = (source ≡ n) ⊎ (p ≡ n)
 -- The neighbourhood of the edit has them.
 abbrev pub CoversEdit : Sight → Links → (p : ℕ) → List Link → Type 0
 CoversEdit sight held p ns =
-    (l : Link) → HeldIn held l → (n : ℕ) → IsChanged sight p n ⊎ IsNear (WouldBe sight held) p n → EndsAt n l → Contains ns l
+    (l : Link) → HeldIn held l → (n : ℕ) → IsChanged sight p n ⊎ IsNear (WouldBe sight held) p n → HasEnd n l → Contains ns l
 
 -- No more visits than six for each link in the neighbourhood of the edit.
 abbrev pub AreFewVisits : (is_outside : ℕ → Bool) → Edit → Links → (before after : ℕ) → Type 0

@@ -3,10 +3,9 @@ use Rattle.std.specs.Prelude.{◌≡◌, ◌≢◌, ◌⊎◌, ℕ, List, Contai
 use Rattle.thes_base.specs.declared.data.Link.{Link}
 use Rattle.thes_base.specs.declared.fault.Refusal.{Refusal}
 use Rattle.thes_base.specs.declared.fault.Refusal.TheVariants as no
-use Rattle.thes_base.specs.Links.{Links, exact_way, Joined, IsBroader, IsAbove, IsRelated, IsExact, IsApart, NoCycle, S27, IsFirstBroken}
+use Rattle.thes_base.specs.Links.{Links, exact_way, Joined, IsBroader, IsAbove, IsRelated, IsExact, IsApart, NoCycle, S27, IsFirstBroken, HasEnd}
 use Rattle.thes_graph.specs.declared.relation.Relation.{Relation}
 use Rattle.thes_graph.specs.declared.sight.Sight.{Sight}
-use Rattle.thes_graph.specs.Reading.{EndsAt}
 use Rattle.thes_graph.specs.Steps.{Steps, Reaches, IsReachOf}
 use Rattle.thes_graph.specs.Sight.{WouldBe, CoversAt}
 
@@ -58,7 +57,7 @@ IsFirstOfTwo Held (Some _) = ⊥
 pub record IsGathered (Would : Link → Type 0) (relation : Relation) (start : ℕ) (nodes : List ℕ) (links : List Link) : Type 0 where
   pub reach : IsReachOf (Steps relation Would) start nodes
   pub sound : (l : Link) → Contains links l → Would l
-  pub complete : (l : Link) → Would l → (n : ℕ) → Contains nodes n → EndsAt n l → Contains links l
+  pub complete : (l : Link) → Would l → (n : ℕ) → Contains nodes n → HasEnd n l → Contains links l
 
 -- n is p, above it, below it, or in its class of exact matches
 abbrev pub IsNear : (Link → Type 0) → (p n : ℕ) → Type 0

@@ -3,7 +3,7 @@ use Rattle.std.specs.Prelude.{◌≡◌, ◌+◌, ◌<◌, ◌≤◌, ◌*◌, �
 use Rattle.thes_base.specs.declared.data.Link.{Link}
 use Rattle.thes_base.specs.declared.fault.Refusal.{Refusal}
 use Rattle.thes_base.specs.declared.fault.Refusal.TheVariants as no
-use Rattle.thes_base.specs.Links.{Links, HeldIn, Chain, IsAbove, IsRelated}
+use Rattle.thes_base.specs.Links.{Links, HeldIn, Chain, IsAbove, IsRelated, HasEnd}
 use Rattle.thes_graph.specs.declared.relation.Relation.{Relation}
 use Rattle.thes_graph.specs.declared.relation.Relation.TheVariants as along
 use Rattle.thes_graph.specs.declared.side.Side.{Side}
@@ -11,7 +11,6 @@ use Rattle.thes_graph.specs.declared.sight.Sight.{Sight}
 use Rattle.thes_graph.specs.declared.sight.Sight.TheVariants.{AsHeld, With, Merged}
 use Rattle.thes_graph.specs.Local.{UpTo}
 use Rattle.thes_graph.specs.Net.{ends_at}
-use Rattle.thes_graph.specs.Reading.{EndsAt}
 use Rattle.thes_graph.specs.Side.{side_no, side_at, side_in}
 use Rattle.thes_graph.specs.Sight.{WouldBe, becomes, CoversAt}
 use Rattle.thes_graph.specs.Steps.{Steps, step_along, Reaches, IsClosedBelow, GrowsBy}
@@ -35,7 +34,7 @@ LeadsWithin sight relation x row from to y =
 -- a held link that stands at a node, on the side of the relation, leads from x to y after the edit
 abbrev pub LeadsFrom : Sight → Links → Relation → (at x y : ℕ) → Type 0
 LeadsFrom sight held relation at x y =
-    (l : Link) × HeldIn held l × EndsAt at l × (side_at at l ≡ side_in relation) × (led sight relation x l ≡ Some y)
+    (l : Link) × HeldIn held l × HasEnd at l × (side_at at l ≡ side_in relation) × (led sight relation x l ≡ Some y)
 
 -- Some goal was found among the nodes that New names; or there is none, and the nodes have grown by those that New names.
 abbrev pub Finds : (found : Bool) → (old new goals : List ℕ) → (New : ℕ → Type 0) → Type 0
@@ -48,7 +47,7 @@ on at side l = if ends_at at l && (side_no (side_at at l) == side_no side) then 
 
 -- these have each held link that stands on this side of the node
 abbrev pub Stands : Links → (at : ℕ) → Side → List Link → Type 0
-Stands held at side ns = (l : Link) → HeldIn held l → EndsAt at l → side_at at l ≡ side → Contains ns l
+Stands held at side ns = (l : Link) → HeldIn held l → HasEnd at l → side_at at l ≡ side → Contains ns l
 
 -- how many visits to a link reading this side of the node takes
 abbrev pub weight : Sight → (n : ℕ) → Side → Link → ℕ

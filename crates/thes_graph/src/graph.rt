@@ -4,9 +4,9 @@ ghost use Rattle.std.specs.Ordering.{nat_cmp};
 ghost use Rattle.std.specs.FinSet.{empty, contains, insert, remove, len, items};
 ghost use Rattle.thes_base.specs.declared.data.Link.{Link};
 ghost use Rattle.thes_base.specs.declared.data.LinkKind.TheVariants as kinds;
-ghost use Rattle.thes_base.specs.Links.{HeldIn, norm, contracted, without_node, IsFirstBroken};
+ghost use Rattle.thes_base.specs.Links.{HeldIn, norm, contracted, without_node, IsFirstBroken, HasEnd};
 ghost use Rattle.thes_base.specs.Listing.{IsListing};
-ghost use Rattle.thes_graph.specs.Reading.{HaveTwoEnds, EndsAt};
+ghost use Rattle.thes_graph.specs.Reading.{HaveTwoEnds};
 ghost use Rattle.thes_graph.specs.Side.{IsPart};
 ghost use Rattle.thes_graph.specs.Net.{is_marked, standings_at, links_at};
 ghost use Rattle.thes_base.specs.Views.{HasLink, HasBroader, IsMapping, mapping_cmp, IsTyped, typed_cmp};
@@ -117,7 +117,7 @@ impl Graph {
 
     // The end of the link at which fewer links stand.
     fn emptier_end(&self, link: &Link) -> ResNo
-        ensures { EndsAt result link.now }
+        ensures { HasEnd result link.now }
     {
         if self.at(link.b).len() < self.at(link.a).len() {
             link.b
@@ -315,8 +315,8 @@ impl Graph {
 
     // A link with an end at the node.
     fn last_at(&self, n: ResNo) -> Option<Link>
-        ensures { MatchOption result ((l : Link) → HeldIn self.now.links l → EndsAt n l
-            → ⊥) (λ l. HeldIn self.now.links l × EndsAt n l) }
+        ensures { MatchOption result ((l : Link) → HeldIn self.now.links l → HasEnd n l
+            → ⊥) (λ l. HeldIn self.now.links l × HasEnd n l) }
     {
         match self.at(n).last() {
             Some(standing) => Some(standing.link),
@@ -350,7 +350,7 @@ impl Graph {
 
     /// Marks the resource as an outside concept.
     pub fn mark_outside(&mut self, n: ResNo) -> Result<(), AllocError>
-        requires { (l : Link) → HeldIn self.old.links l → EndsAt n l → ⊥ }
+        requires { (l : Link) → HeldIn self.old.links l → HasEnd n l → ⊥ }
         ensures ok { OnOk result (self.new ≡ record self.old { outside = insert self.old.outside n }) }
         ensures err { OnErr result (self.new ≡ self.old) }
     {

@@ -14,7 +14,7 @@ mod mapped;
 mod marks;
 mod nodes;
 mod relation;
-pub mod side;
+mod side;
 mod sight;
 mod towards;
 mod trail;

@@ -1,7 +1,7 @@
 -- Empty lines before a request line.
 use Rattle.std.proofs.Common.{◌≡◌, ◌∙◌, sym, ap, subst, refl, ℕ, ◌+◌, ◌<◌, ◌==◌, ◌&&◌, Bool, true, false, cond, List, [], ◌∷◌, ◌++◌, length, take, drop, arith, rules, length-append}
 use Rattle.std.specs.List.{list_all, position_or_len, before_first, after_first}
-use Rattle.std.proofs.lemmas.Bool.{both_ways, eqb-true}
+use Rattle.std.proofs.lemmas.Bool.{both_ways, cond-false, eqb-true}
 use Rattle.std.proofs.lemmas.List.Sums.{position_or_len_is, list_all-from_AllPass}
 use Rattle.std.proofs.lemmas.List.Folds.{list_any_at}
 use Rattle.std.proofs.Math.ListN.{get_or-append}
@@ -84,14 +84,10 @@ no_return : (y z : Bool) (a b : List ℕ) → y ≡ false → cond (y && z) a b 
 no_return true z a b e = search (rules, e)
 no_return false z a b e = refl
 
-no_feed : (x : Bool) (a b : List ℕ) → x ≡ false → cond x a b ≡ b
-no_feed true a b e = search (rules, e)
-no_feed false a b e = refl
-
 line_stays : (b : ℕ) (bytes : List ℕ) → (b == 10) ≡ false → (b == 13) ≡ false → without_blank_lines (b ∷ bytes) ≡ b ∷ bytes
 unfolding without_blank_lines
-line_stays b [] h k = no_feed (b == 10) [] (b ∷ []) h
-line_stays a (b ∷ bytes) h k = no_feed (a == 10) _ _ h ∙ no_return (a == 13) (b == 10) _ _ k
+line_stays b [] h k = cond-false (b == 10) [] (b ∷ []) h
+line_stays a (b ∷ bytes) h k = cond-false (a == 10) _ _ h ∙ no_return (a == 13) (b == 10) _ _ k
 
 -- a line that begins with a method
 pub token_stays : (method bytes : List ℕ) → IsToken method → without_blank_lines (method ++ bytes) ≡ method ++ bytes

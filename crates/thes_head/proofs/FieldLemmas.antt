@@ -8,9 +8,8 @@ use Rattle.std.specs.Str.Parse.{AllDigits, IsNumeral, digits_value, without_lead
 use Rattle.std.specs.Int.{IsInRange}
 use Rattle.std.proofs.lemmas.Str.{IsUtf8-from_ascii, digit_value_digit}
 use Rattle.std.proofs.lemmas.Str.Parse.{digit_at, without_leading_plus_none}
-use Rattle.std.proofs.lemmas.Bool.{le-leb, lt-leb, leb-true}
+use Rattle.std.proofs.lemmas.Bool.{le-leb, lt-leb, leb-true, and_parts}
 use Rattle.std.proofs.Math.Dec.{leb}
-use Rattle.thes_base.proofs.ResourceLemmas.{left_true, right_true}
 use Rattle.std.proofs.lemmas.Fmt.{IsAscii-from_digits}
 use Rattle.httparse.specs.declared.spans.HeaderSpan.{HeaderSpan}
 use Rattle.thes_head.specs.declared.problem.Problem.TheVariants.{BadHead, NoLength, TooLong}
@@ -103,14 +102,17 @@ module _ {X Y : Type 0} (p : Y → Bool) (f : X → Y) (g : Y → List ℕ) wher
 -- Digits.
 
 digits_parts : (c : ℕ) (cs : List ℕ) → (is_ascii_digit c && list_all is_ascii_digit cs) ≡ true → IsInRange 48 57 c × (list_all is_ascii_digit cs ≡ true)
-digits_parts c cs h = let k = left_true (is_ascii_digit c) (list_all is_ascii_digit cs) h in ((leb-true 48 c (left_true (leb 48 c) (leb c 57) k), leb-true c 57 (right_true (leb 48 c) (leb c 57) k)), right_true (is_ascii_digit c) (list_all is_ascii_digit cs) h)
+digits_parts c cs h =
+    let all = and_parts (is_ascii_digit c) (list_all is_ascii_digit cs) h in
+    let digit = and_parts (leb 48 c) (leb c 57) all.0 in
+    ((leb-true 48 c digit.0, leb-true c 57 digit.1), all.1)
 
 pub digits_of : (ds : List ℕ) → list_all is_ascii_digit ds ≡ true → AllDigits 10 ds
 digits_of [] h = tt
 digits_of (c ∷ cs) h = let k = digits_parts c cs h in (omega (arith, digit_value_digit c k.0), digits_of cs k.1)
 
 length_parts : (text : List ℕ) → is_length text ≡ true → (0 < length text) × (list_all is_ascii_digit text ≡ true)
-length_parts text h = let k = left_true (nat_lt 0 (length text)) (list_all is_ascii_digit text) h in (grind (arith, k), right_true (nat_lt 0 (length text)) (list_all is_ascii_digit text) h)
+length_parts text h = let parts = and_parts (nat_lt 0 (length text)) (list_all is_ascii_digit text) h in let k = parts.0 in (grind (arith, k), parts.1)
 
 pub length_numeral : (text : List ℕ) → is_length text ≡ true → IsNumeral 10 text
 length_numeral text h = let k = length_parts text h in (k.0, digits_of text k.1)

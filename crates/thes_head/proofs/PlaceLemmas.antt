@@ -2,6 +2,7 @@
 use Rattle.std.proofs.Common.{◌≡◌, ◌≢◌, ◌∙◌, sym, ap, subst, refl, ℕ, ◌≤◌, ◌<◌, ◌⊎◌, inl, inr, ◌&&◌, Bool, true, false, not, cond, List, [], ◌∷◌, length, codes, Option, None, arith, rules}
 use Rattle.std.specs.List.{slice_split, position_or_len, before_first, after_first}
 use Rattle.std.specs.Str.{bytes_eq}
+use Rattle.std.proofs.lemmas.List.{nil_from_length}
 use Rattle.std.proofs.lemmas.List.Splits.{slice_split_none, slice_split_first, length-slice_split}
 use Rattle.std.proofs.lemmas.List.Sums.{fails_before_first, prefix_len-le-length}
 use Rattle.std.proofs.lemmas.Bool.{cases_lt}
@@ -23,10 +24,6 @@ not_at_front : (front : List ℕ) (parts : List (List ℕ)) → front ≢ [] →
 not_at_front [] parts n = absurd (n refl)
 not_at_front (b ∷ front) parts n = refl
 
-is_nothing : (xs : List ℕ) → length xs ≡ 0 → xs ≡ []
-is_nothing [] e = refl
-is_nothing (x ∷ xs) e = absurd (omega (arith, e))
-
 -- a path without a slash
 pub path_of_none : (path : List ℕ) → position_or_len is_slash path ≡ length path → found_at path ≡ None
 unfolding found_at
@@ -41,14 +38,14 @@ path_of_front path front rest l f r n = ap place_of_parts (cut path front rest l
 pub path_of_one : (path front rest : List ℕ) → position_or_len is_slash path < length path → front ≡ before_first is_slash path → rest ≡ after_first is_slash path → length front ≡ 0
     → position_or_len is_slash rest ≡ length rest → found_at path ≡ place_named rest
 unfolding found_at
-path_of_one path front rest l f r e none = ap place_of_parts (cut path front rest l f r) ∙ rw (is_nothing front e, whole rest none) refl
+path_of_one path front rest l f r e none = ap place_of_parts (cut path front rest l f r) ∙ rw (nil_from_length front e, whole rest none) refl
 
 -- two parts
 pub path_of_two : (path front rest a b : List ℕ) → position_or_len is_slash path < length path → front ≡ before_first is_slash path → rest ≡ after_first is_slash path → length front ≡ 0
     → position_or_len is_slash rest < length rest → a ≡ before_first is_slash rest → b ≡ after_first is_slash rest
     → position_or_len is_slash b ≡ length b → found_at path ≡ place_within a b
 unfolding found_at
-path_of_two path front rest a b l f r e l' f' r' none = ap place_of_parts (cut path front rest l f r) ∙ rw (is_nothing front e, cut rest a b l' f' r', whole b none) refl
+path_of_two path front rest a b l f r e l' f' r' none = ap place_of_parts (cut path front rest l f r) ∙ rw (nil_from_length front e, cut rest a b l' f' r', whole b none) refl
 
 -- a text with a slash is not this name
 same_bytes : (xs ys : List ℕ) → bytes_eq xs ys ≡ true → xs ≡ ys
@@ -86,4 +83,4 @@ pub path_of_three : (path front rest a more b c : List ℕ) → position_or_len 
     → position_or_len is_slash more < length more → b ≡ before_first is_slash more → c ≡ after_first is_slash more → found_at path ≡ place_below a b c
 unfolding found_at
 path_of_three path front rest a more b c l f r e l' f' r' l'' f'' r'' =
-    ap place_of_parts (cut path front rest l f r) ∙ (rw (is_nothing front e, cut rest a more l' f' r', cut more b c l'' f'' r'') (three_or_more a b c (some_or_none c (cases_lt (position_or_len is_slash c) (length c)))))
+    ap place_of_parts (cut path front rest l f r) ∙ (rw (nil_from_length front e, cut rest a more l' f' r', cut more b c l'' f'' r'') (three_or_more a b c (some_or_none c (cases_lt (position_or_len is_slash c) (length c)))))

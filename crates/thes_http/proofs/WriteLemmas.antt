@@ -1,18 +1,15 @@
 -- Two writes, one after the other, of which one may stop.
-use Rattle.std.proofs.Common.{◌≡◌, refl, ℕ, ◌≤◌, List, ◌++◌, length, take, append_assoc, [], Option, Result, Ok, Err, OnErr, arith, length-append}
-use Rattle.std.proofs.lemmas.Grind.{common_steps}
+use Rattle.std.proofs.Common.{◌≡◌, refl, ℕ, List, ◌++◌, append_assoc, [], Option, Result, Ok, Err, OnErr, arith, length-append}
+use Rattle.std.proofs.lemmas.List.{take-append-le}
 use Rattle.std.specs.Io.KnownBytes.{Appends}
 use Rattle.thes_base.specs.Pipe.{AppendsFront}
 use Rattle.thes_base.proofs.PipeLemmas.{appends_front_then}
-
-take_before : (n : ℕ) (xs ys : List ℕ) → n ≤ length xs → take n (xs ++ ys) ≡ take n xs
-take_before n xs ys h = grind (arith, common_steps)
 
 pub front_before : (a b : Option (List ℕ)) (xs ys : List ℕ) → AppendsFront a b xs → AppendsFront a b (xs ++ ys)
 front_before a b xs ys f = record {
   count = f.count;
   within = let h = f.within in rw (length-append xs ys) (omega (arith, h));
-  front = rw (take_before f.count xs ys f.within) f.front;
+  front = rw (take-append-le f.count xs ys f.within) f.front;
 }
 
 pub err_before : {A E : Type 0} (r : Result A E) (a b : Option (List ℕ)) (xs ys : List ℕ) → AppendsFront a b xs → OnErr r (AppendsFront a b (xs ++ ys))

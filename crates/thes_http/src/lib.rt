@@ -3,7 +3,9 @@
 
 mod act;
 mod head_text;
-pub mod response;
+mod response;
 pub mod serve;
 pub mod server;
 pub mod service;
+
+pub use response::Status;

@@ -5,7 +5,7 @@ use std::alloc::{AllocError, Global};
 use std::process::Abort;
 use thes_base::pipe::Pipe;
 use thes_devices::{Filling, Halting};
-use thes_http::response::Status;
+use thes_http::Status;
 use thes_http::serve::{Served, serve_one};
 
 // A request, the status of its answer, how much is performed, and the answer.

@@ -3,7 +3,7 @@ use crate::shelf::Shelf;
 use std::alloc::Global;
 use std::process::Abort;
 use thes_base::pipe::Pipe;
-use thes_http::response::Status;
+use thes_http::Status;
 use thes_http::serve::{Served, serve_one};
 
 // A request, how its connection ends, how much was performed then, and what was written.

@@ -3,7 +3,7 @@
 
 pub mod import;
 pub mod laws;
-pub mod outcome;
+mod outcome;
 pub mod postings;
 pub mod report;
 mod rows;

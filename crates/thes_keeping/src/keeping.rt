@@ -31,8 +31,8 @@ pub fn commit_one<K: Keeper>(alloc: Global, keeper: &mut K, change: Change) -> R
     keeper.commit(delta)
 }
 
-/// Adds the next posting, if its key is new, and tells whether it was.
-pub fn post<K: Keeper>(
+// Adds the next posting, if its key is new, and tells whether it was.
+fn post<K: Keeper>(
     alloc: Global,
     keeper: &mut K,
     number: PostNo,

@@ -1,14 +1,14 @@
 -- One list is written.
 use Rattle.std.proofs.Common.{ltb, ◌≡◌, ◌≢◌, ◌<◌, ◌≤◌, length, set, get_or, inl, inr, ℕ, true, [], Vec, Global, sym, ap, subst, ◌∙◌, arith}
 use Rattle.std.specs.Prelude.{Some, vec_len, slice_get}
-use Rattle.std.specs.Option.{is_some, IsSomeAnd, option_map_or}
+use Rattle.std.specs.Option.{IsSomeAnd, option_map_or}
 use Rattle.std.specs.Vec.{vec_capacity, with_item}
 use Rattle.std.proofs.lemmas.Bool.{cases_eq, cases_lt, ltb-true}
 use Rattle.std.proofs.lemmas.Grind.{get_or-set_at}
 use Rattle.std.proofs.lemmas.List.{get_or-set_other, length-set}
 use Rattle.std.proofs.lemmas.Option.{slice_get_past, slice_get-get_or}
 use Rattle.thes_lists.specs.declared.lists.Lists.{Lists}
-use Rattle.thes_lists.specs.Lists.{listed_at, HasList, HasSpare, AreSame, KeepsLists, KeepsRooms, ChangesAt}
+use Rattle.thes_lists.specs.Lists.{listed_at, HasSpare, AreSame, KeepsRooms, ChangesAt}
 
 abbrev IsRoomy : {A : Type 0} → Vec A Global → Type 0
 IsRoomy v = vec_len v < vec_capacity v
@@ -24,12 +24,6 @@ module _ {A : Type 0} (old new : Lists A) (n : ℕ) (v : Vec A Global) (written 
   rooms_elsewhere : (m : ℕ) → m ≢ n → HasSpare old m → HasSpare new m
   rooms_elsewhere m apart room = subst (λ o. IsSomeAnd o IsRoomy) (sym (elsewhere m apart)) room
 
-  lists_kept : KeepsLists old new
-  lists_kept m has = elim (cases_eq m n) [
-    | inl here ↦ subst (HasList new) (sym here) (ap is_some written)
-    | inr apart ↦ subst (λ o. is_some o ≡ true) (sym (elsewhere m apart)) has
-  ]
-
   -- the list as it was
   same_written : v.items ≡ listed_at old n → AreSame old new
   same_written same m = elim (cases_eq m n) [
@@ -43,8 +37,6 @@ module _ {A : Type 0} (old new : Lists A) (n : ℕ) (v : Vec A Global) (written 
     | inl here ↦ subst (HasSpare new) (sym here) (subst (λ o. IsSomeAnd o IsRoomy) (sym written) (keeps (subst (HasSpare old) here room)))
     | inr apart ↦ rooms_elsewhere m apart room
   ]
-
-  -- an empty list for a number that had none
 
   -- a list with more room
   module _ (before : Vec A Global) (was : Some before ≡ slice_get old.lists.items n) where
@@ -83,9 +75,6 @@ module _ {A : Type 0} (lists : Lists A) (n i : ℕ) (at : i ≡ n) (found : ltb 
 
   pub changes_at : ChangesAt lists wrote n v.items
   changes_at = changes_written lists wrote n v wrote_here wrote_elsewhere
-
-  pub lists_stay : KeepsLists lists wrote
-  lists_stay = lists_kept lists wrote n v wrote_here wrote_elsewhere
 
   pub rooms_stay : (m : ℕ) → m ≢ n → HasSpare lists m → HasSpare wrote m
   rooms_stay = rooms_elsewhere lists wrote n v wrote_here wrote_elsewhere

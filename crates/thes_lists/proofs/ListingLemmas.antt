@@ -1,4 +1,4 @@
--- Rising lists of what has a property: with one value more, with one less, and that there is at most one such list.
+-- Rising lists of what has a property: with one value more, with one less.
 use Rattle.std.proofs.Common.{◌≡◌, ◌≢◌, ◌⊎◌, inl, inr, ℕ, List, [], ◌∷◌, Bool, true, false, cond, Contains, Ordering, Less, Equal, Greater, refl, sym, ap, subst, ◌∙◌}
 use Rattle.std.specs.List.Sorted.{IsStrictlySortedBy}
 use Rattle.std.specs.Ordering.{is_eq, match_ordering}
@@ -80,32 +80,6 @@ module _ {A : Type 0} (c : A → A → Ordering) (o : IsTotalOrder c) (exact : I
     sound = λ m has. let in_rest = Has-from (remove_key (is_at (c x)) xs) m has in (is.sound m (Contains-from xs m (remove_had c xs (is_at (c x)) m in_rest)), remove_apart xs x m is.rises in_rest);
     complete = λ m p. Contains-from (remove_key (is_at (c x)) xs) m (remove_keeps xs x m p.1 (Has-from xs m (is.complete m p.0)));
   }
-
-  -- the members tell the list
-
-  same_members : (xs ys : List A) → IsStrictlySortedBy c xs → IsStrictlySortedBy c ys → ((m : A) → Has xs m → Has ys m) → ((m : A) → Has ys m → Has xs m) → xs ≡ ys
-  same_members [] [] sx sy to from = refl
-  same_members [] (y ∷ ys) sx sy to from = absurd (from y (inl refl))
-  same_members (x ∷ xs) [] sx sy to from = absurd (to x (inl refl))
-  same_members (x ∷ xs) (y ∷ ys) sx sy to from =
-      let head = heads (to x (inl refl)) (from y (inl refl)) in
-      (λ i. head i ∷ same_members xs ys (sorted_tail c x xs sx) (sorted_tail c y ys sy) (rest x y xs ys head sx to) (rest y x ys xs (sym head) sy from) i)
-    where
-      heads : Has (y ∷ ys) x → Has (x ∷ xs) y → x ≡ y
-      heads (inl same) at_y = sym same
-      heads (inr later) (inl same) = same
-      heads (inr later) (inr after) = absurd (never_below_itself c o x (o.trans x y x (above_head c x xs y sx after) (above_head c y ys x sy later)))
-
-      rest : (v w : A) (vs ws : List A) → v ≡ w → IsStrictlySortedBy c (v ∷ vs) → ((m : A) → Has (v ∷ vs) m → Has (w ∷ ws) m) → (m : A) → Has vs m → Has ws m
-      rest v w vs ws same sorted to m has = elim (to m (inr has)) [
-        | inl here ↦ absurd (never_below_itself c o v (subst (λ z. c v z ≡ Less) (sym (same ∙ here)) (above_head c v vs m sorted has)))
-        | inr later ↦ later
-      ]
-
-  pub listing_same : (P : A → Type 0) (xs ys : List A) → IsListing c P xs → IsListing c P ys → xs ≡ ys
-  listing_same P xs ys one two = same_members xs ys one.rises two.rises
-      (λ m has. Has-from ys m (two.complete m (one.sound m (Contains-from xs m has))))
-      (λ m has. Has-from xs m (one.complete m (two.sound m (Contains-from ys m has))))
 
   -- one list with a value more, and with one less
   module _ (P Q : ℕ → A → Type 0) (old new : Lists A) (n : ℕ) (x : A) (are : AreListings c P old) where

@@ -23,9 +23,6 @@ module _ {A : Type 0} where
   abbrev pub AreSame : Lists A → Lists A → Type 0
   AreSame old new = (n : ℕ) → listed_at new n ≡ listed_at old n
 
-  abbrev pub KeepsLists : Lists A → Lists A → Type 0
-  KeepsLists old new = (n : ℕ) → HasList old n → HasList new n
-
   abbrev pub KeepsRooms : Lists A → Lists A → Type 0
   KeepsRooms old new = (n : ℕ) → HasSpare old n → HasSpare new n
 

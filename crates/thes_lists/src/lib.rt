@@ -1,6 +1,6 @@
 //! For each number a rising list, and room for what is added to it.
 #![tactic(auto)]
 
-pub mod lists;
+mod lists;
 
 pub use lists::Lists;

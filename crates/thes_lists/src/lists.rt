@@ -5,7 +5,7 @@ ghost use Rattle.std.specs.BTreeMap.{is_at};
 ghost use Rattle.std.specs.BTreeSet.{insert_key};
 ghost use Rattle.std.specs.Set.{remove_key};
 ghost use Rattle.std.specs.Vec.{vec_len, vec_capacity};
-ghost use Rattle.thes_lists.specs.Lists.{listed_at, HasList, HasSpare, AreSame, KeepsLists, KeepsRooms, ChangesAt};
+ghost use Rattle.thes_lists.specs.Lists.{listed_at, HasList, HasSpare, AreSame, KeepsRooms, ChangesAt};
 
 use std::alloc::{AllocError, Global};
 use thes_base::number::ResNo;
@@ -39,11 +39,10 @@ impl<T: Ord + Drop> Lists<T> {
         }
     }
 
-    /// Makes an empty list for a number that has none.
-    pub fn open(&mut self, n: ResNo) -> Result<(), AllocError>
+    // Makes an empty list for a number that has none.
+    fn open(&mut self, n: ResNo) -> Result<(), AllocError>
         ensures same { AreSame self.old self.new }
         ensures rooms { KeepsRooms self.old self.new }
-        ensures lists { KeepsLists self.old self.new }
         ensures list { OnOk result (HasList self.new n) }
     {
         'opening: while self.lists.len() <= n.get() as usize {
@@ -79,18 +78,6 @@ impl<T: Ord + Drop> Lists<T> {
                 Ok(true)
             }
             None => Ok(false),
-        }
-    }
-
-    /// Replaces the list of a number that has one.
-    pub fn replace(&mut self, n: ResNo, list: Vec<T>)
-        requires { HasList self.old n }
-        ensures list { ChangesAt self.old self.new n list.items }
-        ensures lists { KeepsLists self.old self.new }
-    {
-        match self.lists.get_mut(n.get() as usize) {
-            Some(old) => *old = list,
-            None => {}
         }
     }
 

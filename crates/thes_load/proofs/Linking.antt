@@ -7,6 +7,7 @@ use Rattle.std.specs.Option.{option_map_or}
 use Rattle.std.specs.Ordering.{nat_cmp}
 use Rattle.std.specs.Cmp.{nat_cmp_total, both_ways as same_test}
 use Rattle.std.specs.FinSet.{empty, insert, contains, contains-empty, from_list, from_list_push}
+use Rattle.std.proofs.lemmas.Bool.{cases_eq}
 use Rattle.thes_base.specs.declared.data.Resource.{Resource}
 use Rattle.thes_base.specs.declared.data.Link.{Link}
 use Rattle.thes_base.specs.declared.fault.Refusal.{Refusal}
@@ -17,16 +18,16 @@ use Rattle.thes_base.specs.Legal.{IsLegalLink}
 use Rattle.thes_base.proofs.LinkSets.{links_total, links_exact}
 use Rattle.thes_base.proofs.SetMembers.{inserted_cases, inserted_new, inserted_kept}
 use Rattle.thes_base.proofs.NumberedLemmas.{numbered_bound}
-use Rattle.thes_base.proofs.ResourceLemmas.{same_or_not}
 use Rattle.thes_graph.specs.Net.{Net, is_marked}
 use Rattle.thes_rows.specs.declared.rows.HierRow.{HierRow}
 use Rattle.thes_rows.specs.Tables.{hier_link, hier_type}
+use Rattle.thes_rows.proofs.Sets.{once_push}
 use Rattle.thes_tables.specs.Rules.{LinkRule, HierRule, links_of}
 use Rattle.thes_tables.proofs.LinkTables.{held_cases, link_held, hier_held, link_lists, hier_lists}
 use Rattle.thes_load.specs.Forms.{HasLinkForm}
 use Rattle.thes_load.specs.Taken.{Takes}
 use Rattle.thes_load.specs.Linking.{IsFitLink, AreMarked, MarksFirst, IsAdded, HasLinks}
-use Rattle.thes_load.proofs.Pushing.{in_next, each_push, once_push, once_twice}
+use Rattle.thes_load.proofs.Pushing.{in_next, each_push, once_twice}
 
 -- Whether a link is legal.
 
@@ -54,7 +55,7 @@ marks_none rs = record {
 
 module _ (rs : List Resource) (i : ℕ) (graph : Net) (has : MarksFirst rs i graph) where
   pub marks_skip : is_outside rs (i + 1) ≡ false → MarksFirst rs (i + 1) graph
-  marks_skip inside = record { links = has.links; sound = has.sound; complete = λ n le e. either n le e (same_or_not n (i + 1)) }
+  marks_skip inside = record { links = has.links; sound = has.sound; complete = λ n le e. either n le e (cases_eq n (i + 1)) }
     where
       either : (n : ℕ) → n ≤ i + 1 → is_outside rs n ≡ true → (n ≡ i + 1) ⊎ (n ≢ i + 1) → is_marked graph n ≡ true
       either n le e (inl at) = let g = ap (is_outside rs) at in absurd (cc)
@@ -67,7 +68,7 @@ module _ (rs : List Resource) (i : ℕ) (graph : Net) (has : MarksFirst rs i gra
       | inl at ↦ ap (is_outside rs) at ∙ outside
       | inr old ↦ has.sound n old
     ];
-    complete = λ n le e. either n le e (same_or_not n (i + 1));
+    complete = λ n le e. either n le e (cases_eq n (i + 1));
   }
     where
       either : (n : ℕ) → n ≤ i + 1 → is_outside rs n ≡ true → (n ≡ i + 1) ⊎ (n ≢ i + 1) → contains (insert graph.outside (i + 1)) n ≡ true
@@ -101,7 +102,7 @@ module _ (rs : List Resource) (old new : Net) (K : List Link) (l : Link) (has : 
   pub link_step : (good : Bool) → HasLinkForm l → IsAdded rs old new l good → Takes (λ more. HasLinks rs new more []) (LinkRule rs) K l good
   link_step true form (legal, free, is) = record {
     rule = record {
-      once = once_push K l has.rule.once (λ there. free (subst (λ (s : Links). HeldIn s l) (sym has.are) (link_held K [] l there)));
+      once = once_push K l (λ there. free (subst (λ (s : Links). HeldIn s l) (sym has.are) (link_held K [] l there))) has.rule.once;
       kinds = each_push (λ (x : Link). hier_type x.kind ≡ None) K l has.rule.kinds form.0;
       each = each_push (IsLegalLink rs) K l has.rule.each legal;
     };
@@ -126,7 +127,7 @@ module _ (rs : List Resource) (old new : Net) (K : List Link) (H : List HierRow)
   pub hier_step : (good : Bool) → IsAdded rs old new (hier_link row) good → Takes (HasLinks rs new K) (HierRule rs K) H row good
   hier_step true (legal, free, is) = record {
     rule = has.rule;
-    once = once_push H row has.once (λ there. free (subst (λ (s : Links). HeldIn s (hier_link row)) (sym has.are) (hier_held K H row there)));
+    once = once_push H row (λ there. free (subst (λ (s : Links). HeldIn s (hier_link row)) (sym has.are) (hier_held K H row there))) has.once;
     each = each_push (λ (x : HierRow). IsLegalLink rs (hier_link x)) H row has.each legal;
     are = ap (λ (g : Net). g.links) is ∙ ap (λ (s : Links). insert s (hier_link row)) has.are ∙ sym (hier_push K H row);
     marked = subst (AreMarked rs) (sym is) has.marked;

@@ -1,10 +1,10 @@
 -- One more row of move.
 use Rattle.std.proofs.Common.{◌≡◌, ◌≢◌, ◌<◌, ℕ, zero, suc, ◌-◌, ◌+◌, length, List, [], ◌∷◌, ◌++◌, map, refl, sym, ap, ◌∙◌, subst, arith, inl, inr, false, eqb, eqb-true, length-append, lit<, ◌^◌}
 use Rattle.std.proofs.lemmas.Bool.{cases_Bool, eq-eqb, eqb-false}
-use Rattle.std.proofs.lemmas.List.{append-nil, length-map, map-append}
+use Rattle.std.proofs.lemmas.List.{append-nil, length-map, length-set, map-append}
 use Rattle.std.proofs.lemmas.List.Elements.{filter-append}
 use Rattle.std.proofs.lemmas.Option.{same_Some}
-use Rattle.std.specs.Prelude.{Some, slice_set, ◌==◌}
+use Rattle.std.specs.Prelude.{Some, ◌==◌}
 use Rattle.thes_base.specs.declared.data.Resource.{Resource}
 use Rattle.thes_base.specs.declared.data.Move.{Move}
 use Rattle.thes_base.specs.Resources.{IsConcept, numbered, set_numbered}
@@ -38,11 +38,6 @@ moves_other n rows r e = moves_append n rows (r ∷ []) ∙ ap (λ l. moves_of n
 follows_from : (above from : ℕ) (moves : List Move) (m : Move) (more : List Move) → Follows above from (moves ++ m ∷ more) → m.source ≡ led from moves
 follows_from above from [] m more follows = follows.1
 follows_from above from (x ∷ moves) m more follows = follows_from x.number x.target moves m more follows.2
-
-length_set : {A : Type 0} (xs : List A) (i : ℕ) (x : A) → length (slice_set xs i x) ≡ length xs
-length_set [] i x = refl
-length_set (y ∷ xs) zero x = refl
-length_set (y ∷ xs) (suc i) x = ap suc (length_set xs i x)
 
 module _ (rs : List Resource) (ps : List PostingRow) (taken : ℕ) (places : List ℕ) (rows : List MoveRow) (has : HasMoves rs ps taken places rows) where
   -- a row that begins what meets the rule is the next one
@@ -92,7 +87,7 @@ module _ (rs : List Resource) (ps : List PostingRow) (taken : ℕ) (places : Lis
     ]
 
     places_more : AtPlaces ps (rows ++ r ∷ []) (set_numbered places r.posting r.target)
-    places_more = record { fit = length_set places (r.posting - 1) r.target ∙ has.at.fit; at = at }
+    places_more = record { fit = length-set places (r.posting - 1) r.target ∙ has.at.fit; at = at }
       where
         at : (n : ℕ) (p : PostingRow) → numbered ps n ≡ Some p → numbered (set_numbered places r.posting r.target) n ≡ Some (place (history_of (rows ++ r ∷ []) p))
         at n p e = elim (cases_Bool (eqb r.posting p.number)) [

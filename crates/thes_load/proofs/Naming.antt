@@ -12,7 +12,7 @@ use Rattle.thes_base.specs.Resources.{Iris}
 use Rattle.thes_base.specs.Labels.{Label, Labels}
 use Rattle.thes_base.proofs.LabelSets.{labels_total, labels_exact, inserted_cases}
 use Rattle.thes_rows.specs.Tables.{IsIn, Ascends}
-use Rattle.thes_rows.proofs.Sets.{append_left, absent}
+use Rattle.thes_rows.proofs.Sets.{append_left, absent, once_push}
 use Rattle.thes_tables.specs.Rules.{EachRow, OutsideRule, LabelRule, iris_of, labels_of}
 use Rattle.thes_tables.proofs.Lists.{iri_row, row_of, in_set}
 use Rattle.thes_tables.proofs.Holding.{row_iri}
@@ -21,7 +21,7 @@ use Rattle.thes_vocab.specs.Loading.{AreIrisSoFar, FitsIri, TakesIri, HaveIris, 
 use Rattle.thes_load.specs.Forms.{HasOutsideForm, HasLabelForm}
 use Rattle.thes_load.specs.Taken.{Takes}
 use Rattle.thes_load.specs.Naming.{HasOutside, HasLabels, vocabulary_of}
-use Rattle.thes_load.proofs.Pushing.{in_next, each_push, once_push, once_twice}
+use Rattle.thes_load.proofs.Pushing.{in_next, each_push, once_twice}
 
 abbrev Row : Type 0
 Row = ℕ × List ℕ
@@ -130,7 +130,7 @@ module _ (base : List ℕ) (rs : List Resource) (outside : List Row) (old new : 
   label_step true form (fits, is) =
       let here = subst (λ (w : Vocabulary). FitsLabel w l) has.are fits in
       record {
-        once = once_push rows l has.once (λ there. true≢false (sym (in_set labels_total labels_exact rows l there) ∙ here.new));
+        once = once_push rows l (λ there. true≢false (sym (in_set labels_total labels_exact rows l there) ∙ here.new)) has.once;
         forms = each_push (λ (x : Label). IsLabelForm x.kind x.tag x.text) rows l has.forms form.1;
         are = is ∙ ap (λ (w : Vocabulary). with_labels w (set.insert w.labels l)) has.are
             ∙ ap (λ (ls : Labels). with_labels (vocabulary_of base rs outside rows) ls) (sym (set.from_list_push labels_total labels_exact rows l));

@@ -1,5 +1,5 @@
 -- One more row of posting.
-use Rattle.std.proofs.Common.{subst, ◌≡◌, ◌⊎◌, ◌<◌, ◌^◌, lit<, ℕ, ◌+◌, length, List, [], ◌∷◌, ◌++◌, map, refl, sym, ap, ◌∙◌, arith, inl, inr, Bool, true, false, cond, ◌||◌}
+use Rattle.std.proofs.Common.{subst, ◌≡◌, ◌⊎◌, ◌<◌, ◌^◌, lit<, ℕ, ◌+◌, length, List, [], ◌∷◌, ◌++◌, map, refl, sym, ap, ◌∙◌, arith, inl, inr, true, false, cond, ◌||◌}
 use Rattle.std.specs.Prelude.{Some}
 use Rattle.std.proofs.lemmas.List.{map-append, length-map}
 use Rattle.std.proofs.lemmas.Cmp.{nat_list_cmp_total}
@@ -13,9 +13,10 @@ use Rattle.thes_base.specs.Texts.{IsPostingForm}
 use Rattle.thes_base.proofs.NumberedLemmas.{push_cases, numbered_bound}
 use Rattle.thes_base.proofs.SetMembers.{or_swap}
 use Rattle.thes_rows.specs.declared.rows.PostingRow.{PostingRow}
-use Rattle.thes_rows.proofs.Sets.{clash, in_any, any_in}
+use Rattle.thes_rows.proofs.Sets.{clash, in_any, any_in, in_map, map_in}
 use Rattle.thes_tables.specs.Rules.{PostingRule}
-use Rattle.thes_tables.proofs.Lists.{in_numbered, numbered_in, in_map, map_in}
+use Rattle.thes_tables.proofs.Lists.{in_numbered, numbered_in}
+use Rattle.thes_graph.proofs.SetLemmas.{cond-or}
 use Rattle.thes_load.specs.Forms.{HasPostingForm}
 use Rattle.thes_post.specs.Sums.{Sums, IsTold}
 use Rattle.thes_load.specs.Counted.{AreSumsOf}
@@ -33,10 +34,6 @@ any_append : (q key : List ℕ) (keys : List (List ℕ)) → has_key (keys ++ ke
 any_append q key [] = refl
 any_append q key (k ∷ keys) = ap (λ b. eq_by_cmp (slice_cmp nat_cmp) q k || b) (any_append q key keys) ∙ or_swap (eq_by_cmp (slice_cmp nat_cmp) q k) (eq_by_cmp (slice_cmp nat_cmp) q key) (has_key keys q)
 
-either : (a b : Bool) → cond a true b ≡ (a || b)
-either true b = refl
-either false b = refl
-
 module _ (rs : List Resource) (keys : List (List ℕ)) (firsts ats : List ℕ) (sums : Sums) (rows : List PostingRow) (p : PostingRow) (has : HasPostings rs keys firsts ats sums rows) where
   count : length firsts ≡ length rows
   count = ap length has.firsts_are ∙ length-map rows (λ (x : PostingRow). x.first)
@@ -53,7 +50,7 @@ module _ (rs : List Resource) (keys : List (List ℕ)) (firsts ats : List ℕ) (
 
   pub key_held : has_key keys p.key ≡ true → (more : List PostingRow) → PostingRule rs (rows ++ p ∷ more) → ⊥
   key_held held more all =
-      let row = map_in key_of rows p.key (in_any nat_list_cmp_total keys_exact p.key (map key_of rows) (sym (has.keys_are p.key) ∙ held)) in
+      let row = in_map key_of p.key rows (in_any nat_list_cmp_total keys_exact p.key (map key_of rows) (sym (has.keys_are p.key) ∙ held)) in
       let at = in_numbered rows row.0 row.1 in
       let same = all.keys at.0 (length rows + 1) row.0 p (numbered_still rows (p ∷ more) at.0 row.0 at.1) (numbered_next rows p more) (sym row.2) in
       let b = (numbered_bound rows at.0 row.0 at.1).1 in
@@ -61,7 +58,7 @@ module _ (rs : List Resource) (keys : List (List ℕ)) (firsts ats : List ℕ) (
 
   -- a row that has the key
   row_held : (n : ℕ) (row : PostingRow) → numbered rows n ≡ Some row → row.key ≡ p.key → has_key keys p.key ≡ true
-  row_held n row e same = has.keys_are p.key ∙ ap (has_key (map key_of rows)) (sym same) ∙ any_in nat_list_cmp_total keys_exact row.key (map key_of rows) (in_map key_of rows row (numbered_in rows n row e))
+  row_held n row e same = has.keys_are p.key ∙ ap (has_key (map key_of rows)) (sym same) ∙ any_in nat_list_cmp_total keys_exact row.key (map key_of rows) (map_in key_of row rows (numbered_in rows n row e))
 
   keys_push : has_key keys p.key ≡ false → (m n : ℕ) (x y : PostingRow) → numbered (rows ++ p ∷ []) m ≡ Some x → numbered (rows ++ p ∷ []) n ≡ Some y → x.key ≡ y.key → m ≡ n
   keys_push free m n x y ex ey same = both (push_cases rows p x m ex) (push_cases rows p y n ey)
@@ -86,7 +83,7 @@ module _ (rs : List Resource) (keys : List (List ℕ)) (firsts ats : List ℕ) (
           concepts = each_push (λ (x : PostingRow). IsConcept rs x.first × IsConcept rs x.place) rows p has.rule.concepts (next.first, next.place);
           live = each_push (λ (x : PostingRow). x.withdrawn ≡ false → is_live_concept rs x.place ≡ true) rows p has.rule.live next.live;
         };
-        keys_are = λ q. updates q ∙ either (eq_by_cmp (slice_cmp nat_cmp) p.key q) (has_key keys q) ∙ ap (λ b. b || has_key keys q) ((eq_by_cmp_equiv nat_list_cmp_total).symm p.key q) ∙ ap (λ b. eq_by_cmp (slice_cmp nat_cmp) q p.key || b) (has.keys_are q)
+        keys_are = λ q. updates q ∙ cond-or (eq_by_cmp (slice_cmp nat_cmp) p.key q) (has_key keys q) ∙ ap (λ b. b || has_key keys q) ((eq_by_cmp_equiv nat_list_cmp_total).symm p.key q) ∙ ap (λ b. eq_by_cmp (slice_cmp nat_cmp) q p.key || b) (has.keys_are q)
             ∙ sym (any_append q p.key (map key_of rows)) ∙ ap (λ l. has_key l q) (sym (map-append key_of rows (p ∷ [])));
         firsts_are = ap (λ (l : List ℕ). l ++ p.first ∷ []) has.firsts_are ∙ sym (map-append (λ (x : PostingRow). x.first) rows (p ∷ []));
         ats_are = ap (λ (l : List ℕ). l ++ p.place ∷ []) has.ats_are ∙ sym (map-append (λ (x : PostingRow). x.place) rows (p ∷ []));

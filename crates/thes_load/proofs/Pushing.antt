@@ -1,11 +1,11 @@
 -- One more row, and more after it.
-use Rattle.std.proofs.Common.{◌≡◌, ◌⊎◌, ◌<◌, ◌^◌, ℕ, zero, suc, ◌+◌, length, List, [], ◌∷◌, ◌++◌, refl, sym, ap, ◌∙◌, subst, arith, inl, inr, length-append}
+use Rattle.std.proofs.Common.{◌≡◌, ◌<◌, ◌^◌, ℕ, zero, suc, ◌+◌, length, List, [], ◌∷◌, ◌++◌, refl, sym, ap, ◌∙◌, subst, arith, inl, inr, length-append}
 use Rattle.std.specs.Prelude.{Some}
 use Rattle.thes_base.specs.Forms.{IsNumber}
 use Rattle.thes_base.specs.Resources.{numbered}
 use Rattle.thes_base.proofs.NumberedLemmas.{push_cases}
 use Rattle.thes_rows.specs.Tables.{IsIn, Once}
-use Rattle.thes_rows.proofs.Sets.{in_append, append_right, lists_push}
+use Rattle.thes_rows.proofs.Sets.{in_append, append_right}
 use Rattle.thes_rows.proofs.MoveRows.{get_at}
 use Rattle.thes_tables.specs.Rules.{EachRow, AreInOrder}
 
@@ -29,11 +29,6 @@ module _ {A : Type 0} where
     | inl old ↦ each y old
     | inr new ↦ elim new [ inl is ↦ subst P (sym is) p | inr none ↦ absurd none ]
   ]
-
-  pub once_push : (rows : List A) (x : A) → Once rows → (IsIn x rows → ⊥) → Once (rows ++ x ∷ [])
-  once_push rows x once new =
-      (lists_push {Has = λ (y : A). IsIn y rows} {More = λ (y : A). (y ≡ x) ⊎ IsIn y rows} rows x new (λ y h. h) (inl refl) (λ y h. inr h)
-      (record { sound = λ y h. h; complete = λ y h. h; once = once })).once
 
   -- a row that is there already
   pub once_twice : (rows : List A) (x : A) (more : List A) → IsIn x rows → Once (rows ++ x ∷ more) → ⊥

@@ -3,6 +3,7 @@ use Rattle.std.proofs.Common.{◌≡◌, ◌≢◌, ◌⊎◌, ◌<◌, ◌≤�
 use Rattle.std.proofs.lemmas.Option.{same_Some}
 use Rattle.std.specs.Prelude.{Option, Some, None}
 use Rattle.std.specs.FinSet.{empty, insert, contains-empty}
+use Rattle.std.proofs.lemmas.Bool.{cases_eq}
 use Rattle.thes_base.specs.declared.data.Resource.{Resource}
 use Rattle.thes_base.specs.declared.data.ResourceKind.{ResourceKind}
 use Rattle.thes_base.specs.declared.data.ResourceKind.TheVariants.{Scheme, Concept, Collection, Outside}
@@ -17,7 +18,6 @@ use Rattle.thes_base.specs.Legal.{IsLegalResource}
 use Rattle.thes_base.proofs.NumberedLemmas.{numbered_bound}
 use Rattle.thes_base.proofs.LinkSets.{links_total, links_exact, link_inserted_cases}
 use Rattle.thes_base.proofs.SetMembers.{inserted_new, inserted_kept}
-use Rattle.thes_base.proofs.ResourceLemmas.{same_or_not}
 use Rattle.thes_base.proofs.ResourcesKept.{path_map}
 use Rattle.thes_base.proofs.Forwarding.{next_is, is_next}
 use Rattle.thes_tables.specs.Rules.{ResourceRule}
@@ -88,7 +88,7 @@ module _ (rs : List Resource) where
   pub replacements_skip : (i : ℕ) (links : Links) → replacement_of rs (i + 1) ≡ None → HasReplacements rs i links → HasReplacements rs (i + 1) links
   replacements_skip i links none has = record {
     sound = has.sound;
-    complete = λ m n le is. either m n le is (same_or_not m (i + 1));
+    complete = λ m n le is. either m n le is (cases_eq m (i + 1));
   }
     where
       either : (m n : ℕ) → m ≤ i + 1 → IsReplacedBy rs m n → (m ≡ i + 1) ⊎ (m ≢ i + 1) → HeldIn links (record { kind = Broader; a = m; b = n })
@@ -100,7 +100,7 @@ module _ (rs : List Resource) where
   pub replacements_more : (i by : ℕ) (links : Links) → replacement_of rs (i + 1) ≡ Some by → HasReplacements rs i links → HasReplacements rs (i + 1) (insert links (record { kind = Broader; a = i + 1; b = by }))
   replacements_more i by links is_by has = record {
     sound = λ l held. sound_at l (link_inserted_cases links _ l held);
-    complete = λ m n le is. either m n le is (same_or_not m (i + 1));
+    complete = λ m n le is. either m n le is (cases_eq m (i + 1));
   }
     where
       sound_at : (l : Link) → (l ≡ record { kind = Broader; a = i + 1; b = by }) ⊎ HeldIn links l → (l.kind ≡ Broader) × IsReplacedBy rs l.a l.b

@@ -4,7 +4,7 @@
 mod cells;
 mod closing;
 mod ends;
-pub mod handed;
+mod handed;
 mod linked;
 mod links;
 mod meta;

@@ -58,7 +58,7 @@ impl Stage {
     }
 
     /// Tells whether a fault was found.
-    pub fn is_stopped(&self) -> bool
+    pub(crate) fn is_stopped(&self) -> bool
         ensures { result ≡ is_stopped self.now }
     {
         match self {
@@ -68,7 +68,7 @@ impl Stage {
     }
 
     /// Reads the next row of the table that is read, or answers false if it breaks the rule or is none.
-    pub fn read(&mut self, alloc: Global, cells: &[Cell]) -> Result<bool, AllocError>
+    pub(crate) fn read(&mut self, alloc: Global, cells: &[Cell]) -> Result<bool, AllocError>
         ensures { IfOk result (ReadsRow self.old self.new cells.now) }
     {
         match self {
@@ -111,7 +111,7 @@ impl Stage {
     }
 
     /// Ends the rows of the tables before this one, so that this one is read.
-    pub fn reach(self, alloc: Global, table: Table) -> Result<Stage, AllocError>
+    pub(crate) fn reach(self, alloc: Global, table: Table) -> Result<Stage, AllocError>
         requires { table_no (stage_table self) ≤ table_no table }
         ensures { IfOk result (λ new. Reaches self new table) }
     {

@@ -1,10 +1,11 @@
 -- What stays of a list in another order: what is in it, that each stands once, and the set that it makes.
 use Rattle.std.proofs.Common.{◌≡◌, ◌≤◌, ℕ, zero, suc, length, List, [], ◌∷◌, map, refl, sym, ap, ◌∙◌, subst, arith, inl, inr, Bool, cond}
 use Rattle.std.proofs.lemmas.Bool.{cases_Bool}
+use Rattle.std.proofs.lemmas.List.{length-map, map-set}
 use Rattle.std.proofs.lemmas.List.Sums.{sum_by-cons}
 use Rattle.std.proofs.lemmas.List.Sorted.{IsPermutation-sym, Contains-permutation, sum_by-IsPermutation, IsPermutation-keeps, IsPermutation-swap, IsPermutation-trans, IsPermutation-refl}
 use Rattle.std.specs.Prelude.{sum_by, slice_index_or, slice_set}
-use Rattle.std.specs.List.{Contains, swap}
+use Rattle.std.specs.List.{swap}
 use Rattle.std.specs.List.Sorted.{IsPermutation}
 use Rattle.std.specs.declared.cmp.Ordering.{Ordering}
 use Rattle.std.specs.Ordering.{eq_by_cmp, is_eq}
@@ -13,24 +14,14 @@ use Rattle.std.specs.FinMap.{IsAntisymmetric}
 use Rattle.std.specs.FinSet as set
 use Rattle.thes_base.proofs.SetMembers.{same_members}
 use Rattle.thes_rows.specs.Tables.{IsIn, Once}
-use Rattle.thes_rows.proofs.MoveRows.{map_set}
 use Rattle.thes_tables.proofs.Lists.{row_of, in_set}
+use Rattle.thes_core.proofs.DeltaLemmas.{contains_in, in_contains}
 
 -- Elements.
 
 module _ {A : Type 0} where
-  contains_in : (xs : List A) (x : A) → IsIn x xs → Contains xs x
-  contains_in [] x h = absurd h
-  contains_in (y ∷ xs) x (inl e) = (0, omega arith, sym e)
-  contains_in (y ∷ xs) x (inr h) = let r = contains_in xs x h in (suc r.0, (let q = r.1 in omega (arith, q)), r.2)
-
-  in_contains : (xs : List A) (x : A) (k : ℕ) → suc k ≤ length xs → slice_index_or xs k x ≡ x → IsIn x xs
-  in_contains [] x k lt e = absurd (omega (arith, lt))
-  in_contains (y ∷ xs) x zero lt e = inl (sym e)
-  in_contains (y ∷ xs) x (suc k) lt e = inr (in_contains xs x k (omega (arith, lt)) e)
-
   pub in_permuted : (xs ys : List A) → IsPermutation xs ys → (x : A) → IsIn x xs → IsIn x ys
-  in_permuted xs ys p x h = let r = Contains-permutation xs ys x p (contains_in xs x h) in in_contains ys x r.0 r.1 r.2
+  in_permuted xs ys p x h = contains_in ys x (Contains-permutation xs ys x p (in_contains xs x h))
 
   pub in_back : (xs ys : List A) → IsPermutation xs ys → (x : A) → IsIn x ys → IsIn x xs
   in_back xs ys p x h = in_permuted ys xs (IsPermutation-sym xs ys p) x h
@@ -48,19 +39,15 @@ module _ {A B : Type 0} (f : A → B) where
   swap_map (x ∷ xs) i j =
       ap (λ y. slice_set (slice_set (map f (x ∷ xs)) i y) j (slice_index_or (map f (x ∷ xs)) i (f x))) (index_map (x ∷ xs) j x)
       ∙ ap (λ y. slice_set (slice_set (map f (x ∷ xs)) i (f (slice_index_or (x ∷ xs) j x))) j y) (index_map (x ∷ xs) i x)
-      ∙ ap (λ ys. slice_set ys j (f (slice_index_or (x ∷ xs) i x))) (sym (map_set f (x ∷ xs) i (slice_index_or (x ∷ xs) j x)))
-      ∙ sym (map_set f (slice_set (x ∷ xs) i (slice_index_or (x ∷ xs) j x)) j (slice_index_or (x ∷ xs) i x))
+      ∙ ap (λ ys. slice_set ys j (f (slice_index_or (x ∷ xs) i x))) (sym (map-set f (x ∷ xs) i (slice_index_or (x ∷ xs) j x)))
+      ∙ sym (map-set f (slice_set (x ∷ xs) i (slice_index_or (x ∷ xs) j x)) j (slice_index_or (x ∷ xs) i x))
 
   pub map_permuted : (xs : List A) (ys : List B) → IsPermutation (map f xs) ys → (zs : List A) × IsPermutation xs zs × (ys ≡ map f zs)
   map_permuted xs = IsPermutation-keeps (map f xs) (λ l. (zs : List A) × IsPermutation xs zs × (l ≡ map f zs)) (xs, IsPermutation-refl xs, refl) step
     where
-      long : (zs : List A) → length (map f zs) ≡ length zs
-      long [] = refl
-      long (z ∷ zs) = ap suc (long zs)
-
       step : (l : List B) (i j : ℕ) → suc i ≤ length l → suc j ≤ length l → ((zs : List A) × IsPermutation xs zs × (l ≡ map f zs)) → (zs : List A) × IsPermutation xs zs × (swap l i j ≡ map f zs)
       step l i j p q (zs, are, is) =
-          let n : length l ≡ length zs = ap length is ∙ long zs in (
+          let n : length l ≡ length zs = ap length is ∙ length-map zs f in (
             swap zs i j,
             IsPermutation-trans xs zs (swap zs i j) are (IsPermutation-swap zs (swap zs i j) i j (omega (arith, p, n)) (omega (arith, q, n)) refl),
             ap (λ k. swap k i j) is ∙ swap_map zs i j,

@@ -2,8 +2,8 @@
 #![tactic(auto)]
 
 pub mod laws;
-pub mod loader;
-pub mod rows;
+mod loader;
+mod rows;
 
 pub use loader::Loader;
 pub use rows::{Row, Rows, from_rows};

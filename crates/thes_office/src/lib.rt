@@ -4,7 +4,7 @@
 mod facts;
 mod loading;
 pub mod numbers;
-pub mod office;
+mod office;
 mod reading;
 mod serving;
 

@@ -3,16 +3,16 @@ use Rattle.std.proofs.Common.{◌≡◌, ◌≢◌, ◌<◌, ◌≤◌, ℕ, zer
 use borrow.Author.Tests.{eq-eqb}
 use Rattle.std.specs.Prelude.{Some, None, Option, count_by, slice_get, slice_set}
 use Rattle.std.specs.Option.{option_map_or}
-use Rattle.std.proofs.lemmas.Bool.{cases_Bool, and_parts, not-true}
+use Rattle.std.proofs.lemmas.Bool.{cases_Bool, and_parts, not-true, cases_eq}
 use Rattle.std.proofs.lemmas.List.Sums.{sum_by-cons, sum_by_push, count_by-le-length}
+use Rattle.std.proofs.lemmas.List.{length-set}
 use Rattle.thes_base.specs.declared.data.History.{History}
 use Rattle.thes_base.specs.Resources.{numbered, set_numbered}
 use Rattle.thes_base.specs.Postings.{place, moved, moved_those, withdraw, stands_at, standing_count, withdrawn_count, move_count, end_of}
 use Rattle.thes_base.specs.Changes.{new_history, histories_posted, histories_withdrawn}
 use Rattle.thes_base.proofs.Forwarding.{along_led, count_posted}
 use Rattle.thes_base.proofs.MoveLemmas.{place_moved, length_moved, count_moved}
-use Rattle.thes_base.proofs.PostingsKept.{count_set_numbered, length_set}
-use Rattle.thes_base.proofs.ResourceLemmas.{same_or_not}
+use Rattle.thes_base.proofs.PostingsKept.{count_set_numbered}
 use Rattle.thes_post.specs.Sums.{Sums, count_of, AreSums, OneMore, OneLess, SomeMoved}
 
 -- What a history counts for.
@@ -61,7 +61,7 @@ module _ (hs : List History) (key rec : List ℕ) (first : ℕ) (way : List ℕ)
 
   pub sums_posted : (old new : Sums) → AreSums hs old → OneMore (end_of first way) (length way) old new → AreSums posted new
   sums_posted old new are one = record {
-    standing = λ c. elim (same_or_not c (end_of first way)) [
+    standing = λ c. elim (cases_eq c (end_of first way)) [
       | inl here ↦
           let a = ap (count_of new) here in
           let b = one.here in
@@ -106,12 +106,12 @@ module _ (hs : List History) (n : ℕ) (h : History) (at : numbered hs n ≡ Som
       let c = set_count (λ x. x.withdrawn) in
       let t = ap {B = ℕ} (λ b. cond b 1 0) stays in
       let l = count_by-le-length (λ (x : History). x.withdrawn) less in
-      let k = length_set hs (n - 1) (withdraw h) in
+      let k = length-set hs (n - 1) (withdraw h) in
       omega (arith, c, t, l, k)
 
   pub sums_withdrawn : (old new : Sums) → AreSums hs old → OneLess (place h) old new → AreSums (histories_withdrawn n hs) new
   sums_withdrawn old new are one = subst (λ l. AreSums l new) (sym (ap (λ (o : Option History). elim o [ None ↦ hs | Some g ↦ set_numbered hs n (withdraw g) ]) at)) (record {
-    standing = λ c. elim (same_or_not c (place h)) [
+    standing = λ c. elim (cases_eq c (place h)) [
       | inl here ↦
           let a = ap (count_of new) here in
           let b = one.here in
@@ -127,7 +127,7 @@ module _ (hs : List History) (n : ℕ) (h : History) (at : numbered hs n ≡ Som
           let t = ap {B = ℕ} (λ b. cond b 1 0) (stands_not c h (λ e. apart (sym e))) in
           omega (arith, b, s, m, t)
     ];
-    accepted = (let a = one.accepted in let b = are.accepted in let l = length_set hs (n - 1) (withdraw h) in omega (arith, a, b, l));
+    accepted = (let a = one.accepted in let b = are.accepted in let l = length-set hs (n - 1) (withdraw h) in omega (arith, a, b, l));
     withdrawn = (let a = one.withdrawn in let b = are.withdrawn in let w = set_count (λ x. x.withdrawn) in let t = ap {B = ℕ} (λ b. cond b 1 0) stays in omega (arith, a, b, w, t));
     moves = (let a = one.moves in let b = are.moves in let m = count_set_numbered hs n h (withdraw h) at refl in omega (arith, a, b, m));
   })
@@ -216,7 +216,7 @@ module _ (passes : History → Bool) (source target : ℕ) (apart : source ≢ t
 
     pub sums_moved : (count : ℕ) → count ≡ count_by passes hs → (old new : Sums) → AreSums hs old → SomeMoved source target count old new → AreSums after_moves new
     sums_moved count is old new are some = record {
-      standing = λ c. elim (same_or_not c source) [
+      standing = λ c. elim (cases_eq c source) [
         | inl here ↦
             let a = ap (count_of new) here in
             let s = are.standing source in
@@ -224,7 +224,7 @@ module _ (passes : History → Bool) (source target : ℕ) (apart : source ≢ t
             let f = fewer in
             let t = ap (λ d. standing_count d after_moves) here in
             omega (arith, a, s, m, f, t, is)
-        | inr no_source ↦ elim (same_or_not c target) [
+        | inr no_source ↦ elim (cases_eq c target) [
           | inl there ↦
               let a = ap (count_of new) there in
               let s = are.standing target in

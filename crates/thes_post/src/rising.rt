@@ -18,8 +18,8 @@ pub fn sorted(alloc: Global, numbers: &[PostNo]) -> Result<Vec<PostNo>, AllocErr
     Ok(list)
 }
 
-/// Tells whether each number is above the one before it.
-pub fn is_rising(numbers: &[PostNo]) -> bool
+// Tells whether each number is above the one before it.
+fn is_rising(numbers: &[PostNo]) -> bool
     ensures { IsTrue result ↔ RisesFrom 0 numbers.now }
 {
     let mut least = 0;

@@ -1,6 +1,6 @@
 -- The changes of a request lead to the rows of the next state.
 use Rattle.std.proofs.Common.{◌≡◌, ◌≢◌, ◌<◌, ◌≤◌, inl, inr, ℕ, suc, ◌+◌, ◌-◌, length, List, [], ◌∷◌, ◌++◌, refl, sym, ap, ◌∙◌, subst, arith, true, false, Bool, cond, map, append_assoc}
-use Rattle.std.proofs.lemmas.List.{map-append, append-nil}
+use Rattle.std.proofs.lemmas.List.{map-append, append-nil, map-set}
 use Rattle.std.specs.Prelude.{Some, None, Option, slice_get, if◌then◌else◌}
 use Rattle.std.specs.Ordering.{nat_cmp, eq_by_cmp, is_eq}
 use Rattle.std.specs.Cmp.{nat_cmp_total, tied_itself}
@@ -43,7 +43,7 @@ use Rattle.thes_base.proofs.ListedLemmas.{NumberedFrom, numbered_from}
 use Rattle.thes_rows.proofs.Sets.{in_append, clash, absent, inserted, inserted_union, coming_same, coming_absent, Absent, row_new, listed_push, listed_drop, listed_all}
 use Rattle.thes_rows.proofs.Steps.{all_append, fit_append}
 use Rattle.thes_rows.proofs.LinkRows.{LinkRows, links_of, relinked, added_only, dropped_only, link_in, link_out, link_fits, drop_fits, turning, turning_only, turning_rows, turning_fit, comes, comes_absent, comes_same}
-use Rattle.thes_rows.proofs.MoveRows.{bounded, rises_new, rises_along, moves_more, moves_posted, moves_set, map_set, map_numbered, with_at, rows_moved, placed_all, rows_placed}
+use Rattle.thes_rows.proofs.MoveRows.{bounded, rises_new, rises_along, moves_more, moves_posted, moves_set, map_numbered, with_at, rows_moved, placed_all, rows_placed}
 
 -- Rows of outside.
 
@@ -426,7 +426,7 @@ module _ (base : List ℕ) (s : State) (legal : Legal base s) where
   leads_withdrawn n h e = subst (Leads base (change.Withdraw n ∷ []) s) (sym (withdrawn_at s n h e)) (record {
     rows = λ t is.
         with_histories base s t is (set_numbered s.histories n (withdraw h)) (with_posting withdrawn_row n t.posting) t.move
-        (ap (with_posting withdrawn_row n) is.posting ∙ with_at withdrawn_row n (map posting_row s.histories) (posting_row h) (map_numbered posting_row s.histories n h e) ∙ sym (map_set posting_row s.histories (n - 1) (withdraw h)))
+        (ap (with_posting withdrawn_row n) is.posting ∙ with_at withdrawn_row n (map posting_row s.histories) (posting_row h) (map_numbered posting_row s.histories n h e) ∙ sym (map-set posting_row s.histories (n - 1) (withdraw h)))
         (moves_set s.histories n h (withdraw h) t.move e refl is.move);
     fit = λ t is. (tt, tt);
   })

@@ -81,7 +81,7 @@ once_filter {A} test (x ∷ xs) once = go (once_filter test xs once.1) (test x)
     go rest true = (λ h. once.0 (in_filter test x xs h).0, rest)
     go rest false = rest
 
-once_push : {A : Type 0} (xs : List A) (x : A) → (IsIn x xs → ⊥) → Once xs → Once (xs ++ x ∷ [])
+pub once_push : {A : Type 0} (xs : List A) (x : A) → (IsIn x xs → ⊥) → Once xs → Once (xs ++ x ∷ [])
 once_push [] x new once = (λ n. n, tt)
 once_push (y ∷ xs) x new once = (λ h. elim (in_append y xs (x ∷ []) h) [ inl old ↦ once.0 old | inr last ↦ elim last [ inl e ↦ new (inl (sym e)) | inr n ↦ n ] ], once_push xs x (λ h. new (inr h)) once.1)
 

@@ -3,12 +3,12 @@
 
 mod displaying;
 mod exporting;
-pub mod front_desk;
+mod front_desk;
 mod importing;
 mod rows;
-pub mod script;
-pub mod server;
-pub mod service;
+mod script;
+mod server;
+mod service;
 mod viewing;
 
 pub use front_desk::FrontDesk;

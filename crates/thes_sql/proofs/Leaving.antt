@@ -244,13 +244,3 @@ module _ (sql : List ℕ) (params : Row) (old new : State) (q : Program) (names 
       let it = rw (simple.0, simple.1, append-nil params) at h.2 in
       no_refusal it.0 (subst (λ k. RefusesToRead old.step_limit k it.0 params e)
       (sym (ap command_of h.1.is) ∙ here) it.2) same
-
--- what is known of the failure, where the call failed
-pub if_failed : {V : Type 0} (r : Result V Error) {P Q : Error → Type 0} → ((e : Error) → P e → Q e) → IfErr r P → IfErr r Q
-if_failed (Ok v) f h = tt
-if_failed (Err e) f h = f e h
-
--- what was found of the rows, where the call found any
-pub if_shown : {V : Type 0} (r : Result V Error) {P Q : V → Type 0} → ((v : V) → P v → Q v) → IfOk r P → IfOk r Q
-if_shown (Ok v) f h = f v h
-if_shown (Err e) f h = tt

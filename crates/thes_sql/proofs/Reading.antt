@@ -38,7 +38,7 @@ use Rattle.thes_rows.specs.declared.cells.Cell.TheVariants as cells
 use Rattle.thes_sql.specs.Reads.{rows_of, read_text, keyed_as, numbered_as, standing_at, moves_of, tree_of, places_of, shown_rows, IsReadable}
 use Rattle.thes_sql.proofs.Texts.{plain_query, whole, same}
 use Rattle.thes_sql.proofs.Keyed.{lower, rising_filter}
-use Rattle.thes_sql.proofs.Statements.{picked, no_lets}
+use Rattle.thes_sql.proofs.Statements.{picked, no_lets, map_shows}
 use Rattle.thes_sql.proofs.Testing.{by_number, by_place, same_ints, same_words}
 
 -- a query of one table, by the numbers of its rows
@@ -61,10 +61,6 @@ module _ {X : Type 0} (num : X → ℕ) (stored : X → Row) (cells : X → List
   abbrev out_of : X → Output
   out_of x = (Int (pos (num x)) ∷ [], values (cells x))
 
-  outs : (xs : List X) → map (output query) (map (λ x. params ∷ stored x ∷ []) xs) ≡ map out_of xs
-  outs [] = refl
-  outs (x ∷ xs) = λ i. shows x i ∷ outs xs i
-
   later : (a : ℕ) (x : X) (xs : List X) → num x ≤ a → Rising num a xs
       → AllByRecursion (λ b. output_cmp query (out_of x) b ≡ Less) (map out_of xs)
   later a x [] le up = tt
@@ -84,7 +80,8 @@ module _ {X : Type 0} (num : X → ℕ) (stored : X → Row) (cells : X → List
   in_turn db xs out held a =
       let outputs : a.kept ≡ map out_of (filter p xs) = a.distinct ∙ ap (map (output query)) (a.grouped
       ∙ ap (flat_map (λ r. cond (list_all (holds (params ∷ r ∷ [])) filters) ((params ∷ r ∷ []) ∷ []) []))
-      (no_lets db tree ∙ held.rows) ∙ picked stored params filters p test xs) ∙ outs (filter p xs) in
+      (no_lets db tree ∙ held.rows) ∙ picked stored params filters p test xs)
+      ∙ map_shows (output query) (λ x. params ∷ stored x ∷ []) out_of shows (filter p xs) in
       let ordered : a.ordered ≡ map out_of (filter p xs) =
       sorted_unique (output_cmp query) (output_cmp_total query) _ a.ordered
       (strict 0 (filter p xs) (rising_filter num p 0 xs held.rises))
@@ -184,10 +181,6 @@ module _ (tree : ℕ) (project : List Term) (of : Row → Row)
   abbrev row_out : Row → Output
   row_out row = (rowid row ∷ [], of row)
 
-  row_outs : (rows : List Row) → map (output table_query) (map (λ row. [] ∷ row ∷ []) rows) ≡ map row_out rows
-  row_outs [] = refl
-  row_outs (row ∷ rows) = λ i. shows row i ∷ row_outs rows i
-
   rows_later : (row : Row) (rows : List Row) → AllByRecursion (λ r. value_cmp (rowid row) (rowid r) ≡ Less) rows
       → AllByRecursion (λ b. output_cmp table_query (row_out row) b ≡ Less) (map row_out rows)
   rows_later row [] all = tt
@@ -207,7 +200,7 @@ module _ (tree : ℕ) (project : List Term) (of : Row → Row)
       let a : IsAnswer table_query (overlay old.now.trees []) [] out = read.answer Null in
       let outputs : a.kept ≡ map row_out rows = a.distinct ∙ ap (map (output table_query)) (a.grouped
       ∙ ap (flat_map (λ r. cond (list_all (holds ([] ∷ r ∷ [])) []) (([] ∷ r ∷ []) ∷ []) []))
-      (no_lets old.now.trees tree) ∙ each rows) ∙ row_outs rows in
+      (no_lets old.now.trees tree) ∙ each rows) ∙ map_shows (output table_query) (λ row. [] ∷ row ∷ []) row_out shows rows in
       let ordered : a.ordered ≡ map row_out rows =
       sorted_unique (output_cmp table_query) (output_cmp_total table_query) _ a.ordered (rows_strict rows up)
       (subst (λ k. IsPermutation k a.ordered) outputs a.same) a.sorted in

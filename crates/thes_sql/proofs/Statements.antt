@@ -48,6 +48,12 @@ pub no_lets : (db : Trees) (t : ℕ) → overlay db [] t ≡ db t
 no_lets db t = elim (nat_le (2 ^ 31) t) as (λ b. unwrap_or (if b then slice_get [] (t - 2 ^ 31) else None)
     (db t) ≡ db t) [ true ↦ refl | false ↦ refl ]
 
+-- what is shown of each, of all
+pub map_shows : {X A B : Type 0} (f : A → B) (g : X → A) (h : X → B) → ((x : X) → f (g x) ≡ h x) → (xs : List X)
+    → map f (map g xs) ≡ map h xs
+map_shows f g h shows [] = refl
+map_shows f g h shows (x ∷ xs) = λ i. shows x i ∷ map_shows f g h shows xs i
+
 -- A query of one table, by a test on its rows.
 module _ {X : Type 0} (stored : X → Row) (params : Row) (filters : List Term) (p : X → Bool) (test : (x : X)
     → list_all (holds (params ∷ stored x ∷ [])) filters ≡ p x) where
@@ -74,10 +80,6 @@ module _ {X : Type 0} (stored : X → Row) (params : Row) (filters : List Term) 
     abbrev out_of : X → Output
     out_of x = ([], shown x)
 
-    outs : (xs : List X) → map (output query) (map (λ x. params ∷ stored x ∷ []) xs) ≡ map out_of xs
-    outs [] = refl
-    outs (x ∷ xs) = λ i. shows x i ∷ outs xs i
-
     -- it answers what is shown of the rows that pass, in any order
     pub answered : (db : Trees) (xs : List X) (given : List Row) → db tree ≡ map stored xs
         → Answers (record { schema = store_schema; trees = db }) (whole query) params given
@@ -88,7 +90,7 @@ module _ {X : Type 0} (stored : X → Row) (params : Row) (filters : List Term) 
         a.grouped ∙ ap (flat_map (λ r. cond (list_all (holds (params ∷ r ∷ [])) filters) ((params ∷ r ∷ []) ∷ []) []))
         (no_lets db tree ∙ is) ∙ picked xs in
         let outputs : a.kept ≡ map out_of (filter p xs) = a.distinct ∙ ap (map (output query)) staged
-        ∙ outs (filter p xs) in
+        ∙ map_shows (output query) (λ x. params ∷ stored x ∷ []) out_of shows (filter p xs) in
         subst (λ l. IsPermutation l given) (map-map (λ (o : Output). o.1) out_of (filter p xs))
         (subst (IsPermutation (map (λ (o : Output). o.1) (map out_of (filter p xs)))) (sym a.shown)
         (IsPermutation-map (λ (o : Output). o.1) (map out_of (filter p xs)) a.ordered

@@ -27,7 +27,7 @@ use Rattle.thes_sql.specs.Stored.{Keeps, Hold, AreHidden, hidden_row, value_of, 
 use Rattle.thes_sql.specs.Does.{IsOwnTransaction}
 use Rattle.thes_sql.specs.Reads.{tree_of, places_of, IsReadable, LeavesTables}
 use Rattle.thes_sql.proofs.Keyed.{is_table}
-use Rattle.thes_sqlite.specs.Kept.{raw_in, IsUp, IsServed, IsStore, IsKept, LeadsTo, LeavesEither, LeavesAfter}
+use Rattle.thes_sqlite.specs.Kept.{raw_in, raw_of_keeper, Kept, IsServing, IsUp, IsServed, IsStore, IsKept, LeadsTo, LeavesEither, LeavesAfter}
 use Rattle.thes_sqlite.specs.ValueCells.{cell_of}
 use Rattle.thes_sqlite.proofs.ValueLemmas.{text_cell}
 
@@ -228,36 +228,36 @@ leaves_after first old new changes kept law done known up t is db may =
     subst (λ trees. Hold trees (all_changed changes t)) (sym (left_trees new served.settled up law db may))
     (holds_shown new served (all_changed changes t) (done known up t is)).hold
 
--- What a commit of a keeper does, where it is done. The keeper's own connection is the one that the caller sees.
-pub record IsDone {S : Type 0} (g : Ghosts S) (first : State) (changes : List Change) (old new : Held S) : Type 0 where
-  pub kept : IsKept first (state g new)
-  pub ok : IsStore first → IsUp (state g new)
-      → LeadsTo changes (raw_in (state g old).now.trees) (raw_in (state g new).now.trees)
-  pub durable : IsStore first → LeavesAfter changes (state g old) (state g new)
+-- What a commit of a keeper does, where it is done. The keeper's own view is the one that the caller sees.
+pub record IsDone {S : Type 0} (g : Ghosts S) (view old : Kept S) (changes : List Change) (new : Held S) : Type 0 where
+  pub kept : IsKept (state g view.first) (state g new)
+  pub ok : IsStore (state g view.first) → IsUp (state g new)
+      → LeadsTo changes (raw_of_keeper g old) (raw_in (state g new).now.trees)
+  pub durable : IsStore (state g old.first) → LeavesAfter changes (state g old.conn) (state g new)
 
-module _ {S : Type 0} (g : Ghosts S) (first : State) (start old new : Held S) (same : start ≡ old)
-    (changes : List Change) (kept : IsKept first (state g start))
-    (fits : Fitting first changes (state g old))
-    (crash : Survives (state g start) (state g new)
-    (λ trees. (t : Tables) → Keeps (state g start).now t → FitAll changes t → Hold trees (all_changed changes t)))
+module _ {S : Type 0} (g : Ghosts S) (view old : Kept S) (same : view ≡ old) (new : Held S)
+    (changes : List Change) (kept : IsKept (state g view.first) (state g view.conn))
+    (fits : IsServing g old → (t : Tables) → raw_of_keeper g old ≡ listed t → FitAll changes t)
+    (crash : Survives (state g view.conn) (state g new)
+    (λ trees. (t : Tables) → Keeps (state g view.conn).now t → FitAll changes t → Hold trees (all_changed changes t)))
     (law : (h : Held S) → IsSettled (state g h)) where
-  fitting : Fitting first changes (state g start)
-  fitting = subst (λ h. Fitting first changes (state g h)) (sym same) fits
+  fitting : Fitting (state g view.first) changes (state g view.conn)
+  fitting = subst (λ (k : Kept S). Fitting (state g k.first) changes (state g k.conn)) (sym same) (λ known up. fits (known, up))
 
-  pub is_done : {r : Result Bool Error} → IsOwnTransaction g start new r
-      → (HasCleanDisk (state g new) → (t : Tables) → Keeps (state g start).now t → FitAll changes t
+  pub is_done : {r : Result Bool Error} → IsOwnTransaction g view.conn new r
+      → (HasCleanDisk (state g new) → (t : Tables) → Keeps (state g view.conn).now t → FitAll changes t
       → Keeps (state g new).now (all_changed changes t))
-      → IsDone g first changes old new
+      → IsDone g view old changes new
   is_done own did =
-      let both = kept_ok first (state g start) (state g new) changes kept
-      (up_before (state g start) (state g new) crash own.was)
+      let both = kept_ok (state g view.first) (state g view.conn) (state g new) changes kept
+      (up_before (state g view.conn) (state g new) crash own.was)
       own.mode fitting (λ up. did up.0) (λ up. own.settled up.0 up.1 kept.autocommit) in
-      subst (λ h. IsDone g first changes h new) same (record {
+      subst (λ (k : Kept S). IsDone g view k changes new) same (record {
         kept = both.0;
         ok = both.1;
-        durable = leaves_after first (state g start) (state g new) changes both.0 (law new) both.1;
+        durable = leaves_after (state g view.first) (state g view.conn) (state g new) changes both.0 (law new) both.1;
       })
 
-  pub is_either : IsStore first → LeavesEither changes (state g old) (state g new)
-  is_either = subst (λ h. IsStore first → LeavesEither changes (state g h) (state g new)) same
-      (leaves_either first (state g start) (state g new) changes kept (law start) fitting crash)
+  pub is_either : IsStore (state g old.first) → LeavesEither changes (state g old.conn) (state g new)
+  is_either = subst (λ (k : Kept S). IsStore (state g k.first) → LeavesEither changes (state g k.conn) (state g new)) same
+      (leaves_either (state g view.first) (state g view.conn) (state g new) changes kept (law view.conn) fitting crash)

@@ -1,6 +1,6 @@
 -- What is found by the indexes.
 use Rattle.std.proofs.Common.{◌≡◌, inl, inr, ◌∙◌, ℕ, suc, List, [], ◌∷◌, true, sym, ap, subst}
-use Rattle.std.proofs.lemmas.Bool.{eqb-true}
+use Rattle.std.proofs.lemmas.Bool.{eqb-true, and_parts}
 use Rattle.std.specs.Borrow.{Bor}
 use Rattle.std.specs.Option.{option_copied}
 use Rattle.std.specs.Prelude.{Option, None, Some, IfSome, IfNone, slice_get, filter, not, ◌==◌}
@@ -17,7 +17,6 @@ use Rattle.thes_store.specs.Keys.{LeadsTo, digest_of}
 use Rattle.thes_store.specs.Picked.{is_move_of, picked}
 use Rattle.thes_store.specs.Reading.{IsFound, standing_rows}
 use Rattle.thes_store.proofs.Places.{picked_all}
-use Rattle.thes_base.proofs.ResourceLemmas.{right_true}
 
 in_get : (xs : List PostingRow) (row : PostingRow) → IsIn row xs → (i : ℕ) × (slice_get xs i ≡ Some row)
 in_get [] row h = absurd h
@@ -45,7 +44,7 @@ found_by_text x rows key place None is leads by_number some none = none_found x 
 found_by_text x rows key place (Some row) is leads by_number some none = some
 
 stands_there : (concept : ℕ) (row : PostingRow) → is_standing concept row ≡ true → row.place ≡ concept
-stands_there concept row e = eqb-true row.place concept (right_true (not row.withdrawn) (row.place == concept) e)
+stands_there concept row e = eqb-true row.place concept (and_parts (not row.withdrawn) (row.place == concept) e).1
 
 pub standing_all : (x : Indexes) (t : Tables) (concept : ℕ) (places : List ℕ) → Covers x t → ArePlaces x.standing concept places → picked (is_standing concept) t.posting places ≡ standing_rows concept t.posting
 standing_all x t concept places covers are =

@@ -171,8 +171,8 @@ pub fn hand_rows<R: AsCells, S: RowSink>(
     Ok(())
 }
 
-/// Hands the rows of a table to a sink, in their order.
-pub fn hand_slots<R: AsCells + Found + Drop, S: RowSink>(
+// Hands the rows of a table to a sink, in their order.
+fn hand_slots<R: AsCells + Found + Drop, S: RowSink>(
     alloc: Global,
     name: Table,
     rows: &Slots<R>,

@@ -10,10 +10,10 @@ use Rattle.thes_rows.specs.declared.rows.HierRow.{HierRow}
 use Rattle.thes_rows.specs.declared.rows.HierType.{HierType}
 use Rattle.thes_rows.specs.Tables.{IsIn, Once, Lists, IsLinkOf, IsHierOf, hier_link, hier_type}
 use Rattle.thes_rows.specs.Changes.{hier_row}
-use Rattle.thes_rows.proofs.Sets.{in_append, append_left, append_right}
+use Rattle.thes_rows.proofs.Sets.{in_append, append_left, append_right, in_map, map_in}
 use Rattle.thes_rows.proofs.LinkRows.{type_back, told}
 use Rattle.thes_tables.specs.Rules.{EachRow, links_of}
-use Rattle.thes_tables.proofs.Lists.{in_map, map_in, row_of, in_set}
+use Rattle.thes_tables.proofs.Lists.{row_of, in_set}
 
 -- a row of hier is the only one that tells its link
 pub hier_link_one : (x y : HierRow) → hier_link x ≡ hier_link y → x ≡ y
@@ -28,14 +28,14 @@ module _ (K : List Link) (H : List HierRow) where
   pub held_cases : (l : Link) → HeldIn (links_of K H) l → IsIn l K ⊎ ((row : HierRow) × IsIn row H × (l ≡ hier_link row))
   held_cases l h = elim (in_append l K (map hier_link H) (row_of links_total links_exact (K ++ map hier_link H) l h)) [
     | inl plain ↦ inl plain
-    | inr typed ↦ inr (map_in hier_link H l typed)
+    | inr typed ↦ inr (in_map hier_link l H typed)
   ]
 
   pub link_held : (l : Link) → IsIn l K → HeldIn (links_of K H) l
   link_held l h = in_set links_total links_exact _ l (append_left l K (map hier_link H) h)
 
   pub hier_held : (row : HierRow) → IsIn row H → HeldIn (links_of K H) (hier_link row)
-  hier_held row h = in_set links_total links_exact _ (hier_link row) (append_right (hier_link row) K (map hier_link H) (in_map hier_link H row h))
+  hier_held row h = in_set links_total links_exact _ (hier_link row) (append_right (hier_link row) K (map hier_link H) (map_in hier_link row H h))
 
   pub link_lists : EachRow (λ l. hier_type l.kind ≡ None) K → Once K → Lists (IsLinkOf (links_of K H)) K
   link_lists kinds once = record {

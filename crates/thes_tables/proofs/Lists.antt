@@ -47,16 +47,6 @@ module _ {A B : Type 0} (f : A → B) where
   numbered_unmap (x ∷ xs) (suc zero) y e = (x, refl, sym (same_Some _ _ e))
   numbered_unmap (x ∷ xs) (suc (suc n)) y e = numbered_unmap xs (suc n) y e
 
-  pub in_map : (xs : List A) (x : A) → IsIn x xs → IsIn (f x) (map f xs)
-  in_map [] x h = absurd h
-  in_map (y ∷ xs) x (inl e) = inl (ap f e)
-  in_map (y ∷ xs) x (inr h) = inr (in_map xs x h)
-
-  pub map_in : (xs : List A) (y : B) → IsIn y (map f xs) → (x : A) × IsIn x xs × (y ≡ f x)
-  map_in [] y h = absurd h
-  map_in (x ∷ xs) y (inl e) = (x, inl refl, e)
-  map_in (x ∷ xs) y (inr h) = let r = map_in xs y h in (r.0, inr r.1, r.2)
-
 -- Sets of rows.
 
 module _ {A : Type 0} {R : A → A → Ordering} (total : IsTotalOrder R) (exact : IsAntisymmetric R) where

@@ -12,6 +12,7 @@ use Rattle.std.specs.FinMap as dict
 use Rattle.std.proofs.lemmas.Cmp.{nat_list_cmp_total}
 use Rattle.std.proofs.lemmas.Map.Lookups.{exact_unsigned, exact_bytes}
 use Rattle.thes_base.specs.Resources.{Iris}
+use Rattle.thes_base.proofs.ResourcesKept.{iri_cases}
 use Rattle.std.proofs.lemmas.Option.{none-some, same_Some}
 use Rattle.thes_vocab.specs.Numbered.{iris_in, AreInverse}
 use Rattle.thes_vocab.proofs.NameLemmas.{IsSet, same_or_not}
@@ -46,17 +47,10 @@ module _ (iris : Iris) (numbers more : Numbers) (n : ℕ) (iri : List ℕ) (tied
   -- a new number and its IRI
   pub tied_more : dict.get iris n ≡ None → AreInverse (dict.insert iris n iri) more
   tied_more none = record {
-    number = λ m i e. number_at m i (cases m i e);
+    number = λ m i e. number_at m i (iri_cases iris n iri m i e);
     iri = λ m i e. iri_at m i e (same_or_not iri_cmp nat_list_cmp_total exact_bytes i iri);
   }
     where
-      cases : (m : ℕ) (i : List ℕ) → dict.get (dict.insert iris n iri) m ≡ Some i → ((m ≡ n) × (i ≡ iri)) ⊎ (dict.get iris m ≡ Some i)
-      cases m i e = go (eq_by_cmp nat_cmp m n) refl (sym (dict.get-insert nat_cmp_total iris n iri m) ∙ e)
-        where
-          go : (b : Bool) → eq_by_cmp nat_cmp m n ≡ b → cond b (Some iri) (dict.get iris m) ≡ Some i → ((m ≡ n) × (i ≡ iri)) ⊎ (dict.get iris m ≡ Some i)
-          go true tie f = inl (exact_unsigned m n ((Equal-is (nat_cmp m n)).0 tie), sym (same_Some _ _ f))
-          go false tie f = inr f
-
       number_at : (m : ℕ) (i : List ℕ) → ((m ≡ n) × (i ≡ iri)) ⊎ (dict.get iris m ≡ Some i) → get iri_cmp more i ≡ Some m
       number_at m i (inl (here, same)) = ap (get iri_cmp more) same ∙ set.at ∙ ap Some (sym here)
       number_at m i (inr has) = set.others i (other_iri m i has) ∙ tied.number m i has

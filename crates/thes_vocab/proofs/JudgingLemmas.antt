@@ -4,7 +4,7 @@ use Rattle.std.specs.Prelude.{Option, None, Some}
 use Rattle.std.specs.Option.{MatchOption, is_some}
 use Rattle.std.specs.Bool.{MatchBool}
 use Rattle.std.specs.FinSet as set
-use Rattle.std.proofs.lemmas.Bool.{or_cases, true≢false}
+use Rattle.std.proofs.lemmas.Bool.{or_cases, true≢false, cases_eq}
 use Rattle.thes_base.specs.declared.data.Resource.{Resource}
 use Rattle.thes_base.specs.declared.data.LabelKind.{LabelKind}
 use Rattle.thes_base.specs.declared.data.LabelKind.TheVariants.{Pref, Alt, Hidden, Scope}
@@ -26,7 +26,6 @@ use Rattle.thes_base.proofs.Renamed.{IsOfRenamed, renamed_cases, renamed_fresh, 
 use Rattle.thes_base.proofs.Uniqueness.{made_unique, taken_breaks}
 use Rattle.thes_base.proofs.ConditionLemmas.{owner_exists}
 use Rattle.thes_base.proofs.NumberedLemmas.{numbered_bound}
-use Rattle.thes_base.proofs.ResourceLemmas.{same_or_not}
 use Rattle.std.proofs.lemmas.Option.{same_Some}
 use Rattle.thes_vocab.specs.Vocabulary.{IsHolder}
 use Rattle.thes_vocab.specs.Rivals.{HasRival, HasTwoPreferred, Clashes}
@@ -107,7 +106,7 @@ module _ (labels : Labels) (l : Label) where
         (subst (λ k. HasLabel more l.owner k l.tag l.text) is (inserted_new labels l)))
 
     pub keeps_unique : UniquePreferred rs labels → (l.kind ≢ Pref) ⊎ (HasRival rs labels l.owner l.tag l.text → ⊥) → UniquePreferred rs more
-    keeps_unique p1 apart m n scheme tag text lm ln sm sn hm hn = go (inserted_cases labels l _ hm) (inserted_cases labels l _ hn) (same_or_not n m)
+    keeps_unique p1 apart m n scheme tag text lm ln sm sn hm hn = go (inserted_cases labels l _ hm) (inserted_cases labels l _ hn) (cases_eq n m)
       where
         rival_at : (m n : ℕ) → label m Pref tag text ≡ l → HasLabel labels n Pref tag text → n ≢ m → IsLiveConcept rs m → scheme_of rs m ≡ Some scheme → IsLiveConcept rs n → scheme_of rs n ≡ Some scheme → (l.kind ≢ Pref) ⊎ (HasRival rs labels l.owner l.tag l.text → ⊥) → ⊥
         rival_at m n is held differ lm sm ln sn (inl other) = other (sym (ap (λ (q : Label). q.kind) is))
@@ -202,7 +201,7 @@ module _ (labels : Labels) (owner : ℕ) (tag text old : List ℕ) (keep : Bool)
         (stays (label rival.rival Pref tag text) (λ e. rival.other (ap (λ (l : Label). l.owner) e)) rival.holder.1) at_fresh)
 
     pub renamed_keeps_unique : UniquePreferred rs labels → (HasRival rs labels owner tag text → ⊥) → UniquePreferred rs after
-    renamed_keeps_unique p1 none m n scheme t x lm ln sm sn hm hn = go (renamed_cases labels owner tag text old keep _ hm) (renamed_cases labels owner tag text old keep _ hn) (same_or_not n m)
+    renamed_keeps_unique p1 none m n scheme t x lm ln sm sn hm hn = go (renamed_cases labels owner tag text old keep _ hm) (renamed_cases labels owner tag text old keep _ hn) (cases_eq n m)
       where
         rival_at : (m n : ℕ) → label m Pref t x ≡ label owner Pref tag text → HasLabel labels n Pref t x → n ≢ m → IsLiveConcept rs m → scheme_of rs m ≡ Some scheme → IsLiveConcept rs n → scheme_of rs n ≡ Some scheme → ⊥
         rival_at m n is held differ lm sm ln sn =

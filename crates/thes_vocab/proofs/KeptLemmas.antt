@@ -29,10 +29,11 @@ use Rattle.thes_base.proofs.ResourcesKept.{resources_push, resources_push_outsid
 use Rattle.thes_base.proofs.Uniqueness.{made_unique, taken_breaks, live_before}
 use Rattle.thes_base.proofs.MachineLemmas.{sound_empty}
 use Rattle.thes_base.proofs.NumberedLemmas.{none_at, numbered_bound}
-use Rattle.thes_base.proofs.ResourceLemmas.{same_or_not, one_resource, concept_of_live, live_of_live, scheme_at}
+use Rattle.thes_base.proofs.ResourceLemmas.{one_resource, concept_of_live, live_of_live, scheme_at}
 use Rattle.thes_base.proofs.MergedLabels.{labels_merged, preferred_before}
 use Rattle.thes_base.specs.Listing.{IsListing}
 use Rattle.std.proofs.lemmas.Option.{same_Some}
+use Rattle.std.proofs.lemmas.Bool.{cases_eq}
 use Rattle.thes_vocab.specs.declared.names.Names.{Names}
 use Rattle.thes_lists.specs.declared.lists.Lists.{Lists}
 use Rattle.thes_lists.specs.Lists as lists
@@ -63,7 +64,7 @@ same_text = same_key (slice_cmp nat_cmp) nat_list_cmp_total exact_bytes
 
 -- a name is the one that was noted, or another
 pub same_name : (s t : ℕ) (tag tag' text text' : List ℕ) → ((s ≡ t) × (tag ≡ tag') × (text ≡ text')) ⊎ ((s ≡ t) × (tag ≡ tag') × (text ≡ text') → ⊥)
-same_name s t tag tag' text text' = go (same_or_not s t) (same_text tag tag') (same_text text text')
+same_name s t tag tag' text text' = go (cases_eq s t) (same_text tag tag') (same_text text text')
   where
     go : (s ≡ t) ⊎ (s ≢ t) → (tag ≡ tag') ⊎ (tag ≡ tag' → ⊥) → (text ≡ text') ⊎ (text ≡ text' → ⊥) → ((s ≡ t) × (tag ≡ tag') × (text ≡ text')) ⊎ ((s ≡ t) × (tag ≡ tag') × (text ≡ text') → ⊥)
     go (inl a) (inl b) (inl c) = inl (a, b, c)
@@ -159,7 +160,7 @@ module _ (rs : List Resource) (labels : Labels) (owner : ℕ) (tag text was : Li
 
     -- the new name is noted, and nothing else done
     pub finds_still : Finds rs labels noted
-    finds_still s n t x h = found_put old noted scheme tag text owner put s n t x (λ same. at same (same_or_not n owner)) (λ _. finds s n t x h)
+    finds_still s n t x h = found_put old noted scheme tag text owner put s n t x (λ same. at same (cases_eq n owner)) (λ _. finds s n t x h)
       where
         at : (s ≡ scheme) × (t ≡ tag) × (x ≡ text) → (n ≡ owner) ⊎ (n ≢ owner) → n ≡ owner
         at same (inl here) = here

@@ -5,7 +5,7 @@ use Rattle.std.specs.Option.{MatchOption, is_some}
 use Rattle.std.specs.Ordering.{nat_cmp, eq_by_cmp}
 use Rattle.std.specs.FinSet as set
 use Rattle.std.specs.FinMap as dict
-use Rattle.std.proofs.lemmas.Bool.{cases_Bool, or_cases}
+use Rattle.std.proofs.lemmas.Bool.{cases_Bool, or_cases, cases_eq}
 use Rattle.std.proofs.lemmas.List.Folds.{list_any_at}
 use Rattle.thes_base.specs.declared.data.Resource.{Resource}
 use Rattle.thes_base.specs.declared.data.LabelKind.{LabelKind}
@@ -16,7 +16,6 @@ use Rattle.thes_base.specs.Labels.{Label, Labels, EachHasPreferred, is_name}
 use Rattle.thes_base.specs.Changes.{has_name}
 use Rattle.thes_base.specs.Machine.{owned}
 use Rattle.thes_base.proofs.LabelSets.{inserted_cases, no_label}
-use Rattle.thes_base.proofs.ResourceLemmas.{same_or_not}
 use Rattle.thes_base.proofs.ResourcesKept.{iri_cases, no_iri}
 use Rattle.thes_lists.specs.declared.lists.Lists.{Lists}
 use Rattle.thes_vocab.specs.declared.names.Names.{Names}
@@ -163,7 +162,7 @@ own_at own k d within is = list_any_at (eq_by_cmp data_cmp d) own k d within (ti
 
 -- what holds up to a number, and of the next
 pub next_of : (P : ℕ → Type 0) (i : ℕ) → ((n : ℕ) → n ≤ i → P n) → P (i + 1) → (n : ℕ) → n ≤ i + 1 → P n
-next_of P i before here n le = elim (same_or_not n (i + 1)) [
+next_of P i before here n le = elim (cases_eq n (i + 1)) [
   | inl at ↦ subst P (sym at) here
   | inr differ ↦ before n (omega (arith, le, differ))
 ]

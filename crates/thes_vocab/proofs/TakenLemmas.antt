@@ -10,7 +10,7 @@ use Rattle.std.specs.List.Sorted.{IsStrictlySortedBy}
 use Rattle.std.proofs.lemmas.Map.Lookups.{exact_unsigned}
 use Rattle.std.specs.BTreeMap.{BTreeMap, IsOrdered}
 use Rattle.std.specs.FinSet as set
-use Rattle.std.proofs.lemmas.Bool.{or_cases, or_left, or_right, true≢false, and_from, cases_Bool, not-true}
+use Rattle.std.proofs.lemmas.Bool.{or_cases, or_left, or_right, true≢false, and_from, cases_Bool, not-true, and_parts}
 use Rattle.std.proofs.Math.Bool.{and-false, and-or_distrib_left, or-false, or_assoc, or_comm}
 use Rattle.thes_base.specs.declared.data.LabelKind.TheVariants.{Pref, Alt, Hidden}
 use Rattle.thes_base.specs.Data.{LabelData}
@@ -19,7 +19,6 @@ use Rattle.thes_base.specs.Changes.{label, has_name, taken_kind, taken_labels}
 use Rattle.thes_base.specs.Machine.{owned}
 use Rattle.thes_base.proofs.LabelSets.{labels_total, labels_exact}
 use Rattle.thes_base.proofs.MergedLabels.{name_of, name_taken}
-use Rattle.thes_base.proofs.ResourceLemmas.{left_true, right_true}
 use Rattle.thes_base.proofs.SetMembers.{or_swap}
 use Rattle.thes_vocab.specs.LabelData.{data_cmp, own_label, has_own, AreLabelsOf}
 use Rattle.thes_vocab.specs.Taken.{takes, takes_own, taken, gives}
@@ -118,20 +117,20 @@ module _ (labels : Labels) (source target : ℕ) (own : List LabelData) (owns : 
           let l = found.0 in
           let held = set.contains-items labels l ∙ found.2 in
           let is = found.3 in
-          let source_is = eqb-true l.owner source (left_true (l.owner == source) _ found.1) in
-          let takes_it = right_true (l.owner == source) (takes labels target (data_of l)) found.1 in
+          let source_is = eqb-true l.owner source (and_parts (l.owner == source) _ found.1).0 in
+          let takes_it = (and_parts (l.owner == source) (takes labels target (data_of l)) found.1).1 in
           let has = owns (data_of l) ∙ ap (λ n. set.contains labels (label n l.kind l.tag l.text)) (sym source_is) ∙ held in
           and_from (eq_by_cmp nat_cmp q.owner target) (list_any (test q) own) (ap (λ (x : Label). eq_by_cmp nat_cmp x.owner target) is ∙ ap is_eq (tied_itself nat_cmp_total target))
           (any_of (test q) own (data_of l) (and_from (takes labels target (data_of l)) _ takes_it (ties (data_of q) (taken (data_of l)) (ap data_of is))) has)
 
       back : (eq_by_cmp nat_cmp q.owner target && list_any (test q) own) ≡ true → list_any (eq_by_cmp label_cmp q) (map given (filter passes (set.items labels))) ≡ true
       back e =
-          let owner = exact_unsigned q.owner target ((Equal-is (nat_cmp q.owner target)).0 (left_true (eq_by_cmp nat_cmp q.owner target) _ e)) in
-          let found = any_found (test q) own (right_true (eq_by_cmp nat_cmp q.owner target) (list_any (test q) own) e) in
+          let owner = exact_unsigned q.owner target ((Equal-is (nat_cmp q.owner target)).0 (and_parts (eq_by_cmp nat_cmp q.owner target) _ e).0) in
+          let found = any_found (test q) own (and_parts (eq_by_cmp nat_cmp q.owner target) (list_any (test q) own) e).1 in
           let d = found.0 in
           let l = owned source d in
-          let takes_it = left_true (takes labels target d) _ found.1 in
-          let is = tied (data_of q) (taken d) (right_true (takes labels target d) (eq_by_cmp data_cmp (data_of q) (taken d)) found.1) in
+          let takes_it = (and_parts (takes labels target d) _ found.1).0 in
+          let is = tied (data_of q) (taken d) (and_parts (takes labels target d) (eq_by_cmp data_cmp (data_of q) (taken d)) found.1).1 in
           let same : q ≡ given l = λ i. label (owner i) (is i).kind (is i).tag (is i).text in
           mapped_any passes given q l (set.items labels) (and_from (source == source) (takes labels target d) (eq-eqb source source refl) takes_it) same (sym (set.contains-items labels l) ∙ sym (owns d) ∙ found.2)
 
@@ -180,8 +179,8 @@ module _ (labels : Labels) (source target : ℕ) (s13 : S13 labels) where
   -- what the target takes it has not
   fresh : (d : LabelData) → takes labels target d ≡ true → set.contains labels (as_taken d) ≡ true → ⊥
   fresh d picks held =
-      let name = left_true (is_name d.kind) _ picks in
-      let free = not-true _ (right_true (is_name d.kind) (not (has_name labels target d.tag d.text)) picks) in
+      let name = (and_parts (is_name d.kind) _ picks).0 in
+      let free = not-true _ (and_parts (is_name d.kind) (not (has_name labels target d.tag d.text)) picks).1 in
       true≢false (sym (name_of labels target (taken_kind d.kind) d.tag d.text (name_taken d.kind name) held) ∙ free)
 
   -- two that become one are one
@@ -190,7 +189,7 @@ module _ (labels : Labels) (source target : ℕ) (s13 : S13 labels) where
       let tag = ap (λ (l : Label). l.tag) is in
       let text = ap (λ (l : Label). l.text) is in
       let there = subst (λ (p : List ℕ × List ℕ). HasLabel labels source c.kind p.0 p.1) (λ i. (tag i, text i)) hc in
-      let kind = s13 source c.kind d.kind d.tag d.text (left_true (is_name c.kind) _ tc) (left_true (is_name d.kind) _ td) there hd in
+      let kind = s13 source c.kind d.kind d.tag d.text (and_parts (is_name c.kind) _ tc).0 (and_parts (is_name d.kind) _ td).0 there hd in
       λ i. own_label (kind i) (tag i) (text i)
 
   after_none : (x d : LabelData) (own : List LabelData) → AllByRecursion (λ y. data_cmp x y ≡ Less) own → has_own own d ≡ true → x ≡ d → ⊥

@@ -3,14 +3,14 @@
 
 mod changing;
 mod concepts;
-pub mod forwarding;
+mod forwarding;
 mod iris;
 mod judging;
 mod labels;
-pub mod load;
+mod load;
 mod names;
 mod row;
-pub mod vocab;
+mod vocab;
 
 pub use forwarding::Forwarding;
 pub use load::VocabLoad;

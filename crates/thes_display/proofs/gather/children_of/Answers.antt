@@ -1,61 +1,75 @@
-use Rattle.std.proofs.Common.{◌≡◌, ◌∙◌, ◌<◌, ap, sym, subst, take, take_all, length, ℕ, zero, suc, ◌+◌, [], ◌∷◌, List, arith, refl}
-use Rattle.std.specs.Prelude.{slice_index_or, Contains}
+use Rattle.std.proofs.Common.{◌≡◌, ◌∙◌, ◌<◌, ap, sym, subst, take, take_all, length, get_or, ℕ, ◌+◌, List, Option, IsPermutation, IsSorted, arith}
 use Rattle.std.specs.List.{filter_map}
 use Rattle.std.specs.Ordering.{nat_cmp}
 use Rattle.std.specs.BTreeMap.{get}
 use Rattle.std.proofs.lemmas.List.{take_more}
-use Rattle.thes_display.specs.Hierarchical.{HasKey}
+use Rattle.std.proofs.lemmas.List.Elements.{Contains-get_or}
+use Rattle.thes_base.specs.Links.{Links}
+use Rattle.thes_base.specs.Listing.{IsListing}
+use Rattle.thes_base.specs.Views.{HasBroader}
+use Rattle.thes_display.specs.declared.walk.Child.{Child}
+use Rattle.thes_display.specs.Order.{Term}
+use Rattle.thes_display.specs.Below.{child_cmp}
+use Rattle.thes_display.specs.Hierarchical.{HasKey, IsBroader}
+use Rattle.thes_display.specs.Gathered.{AreKeys, IsChild}
 use Rattle.thes_display.proofs.KeyLemmas.{key_of_term}
 use Rattle.thes_display.proofs.GatherLemmas.{key_within}
 use Rattle.thes_display.proofs.ChildLemmas.{AreChildren, children_none, children_more, children_listed, broader_at, known_home}
 use Rattle.thes_display.proofs.gather.children_of.Goals as goal
 
-at_any : (xs : List ℕ) (k d e : ℕ) → k < length xs → slice_index_or xs k d ≡ slice_index_or xs k e
-at_any [] k d e l = absurd (omega arith)
-at_any (x ∷ xs) zero d e l = refl
-at_any (x ∷ xs) (suc k) d e l = at_any xs k d e (omega arith)
+-- The keys found are those of what is narrower than the concept that was read.
+module _ (links : Links) (terms : List Term) (key : ℕ) (keys : ℕ → Option ℕ) (are : AreKeys terms keys)
+    (n : ℕ) (t : Term) (same : n ≡ t.concept) (within : key < length terms) (is : t ≡ get_or terms key t)
+    (xs ys ks found : List ℕ) (listed : IsListing nat_cmp (λ a. HasBroader links a n) xs)
+    (read : ks ≡ found) (slice : ys ≡ xs) (all : found ≡ filter_map keys ys) where
+  here : HasKey terms n key
+  here = subst (λ m. HasKey terms m key) (sym same) (key_of_term terms key t within is)
 
-contains_at : (xs : List ℕ) (k : ℕ) → k < length xs → Contains xs (slice_index_or xs k 0)
-contains_at xs k l = (k, l, at_any xs k _ 0 l)
+  found_all : ks ≡ filter_map keys xs
+  found_all = read ∙ all ∙ ap (filter_map keys) slice
+
+  narrower_at : (k : ℕ) → k < length ks → IsBroader links terms (get_or ks k 0) key
+  narrower_at k l = broader_at links terms key keys are n here xs ks listed found_all (get_or ks k 0) (Contains-get_or ks k 0 l)
+
+  children_are : (made children : List Child) → AreChildren links terms key ks made → IsPermutation made children → IsSorted child_cmp children → IsListing child_cmp (IsChild links terms key) children
+  children_are = children_listed links terms key keys are n here xs ks listed found_all
 
 pub loop-child-init : goal.loop-child-init
 loop-child-init c = children_none c.args.core.now.links c.args.terms.now c.args.key _ c.new-children.ensures.items
 
 pub is_home-at_home-requires : goal.is_home-at_home-requires
 is_home-at_home-requires c =
-    let n : ℕ = c.concept.result in
-    let here : HasKey c.args.terms.now n c.args.key = subst (λ m. HasKey c.args.terms.now m c.args.key) (sym c.concept.ensures) (key_of_term c.args.terms.now c.args.key c.index-terms-key.result c.requires.within c.index-terms-key.is) in
-    let ks : List ℕ = c.deref-child-items.result.now in
-    let found = c.deref-child-items.ensures.value ∙ c.in_ok-found.ensures ∙ ap (filter_map (get nat_cmp c.args.keys.now)) c.as_slice.ensures.value in
-    let r = broader_at c.args.core.now.links c.args.terms.now c.args.key (get nat_cmp c.args.keys.now) c.requires.keys n here c.in_ok-narrower.narrower.items ks c.in_ok-narrower.ensures found _ (contains_at ks c.loop-child.child-index (omega arith)) in
+    let r = narrower_at c.args.core.now.links c.args.terms.now c.args.key (get nat_cmp c.args.keys.now) c.requires.keys
+    c.concept.result c.index-terms-key.result c.concept.ensures c.requires.within c.index-terms-key.is
+    c.in_ok-narrower.narrower.items _ c.deref-child-items.result.now _ c.in_ok-narrower.ensures
+    c.deref-child-items.ensures.value c.as_slice.ensures.value c.in_ok-found.ensures c.loop-child.child-index (omega arith) in
     known_home c.args.core.now.links c.args.terms.now c.args.key c.args.homes.now c.requires.homes _ r
 
 pub types_at-types-requires-clause-within : goal.types_at-types-requires-clause-within
 types_at-types-requires-clause-within c =
-    let n : ℕ = c.concept.result in
-    let here : HasKey c.args.terms.now n c.args.key = subst (λ m. HasKey c.args.terms.now m c.args.key) (sym c.concept.ensures) (key_of_term c.args.terms.now c.args.key c.index-terms-key.result c.requires.within c.index-terms-key.is) in
-    let ks : List ℕ = c.deref-child-items.result.now in
-    let found = c.deref-child-items.ensures.value ∙ c.in_ok-found.ensures ∙ ap (filter_map (get nat_cmp c.args.keys.now)) c.as_slice.ensures.value in
-    let r = broader_at c.args.core.now.links c.args.terms.now c.args.key (get nat_cmp c.args.keys.now) c.requires.keys n here c.in_ok-narrower.narrower.items ks c.in_ok-narrower.ensures found _ (contains_at ks c.loop-child.child-index (omega arith)) in
+    let r = narrower_at c.args.core.now.links c.args.terms.now c.args.key (get nat_cmp c.args.keys.now) c.requires.keys
+    c.concept.result c.index-terms-key.result c.concept.ensures c.requires.within c.index-terms-key.is
+    c.in_ok-narrower.narrower.items _ c.deref-child-items.result.now _ c.in_ok-narrower.ensures
+    c.deref-child-items.ensures.value c.as_slice.ensures.value c.in_ok-found.ensures c.loop-child.child-index (omega arith) in
     (key_within c.args.terms.now r.lower _ r.lower_key, c.requires.within)
 
 pub loop-child-preserved : goal.loop-child-preserved
 loop-child-preserved c =
-    let n : ℕ = c.concept.result in
-    let here : HasKey c.args.terms.now n c.args.key = subst (λ m. HasKey c.args.terms.now m c.args.key) (sym c.concept.ensures) (key_of_term c.args.terms.now c.args.key c.index-terms-key.result c.requires.within c.index-terms-key.is) in
     let ks : List ℕ = c.deref-child-items.result.now in
     let i = c.loop-child.child-index in
-    let found = c.deref-child-items.ensures.value ∙ c.in_ok-found.ensures ∙ ap (filter_map (get nat_cmp c.args.keys.now)) c.as_slice.ensures.value in
-    let r = broader_at c.args.core.now.links c.args.terms.now c.args.key (get nat_cmp c.args.keys.now) c.requires.keys n here c.in_ok-narrower.narrower.items ks c.in_ok-narrower.ensures found _ (contains_at ks i (omega arith)) in
+    let r = narrower_at c.args.core.now.links c.args.terms.now c.args.key (get nat_cmp c.args.keys.now) c.requires.keys
+    c.concept.result c.index-terms-key.result c.concept.ensures c.requires.within c.index-terms-key.is
+    c.in_ok-narrower.narrower.items _ c.deref-child-items.result.now _ c.in_ok-narrower.ensures
+    c.deref-child-items.ensures.value c.as_slice.ensures.value c.in_ok-found.ensures i (omega arith) in
     children_more c.args.core.now.links c.args.terms.now c.args.key c.args.homes.now c.requires.homes (take i ks) (take (i + 1) ks) _ _ _ c.types_at-types.result c.is_home-at_home.result c.loop-child.invariant r c.types_at-types.ensures c.is_home-at_home.ensures.at c.is_home-at_home.ensures.other c.in_ok-push.ensures.items
     (take_more ks i 0 (omega arith))
 
 pub returns : goal.returns
 returns c =
-    let n : ℕ = c.concept.result in
-    let here : HasKey c.args.terms.now n c.args.key = subst (λ m. HasKey c.args.terms.now m c.args.key) (sym c.concept.ensures) (key_of_term c.args.terms.now c.args.key c.index-terms-key.result c.requires.within c.index-terms-key.is) in
     let ks : List ℕ = c.deref-child-items.result.now in
-    let found = c.deref-child-items.ensures.value ∙ c.in_ok-found.ensures ∙ ap (filter_map (get nat_cmp c.args.keys.now)) c.as_slice.ensures.value in
-    children_listed c.args.core.now.links c.args.terms.now c.args.key (get nat_cmp c.args.keys.now) c.requires.keys n here c.in_ok-narrower.narrower.items ks c.in_ok-narrower.ensures found c.loop-child.children.items _
+    children_are c.args.core.now.links c.args.terms.now c.args.key (get nat_cmp c.args.keys.now) c.requires.keys
+    c.concept.result c.index-terms-key.result c.concept.ensures c.requires.within c.index-terms-key.is
+    c.in_ok-narrower.narrower.items _ c.deref-child-items.result.now _ c.in_ok-narrower.ensures
+    c.deref-child-items.ensures.value c.as_slice.ensures.value c.in_ok-found.ensures c.loop-child.children.items _
     (subst (λ (xs : List ℕ). AreChildren c.args.core.now.links c.args.terms.now c.args.key xs c.loop-child.children.items) (take_all c.loop-child.child-index ks (omega arith)) c.loop-child.invariant)
     c.in_ok-sort_children.ensures.same c.in_ok-sort_children.ensures.sorted

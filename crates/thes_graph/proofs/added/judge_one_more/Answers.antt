@@ -1,11 +1,22 @@
-use Rattle.std.proofs.Common.{◌+◌, ◌*◌, ◌≤◌, length, arith, None, true, false}
+use Rattle.std.proofs.Common.{List, ◌+◌, ◌*◌, ◌≤◌, length, arith, None, true, false}
+use Rattle.thes_base.specs.declared.data.Link.{Link}
 use Rattle.thes_base.specs.Links.{S46}
 use Rattle.thes_graph.specs.declared.sight.Sight.TheVariants.{With}
 use Rattle.thes_graph.specs.Sight.{WouldBe}
-use Rattle.thes_graph.specs.Local.{IsFirstOfTwo}
+use Rattle.thes_graph.specs.Local.{IsFirstOfTwo, CoversNear}
 use Rattle.thes_graph.specs.Whole.{IsSomeS46}
 use Rattle.thes_graph.proofs.KindLemmas.{IsFirstBroken-two}
+use Rattle.thes_graph.proofs.added.judge_one_more.Given.{Over}
 use Rattle.thes_graph.proofs.added.judge_one_more.Goals as goal
+use Rattle.thes_graph.proofs.added.judge_one_more.Goals.{In_ok-breaks_s46}
+
+-- what the walks and the class have read
+cost : (g : Over) (c : In_ok-breaks_s46 g) (ns : List Link) → CoversNear (With c.args.new.now) (g.L.Links.held c.args.links.now) c.args.new.now.a ns
+    → g.L.Links.count c.breaks_s46.new.links ≤ g.L.Links.count c.args.links.now + 6 * length ns
+cost g c ns covers =
+    let one : g.L.Links.count c.judge_chains.new.links ≤ g.L.Links.count c.args.links.now + 4 * length ns = c.in_ok-refusal.ensures.count ns covers in
+    let two : g.L.Links.count c.breaks_s46.new.links ≤ g.L.Links.count c.judge_chains.new.links + 2 * length ns = c.in_ok-breaks_s46.ensures.count ns (rw c.in_ok-refusal.ensures.held covers) in
+    omega (arith, one, two)
 
 pub returns-in-Some-clause-first : goal.returns-in-Some-clause-first
 returns-in-Some-clause-first g c =
@@ -18,10 +29,7 @@ returns-then-branch-clause-first g c =
     (two.0, two.1, found)
 
 pub returns-then-branch-clause-count : goal.returns-then-branch-clause-count
-returns-then-branch-clause-count g c ns covers =
-    let one : g.L.Links.count c.judge_chains.new.links ≤ g.L.Links.count c.args.links.now + 4 * length ns = c.in_ok-refusal.ensures.count ns covers in
-    let two : g.L.Links.count c.breaks_s46.new.links ≤ g.L.Links.count c.judge_chains.new.links + 2 * length ns = c.in_ok-breaks_s46.ensures.count ns (rw c.in_ok-refusal.ensures.held covers) in
-    omega (arith, one, two)
+returns-then-branch-clause-count g c = cost g (goal.at.returns-then-branch-clause-count g c).In_ok-breaks_s46
 
 pub returns-clause-first : goal.returns-clause-first
 returns-clause-first g c =
@@ -30,7 +38,4 @@ returns-clause-first g c =
     (two.0, two.1, off)
 
 pub returns-clause-count : goal.returns-clause-count
-returns-clause-count g c ns covers =
-    let one : g.L.Links.count c.judge_chains.new.links ≤ g.L.Links.count c.args.links.now + 4 * length ns = c.in_ok-refusal.ensures.count ns covers in
-    let two : g.L.Links.count c.breaks_s46.new.links ≤ g.L.Links.count c.judge_chains.new.links + 2 * length ns = c.in_ok-breaks_s46.ensures.count ns (rw c.in_ok-refusal.ensures.held covers) in
-    omega (arith, one, two)
+returns-clause-count g c = cost g (goal.at.returns-clause-count g c).In_ok-breaks_s46

@@ -1,23 +1,37 @@
-use Rattle.std.proofs.Common.{◌≡◌, ◌+◌, ◌≤◌, ℕ, get_or, take, length, below_more, arith, ap, sym, subst, ◌∙◌, Contains, sum_by, false}
+use Rattle.std.proofs.Common.{◌≡◌, ◌+◌, ◌≤◌, ℕ, List, get_or, take, length, below_more, arith, ap, sym, subst, ◌∙◌, Contains, sum_by, false}
 use Rattle.std.proofs.lemmas.List.{get_or_default, take_more}
 use Rattle.std.proofs.lemmas.List.Elements.{Contains-get_or}
 use Rattle.std.proofs.lemmas.List.Sums.{sum_by_push, sum_by_more_le}
+use Rattle.thes_base.specs.declared.data.Link.{Link}
 use Rattle.thes_graph.specs.declared.relation.Relation.TheVariants.{Related}
 use Rattle.thes_graph.specs.declared.side.Side.TheVariants.{Beside}
 use Rattle.thes_graph.specs.Sight.{WouldBe, CoversAt}
 use Rattle.thes_graph.specs.Steps.{Steps}
-use Rattle.thes_graph.specs.Trail.{Finds, weight}
+use Rattle.thes_graph.specs.Trail.{Finds, weight, spent}
+use Rattle.thes_graph.proofs.between.are_tied.Given.{Over}
 use Rattle.thes_graph.proofs.between.are_tied.Goals as goal
+use Rattle.thes_graph.proofs.between.are_tied.Goals.{In_ok-follow_on}
 use Rattle.thes_graph.proofs.TrailLemmas.{item_at}
 
-pub returns-then-branch-clause-count : goal.returns-then-branch-clause-count
-returns-then-branch-clause-count g c ns covers =
+-- the visits up to this node
+read_here : (g : Over) (c : In_ok-follow_on g) (ns : List Link) → ((n : ℕ) → Contains c.args.xs.now n → CoversAt c.args.sight.now (g.L.Links.held c.args.links.now) n ns)
+    → g.L.Links.count c.follow_on.new.links ≤ g.L.Links.count c.args.links.now + spent c.args.sight.now Beside (take c.loop-x.x-index c.args.xs.now) ns + sum_by (weight c.args.sight.now (get_or c.args.xs.now c.loop-x.x-index 0) Beside) ns
+read_here g c ns covers =
     let item = item_at _ c.args.xs.now c.loop-x.x-index c.x-item.result c.as_slice-x-items.ensures c.loop-x-test.true c.x-item.is in
     let w : ℕ → ℕ = λ n. sum_by (weight c.args.sight.now n Beside) ns in
     let P : ℕ → Type 0 = λ n. CoversAt c.args.sight.now (g.L.Links.held c.args.links.now) n ns in
     let here : P c.x-item.result = subst P (sym item.1) (covers (get_or c.args.xs.now c.loop-x.x-index 0) (Contains-get_or c.args.xs.now c.loop-x.x-index 0 item.0)) in
     let now : g.L.Links.count c.follow_on.new.links ≤ g.L.Links.count c.loop-x.links + w c.x-item.result = c.in_ok-follow_on.ensures.count ns (rw c.loop-x.invariant.held here) in
-    omega (arith, now, ap w item.1, c.loop-x.invariant.count ns covers, sum_by_more_le w c.args.xs.now c.loop-x.x-index 0 item.0)
+    omega (arith, now, ap w item.1, c.loop-x.invariant.count ns covers)
+
+pub returns-then-branch-clause-count : goal.returns-then-branch-clause-count
+returns-then-branch-clause-count g c ns covers =
+    let item = item_at _ c.args.xs.now c.loop-x.x-index c.x-item.result c.as_slice-x-items.ensures c.loop-x-test.true c.x-item.is in
+    omega (
+      arith,
+      read_here g (goal.at.returns-then-branch-clause-count g c).In_ok-follow_on ns covers,
+      sum_by_more_le (λ n. sum_by (weight c.args.sight.now n Beside) ns) c.args.xs.now c.loop-x.x-index 0 item.0,
+    )
 
 pub loop-x-preserved : goal.loop-x-preserved
 loop-x-preserved g c =
@@ -32,12 +46,9 @@ loop-x-preserved g c =
           (λ y has steps. finds.1 y has (let P : ℕ → Type 0 = λ w. S w y in subst P (sym item.1) steps));
       count = λ ns covers.
           let w : ℕ → ℕ = λ n. sum_by (weight c.args.sight.now n Beside) ns in
-          let P : ℕ → Type 0 = λ n. CoversAt c.args.sight.now (g.L.Links.held c.args.links.now) n ns in
-          let here : P c.x-item.result = subst P (sym item.1) (covers (get_or c.args.xs.now c.loop-x.x-index 0) (Contains-get_or c.args.xs.now c.loop-x.x-index 0 item.0)) in
-          let now : g.L.Links.count c.follow_on.new.links ≤ g.L.Links.count c.loop-x.links + w c.x-item.result = c.in_ok-follow_on.ensures.count ns (rw c.loop-x.invariant.held here) in
           let sum : sum_by w (take (c.loop-x.x-index + 1) c.args.xs.now) ≡ sum_by w (take c.loop-x.x-index c.args.xs.now) + w (get_or c.args.xs.now c.loop-x.x-index 0) =
           ap (sum_by w) (take_more c.args.xs.now c.loop-x.x-index 0 item.0) ∙ sum_by_push w (take c.loop-x.x-index c.args.xs.now) (get_or c.args.xs.now c.loop-x.x-index 0) in
-          omega (arith, now, ap w item.1, c.loop-x.invariant.count ns covers, sum);
+          omega (arith, read_here g (goal.at.loop-x-preserved g c).In_ok-follow_on ns covers, sum);
     }
 
 pub returns-clause-tied : goal.returns-clause-tied

@@ -1,7 +1,15 @@
 use Rattle.std.proofs.Common.{◌≡◌, ◌-◌, ◌++◌, ◌∷◌, [], take, refl, ap, ◌∙◌, arith}
 use Rattle.thes_base.specs.Links.{HeldIn}
 use Rattle.thes_graph.proofs.ClimbLemmas.{GrowsBy-keeps, GrowsBy-longer, IsClimb-done, IsClimb-fewer, IsSomeCycle-met, IsClimb-more, to_do-done, to_do-fewer, to_do-more, none_above, last_above, all_but_last, done_or_left, left_above, fewer_left}
+use Rattle.thes_graph.proofs.climb.go_on.Given.{Over}
 use Rattle.thes_graph.proofs.climb.go_on.Goals as goal
+use Rattle.thes_graph.proofs.climb.go_on.Goals.{After-pop}
+
+-- what the pop leaves is all above the last node but its last
+popped : (g : Over) (c : After-pop g) → c.args.last.above.items ≡ c.pop.new.self.items ++ c.in-Some.high ∷ []
+popped g c =
+    all_but_last c.args.last.above.items c.pop.new.self.items c.in-Some.high (c.in-Some.ensures ∙ rw c.deref.ensures.value at c.last.ensures.value)
+    (c.pop.ensures.rest ∙ ap (λ n. take (n - 1) c.args.last.above.items) c.args.last.above.ok.0)
 
 pub returns-in_default-clause-found : goal.returns-in_default-clause-found
 returns-in_default-clause-found g c =
@@ -14,24 +22,16 @@ returns-in_default-clause-less g c _ = to_do-done c.args.met.now c.args.way.now.
 
 pub returns-then-has-clause-found : goal.returns-then-has-clause-found
 returns-then-has-clause-found g c =
+    let all = popped g (goal.at.returns-then-has-clause-found g c).After-pop in
     rw c.in_ok-push.ensures.items
     (IsClimb-fewer (HeldIn (g.L.Links.held c.args.links.now)) c.args.met.now c.args.done.now c.args.way.now.items c.args.last c.requires _ refl
     (done_or_left c.args.last.above.items c.pop.new.self.items c.in-Some.high all c.args.done.now (rw c.if-has.true at c.has.ensures))
     (left_above c.args.last.above.items c.pop.new.self.items c.in-Some.high all))
-  where
-    all : c.args.last.above.items ≡ c.pop.new.self.items ++ c.in-Some.high ∷ []
-    all =
-        all_but_last c.args.last.above.items c.pop.new.self.items c.in-Some.high (c.in-Some.ensures ∙ rw c.deref.ensures.value at c.last.ensures.value)
-        (c.pop.ensures.rest ∙ ap (λ n. take (n - 1) c.args.last.above.items) c.args.last.above.ok.0)
 
 pub returns-then-has-clause-less : goal.returns-then-has-clause-less
 returns-then-has-clause-less g c _ =
+    let all = popped g (goal.at.returns-then-has-clause-less g c).After-pop in
     rw c.in_ok-push.ensures.items (to_do-fewer c.args.met.now c.args.way.now.items c.args.last _ (fewer_left c.args.last.above.items c.pop.new.self.items c.in-Some.high all))
-  where
-    all : c.args.last.above.items ≡ c.pop.new.self.items ++ c.in-Some.high ∷ []
-    all =
-        all_but_last c.args.last.above.items c.pop.new.self.items c.in-Some.high (c.in-Some.ensures ∙ rw c.deref.ensures.value at c.last.ensures.value)
-        (c.pop.ensures.rest ∙ ap (λ n. take (n - 1) c.args.last.above.items) c.args.last.above.ok.0)
 
 pub returns-then-has-2-clause-found : goal.returns-then-has-2-clause-found
 returns-then-has-2-clause-found g c =

@@ -1,9 +1,21 @@
-use Rattle.std.proofs.Common.{◌+◌, ◌*◌, ◌≤◌, length, arith, None, true, false}
-use Rattle.thes_graph.specs.Local.{IsS46At, NoS46At}
+use Rattle.std.proofs.Common.{List, ◌+◌, ◌*◌, ◌≤◌, length, arith, None, true, false}
+use Rattle.thes_base.specs.declared.data.Link.{Link}
+use Rattle.thes_graph.specs.Local.{IsS46At, NoS46At, CoversNear}
 use Rattle.thes_graph.specs.Sight.{WouldBe}
 use Rattle.thes_graph.specs.Trail.{IsBrokenBetween}
 use Rattle.thes_graph.proofs.ProbeLemmas.{IsFirstBrokenAt-between, near_pivot}
+use Rattle.thes_graph.proofs.judge.probe.Given.{Over}
 use Rattle.thes_graph.proofs.judge.probe.Goals as goal
+use Rattle.thes_graph.proofs.judge.probe.Goals.{In_ok-breaks_class}
+
+-- what the walks and the class have read
+cost : (g : Over) (c : In_ok-breaks_class g) (ns : List Link) → CoversNear c.args.sight.now (g.L.Links.held c.args.links.now) c.args.pivot ns
+    → g.L.Links.count c.breaks_class.new.links ≤ g.L.Links.count c.args.links.now + 6 * length ns
+cost g c ns covers =
+    let one : g.L.Links.count c.judge_between.new.links ≤ g.L.Links.count c.args.links.now + 4 * length ns =
+    c.in_ok-refusal.ensures.count ns (λ n near. covers n (near_pivot (WouldBe c.args.sight.now (g.L.Links.held c.args.links.now)) c.args.pivot n near)) in
+    let two : g.L.Links.count c.breaks_class.new.links ≤ g.L.Links.count c.judge_between.new.links + 2 * length ns = c.in_ok-breaks_class.ensures.count ns (rw c.in_ok-refusal.ensures.held covers) in
+    omega (arith, one, two)
 
 pub returns-in-Some-clause-first : goal.returns-in-Some-clause-first
 returns-in-Some-clause-first g c =
@@ -20,11 +32,7 @@ returns-then-branch-clause-first g c =
     (none.0, none.1, found)
 
 pub returns-then-branch-clause-count : goal.returns-then-branch-clause-count
-returns-then-branch-clause-count g c ns covers =
-    let one : g.L.Links.count c.judge_between.new.links ≤ g.L.Links.count c.args.links.now + 4 * length ns =
-    c.in_ok-refusal.ensures.count ns (λ n near. covers n (near_pivot (WouldBe c.args.sight.now (g.L.Links.held c.args.links.now)) c.args.pivot n near)) in
-    let two : g.L.Links.count c.breaks_class.new.links ≤ g.L.Links.count c.judge_between.new.links + 2 * length ns = c.in_ok-breaks_class.ensures.count ns (rw c.in_ok-refusal.ensures.held covers) in
-    omega (arith, one, two)
+returns-then-branch-clause-count g c = cost g (goal.at.returns-then-branch-clause-count g c).In_ok-breaks_class
 
 pub returns-clause-first : goal.returns-clause-first
 returns-clause-first g c =
@@ -33,8 +41,4 @@ returns-clause-first g c =
     (none.0, none.1, off)
 
 pub returns-clause-count : goal.returns-clause-count
-returns-clause-count g c ns covers =
-    let one : g.L.Links.count c.judge_between.new.links ≤ g.L.Links.count c.args.links.now + 4 * length ns =
-    c.in_ok-refusal.ensures.count ns (λ n near. covers n (near_pivot (WouldBe c.args.sight.now (g.L.Links.held c.args.links.now)) c.args.pivot n near)) in
-    let two : g.L.Links.count c.breaks_class.new.links ≤ g.L.Links.count c.judge_between.new.links + 2 * length ns = c.in_ok-breaks_class.ensures.count ns (rw c.in_ok-refusal.ensures.held covers) in
-    omega (arith, one, two)
+returns-clause-count g c = cost g (goal.at.returns-clause-count g c).In_ok-breaks_class

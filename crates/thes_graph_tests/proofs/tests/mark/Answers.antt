@@ -1,7 +1,7 @@
 use Rattle.std.proofs.Common.{subst}
 use Rattle.thes_base.specs.Links.{HeldIn}
 use Rattle.thes_graph.specs.Net.{Net}
-use Rattle.thes_graph.proofs.ChangeLemmas.{without_node_from}
+use Rattle.thes_base.proofs.LinkSets.{without_node_from}
 use Rattle.thes_graph_tests.proofs.tests.mark.Goals as goal
 
 pub mark_outside-requires : goal.mark_outside-requires

@@ -1,12 +1,13 @@
 use Rattle.std.proofs.Common.{[], ◌∷◌}
+use Rattle.std.proofs.lemmas.Result.{IfOk-weaker}
 use Rattle.sqlite.specs.declared.types.Value.TheVariants.{Text as Words}
 use Rattle.thes_sql.proofs.Reading.{keyed_shown, keyed_text, keyed_is}
 use Rattle.sqlite.specs.Held.{state}
-use Rattle.thes_sql.proofs.Leaving.{leaves_alone, if_shown}
+use Rattle.thes_sql.proofs.Leaving.{leaves_alone}
 use Rattle.thes_sql.proofs.reads.rows_keyed.Goals as goal
 
 pub returns-clause-shows : goal.returns-clause-shows
-returns-clause-shows g c clean = if_shown c.query_all.result
+returns-clause-shows g c clean = IfOk-weaker c.query_all.result _ _
     (λ out shown t keeps. keyed_shown c.args.key.now (state g.S.Store c.args.conn.now) (state g.S.Store c.query_all.new.self) t out.items
     keeps shown) (rw (c.params-to_sql.ensures, c.as_str.ensures.text) at (c.query_all.ensures.ok clean))
 

@@ -1,12 +1,13 @@
 use Rattle.std.proofs.Common.{pos, [], ◌∷◌}
+use Rattle.std.proofs.lemmas.Result.{IfOk-weaker}
 use Rattle.sqlite.specs.declared.types.Value.TheVariants.{Int}
 use Rattle.thes_sql.proofs.Reading.{moving_shown, moving_text, moving_is}
 use Rattle.sqlite.specs.Held.{state}
-use Rattle.thes_sql.proofs.Leaving.{leaves_alone, if_shown}
+use Rattle.thes_sql.proofs.Leaving.{leaves_alone}
 use Rattle.thes_sql.proofs.reads.rows_moving.Goals as goal
 
 pub returns-clause-shows : goal.returns-clause-shows
-returns-clause-shows g c clean = if_shown c.query_all.result
+returns-clause-shows g c clean = IfOk-weaker c.query_all.result _ _
     (λ out shown t keeps. moving_shown c.args.posting (state g.S.Store c.args.conn.now) (state g.S.Store c.query_all.new.self) t out.items
     keeps shown) (rw (c.params-to_sql.ensures, c.get.ensures.value) at (c.query_all.ensures.ok clean))
 

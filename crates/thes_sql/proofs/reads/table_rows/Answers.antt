@@ -1,24 +1,25 @@
 use Rattle.std.proofs.Common.{[]}
+use Rattle.std.proofs.lemmas.Result.{IfErr-weaker, IfOk-weaker}
 use Rattle.thes_sql.specs.Reads.{read_text}
 use Rattle.thes_sql.proofs.Reading.{table_shown, whatever_shown, asks_table}
 use Rattle.sqlite.specs.Held.{state}
-use Rattle.thes_sql.proofs.Leaving.{leaves_alone, is_understood, if_failed, if_shown}
+use Rattle.thes_sql.proofs.Leaving.{leaves_alone, is_understood}
 use Rattle.thes_sql.proofs.reads.table_rows.Goals as goal
 
 pub returns-clause-shows : goal.returns-clause-shows
-returns-clause-shows g c clean = if_shown c.query_all.result
+returns-clause-shows g c clean = IfOk-weaker c.query_all.result _ _
     (λ out shown t keeps. table_shown c.args.table (state g.S.Store c.args.conn.now) (state g.S.Store c.query_all.new.self) t out.items
     keeps shown) (rw c.table_text.ensures at (c.query_all.ensures.ok clean))
 
 pub returns-clause-whatever : goal.returns-clause-whatever
-returns-clause-whatever g c clean is = if_shown c.query_all.result
+returns-clause-whatever g c clean is = IfOk-weaker c.query_all.result _ _
     (λ out shown. whatever_shown c.args.table (state g.S.Store c.args.conn.now) (state g.S.Store c.query_all.new.self)
     out.items is shown) (rw c.table_text.ensures at (c.query_all.ensures.ok clean))
 
 pub returns-clause-understood : goal.returns-clause-understood
 returns-clause-understood g c clean has =
     let asks = asks_table c.args.table in
-    if_failed c.query_all.result (λ e fails fault. is_understood (read_text c.args.table) [] (state g.S.Store c.args.conn.now)
+    IfErr-weaker c.query_all.result _ _ (λ e fails fault. is_understood (read_text c.args.table) [] (state g.S.Store c.args.conn.now)
     (state g.S.Store c.query_all.new.self) _ asks.0 has asks.1 asks.3 e fault fails)
     (rw c.table_text.ensures at (c.query_all.ensures.err clean))
 

@@ -1,12 +1,13 @@
 use Rattle.std.proofs.Common.{[]}
+use Rattle.std.proofs.lemmas.Result.{IfOk-weaker}
 use Rattle.sqlite.specs.Held.{state}
 use Rattle.thes_base.specs.declared.fault.Table.TheVariants as table
 use Rattle.thes_sql.proofs.Reading.{meta_text, asks_table, asks_old_meta, version_shown}
-use Rattle.thes_sql.proofs.Leaving.{leaves_known, keeps_known, if_shown}
+use Rattle.thes_sql.proofs.Leaving.{leaves_known, keeps_known}
 use Rattle.thes_sql.proofs.versions.version_rows.Goals as goal
 
 pub returns-clause-shows : goal.returns-clause-shows
-returns-clause-shows g c clean = if_shown c.query_all.result
+returns-clause-shows g c clean = IfOk-weaker c.query_all.result _ _
     (λ out shown version base has. version_shown version base (state g.S.Store c.args.conn.now)
     (state g.S.Store c.query_all.new.self) out.items has shown) (c.query_all.ensures.ok clean)
 

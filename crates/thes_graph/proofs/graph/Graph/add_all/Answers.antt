@@ -3,7 +3,7 @@ use Rattle.thes_base.specs.Links.{Links, norm}
 use Rattle.thes_graph.specs.Net.{Net, is_marked}
 use Rattle.thes_graph.specs.Moved.{without_all}
 use Rattle.thes_graph.proofs.ChangeLemmas.{net_with, taken_back}
-use Rattle.thes_graph.proofs.MovedLemmas.{Contains-take}
+use Rattle.thes_graph.proofs.WeightLemmas.{Contains-take}
 use Rattle.thes_graph.proofs.graph.Graph.add_all.Goals as goal
 
 pub add-requires : goal.add-requires

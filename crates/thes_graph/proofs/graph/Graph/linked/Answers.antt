@@ -1,5 +1,4 @@
-use Rattle.std.proofs.Common.{◌≡◌, List, length, take, ap, subst, ◌∙◌, arith}
-use Rattle.std.proofs.Math.Seq.{take-length}
+use Rattle.std.proofs.Common.{ap, ◌∙◌, arith}
 use Rattle.std.specs.Ordering.{nat_cmp}
 use Rattle.thes_graph.specs.Steps.{step_in}
 use Rattle.thes_graph.specs.Linked.{led_to}
@@ -7,8 +6,7 @@ use Rattle.std.specs.Cmp.{nat_cmp_total}
 use Rattle.std.specs.FinSet.{nat_cmp-IsAntisymmetric}
 use Rattle.thes_base.proofs.ListMembers.{Contains-none}
 use Rattle.thes_lists.proofs.ListingLemmas.{listing_none}
-use Rattle.thes_graph.specs.declared.side.Standing.{Standing}
-use Rattle.thes_graph.proofs.ReaderLemmas.{ListsSeen, seen_more, seen_no_more, seen_listing, linked_from, linked_to}
+use Rattle.thes_graph.proofs.ReaderLemmas.{seen_more, seen_no_more, seen_listing, linked_from, linked_to}
 use Rattle.thes_graph.proofs.graph.Graph.linked.Goals as goal
 use Rattle.thes_graph.proofs.graph.Graph.linked.Goals.{in-Some+in_ok-list_in, in_default}
 
@@ -28,10 +26,8 @@ loop-standing-preserved c =
 
 pub returns : goal.returns
 returns c =
-    let end : c.loop-standing.standing-index ≡ length c.at-standing-items.result.now = omega arith in
-    let whole = ap (λ i. take i c.at-standing-items.result.now) end ∙ take-length c.at-standing-items.result.now ∙ c.at-standing-items.ensures.row in
     seen_listing nat_cmp (led_to c.args.linked c.args.n) c.args.self.now.links c.args.n _
     (linked_from c.args.self.now.links c.args.linked c.args.n)
     (linked_to c.args.self.now.links c.args.linked c.args.n)
-    c.loop-standing.found.items
-    (subst (λ (row : List Standing). ListsSeen nat_cmp (led_to c.args.linked c.args.n) row c.loop-standing.found.items) whole c.loop-standing.invariant)
+    c.at-standing-items.result.now c.loop-standing.standing-index (omega arith) c.at-standing-items.ensures.row
+    c.loop-standing.found.items c.loop-standing.invariant

@@ -1,13 +1,11 @@
-use Rattle.std.proofs.Common.{◌≡◌, List, length, take, ap, subst, ◌∙◌, arith}
-use Rattle.std.proofs.Math.Seq.{take-length}
+use Rattle.std.proofs.Common.{arith}
 use Rattle.thes_base.specs.Views.{mapping_cmp}
 use Rattle.thes_graph.specs.Mapped.{as_seen_from}
 use Rattle.thes_base.proofs.WordOrders.{mapping_total, mapping_exact}
 use Rattle.thes_base.proofs.ListMembers.{Contains-none}
 use Rattle.thes_graph.proofs.MappingLemmas.{seen_from, seen_to}
 use Rattle.thes_lists.proofs.ListingLemmas.{listing_none}
-use Rattle.thes_graph.specs.declared.side.Standing.{Standing}
-use Rattle.thes_graph.proofs.ReaderLemmas.{ListsSeen, seen_more, seen_no_more, seen_listing}
+use Rattle.thes_graph.proofs.ReaderLemmas.{seen_more, seen_no_more, seen_listing}
 use Rattle.thes_graph.proofs.graph.Graph.mapped.Goals as goal
 use Rattle.thes_graph.proofs.graph.Graph.mapped.Goals.{in-Some+in_ok-list_mapping, in_default}
 
@@ -27,10 +25,8 @@ loop-standing-preserved c =
 
 pub returns : goal.returns
 returns c =
-    let end : c.loop-standing.standing-index ≡ length c.at-standing-items.result.now = omega arith in
-    let whole = ap (λ i. take i c.at-standing-items.result.now) end ∙ take-length c.at-standing-items.result.now ∙ c.at-standing-items.ensures.row in
     seen_listing mapping_cmp (as_seen_from c.args.n) c.args.self.now.links c.args.n _
     (λ p (l, held, at, gives). seen_from c.args.self.now.links c.args.n l p held at gives)
     (seen_to c.args.self.now.links c.args.n c.at-standing-items.ensures.two_ends)
-    c.loop-standing.found.items
-    (subst (λ (row : List Standing). ListsSeen mapping_cmp (as_seen_from c.args.n) row c.loop-standing.found.items) whole c.loop-standing.invariant)
+    c.at-standing-items.result.now c.loop-standing.standing-index (omega arith) c.at-standing-items.ensures.row
+    c.loop-standing.found.items c.loop-standing.invariant

@@ -1,14 +1,12 @@
-use Rattle.std.proofs.Common.{◌≡◌, List, length, take, ap, subst, ◌∙◌, arith}
-use Rattle.std.proofs.Math.Seq.{take-length}
+use Rattle.std.proofs.Common.{arith}
 use Rattle.thes_base.specs.Views.{typed_cmp}
 use Rattle.thes_graph.specs.Mapped.{as_typed_from}
 use Rattle.thes_base.proofs.WordOrders.{typed_total, typed_exact}
 use Rattle.thes_base.proofs.ListMembers.{Contains-none}
 use Rattle.thes_graph.proofs.MappingLemmas.{typed_from, typed_to}
 use Rattle.thes_lists.proofs.ListingLemmas.{listing_none}
-use Rattle.thes_graph.specs.declared.side.Standing.{Standing}
 use Rattle.thes_graph.proofs.LinkOrderLemmas.{typed_inserted, typed_rises}
-use Rattle.thes_graph.proofs.ReaderLemmas.{ListsSeen, seen_more, seen_no_more, seen_listing}
+use Rattle.thes_graph.proofs.ReaderLemmas.{seen_more, seen_no_more, seen_listing}
 use Rattle.thes_graph.proofs.graph.Graph.typed_of.Goals as goal
 use Rattle.thes_graph.proofs.graph.Graph.typed_of.Goals.{in-Some+in_ok-list_in, in_default}
 
@@ -31,10 +29,8 @@ list_in-requires c = typed_rises c.loop-standing.found.items c.loop-standing.inv
 
 pub returns : goal.returns
 returns c =
-    let end : c.loop-standing.standing-index ≡ length c.at-standing-items.result.now = omega arith in
-    let whole = ap (λ i. take i c.at-standing-items.result.now) end ∙ take-length c.at-standing-items.result.now ∙ c.at-standing-items.ensures.row in
     seen_listing typed_cmp (as_typed_from c.args.n) c.args.self.now.links c.args.n _
     (typed_from c.args.self.now.links c.args.n)
     (typed_to c.args.self.now.links c.args.n c.at-standing-items.ensures.two_ends)
-    c.loop-standing.found.items
-    (subst (λ (row : List Standing). ListsSeen typed_cmp (as_typed_from c.args.n) row c.loop-standing.found.items) whole c.loop-standing.invariant)
+    c.at-standing-items.result.now c.loop-standing.standing-index (omega arith) c.at-standing-items.ensures.row
+    c.loop-standing.found.items c.loop-standing.invariant

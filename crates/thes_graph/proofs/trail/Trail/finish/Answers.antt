@@ -9,15 +9,13 @@ reading-preserved g c = record {
   outside = c.in_ok-advance.ensures.outside ∙ c.reading.invariant.outside;
   rows = c.in_ok-advance.ensures.rows ∙ c.reading.invariant.rows;
   goes = λ start read is.
-      let before : IsTrail c.args.sight.now (g.L.Links.held c.args.links.now) c.args.relation c.args.goals.now start c.reading.self (read + (g.L.Links.count c.reading.links - g.L.Links.count c.args.links.now)) = c.reading.invariant.goes start read is in
       let on : IsTrail c.args.sight.now (g.L.Links.held c.args.links.now) c.args.relation c.args.goals.now start c.advance.new.self (read + (g.L.Links.count c.reading.links - g.L.Links.count c.args.links.now) + (g.L.Links.count c.advance.new.links - g.L.Links.count c.reading.links)) =
-      (rw (c.if-branch.false, c.reading.invariant.held) at c.in_ok-advance.ensures.goes) start (read + (g.L.Links.count c.reading.links - g.L.Links.count c.args.links.now)) before in
+      (rw (c.if-branch.false, c.reading.invariant.held) at c.in_ok-advance.ensures.goes) start (read + (g.L.Links.count c.reading.links - g.L.Links.count c.args.links.now)) (c.reading.invariant.goes start read is) in
       IsTrail-less c.args.sight.now (g.L.Links.held c.args.links.now) c.args.relation c.args.goals.now start c.advance.new.self (read + (g.L.Links.count c.advance.new.links - g.L.Links.count c.args.links.now)) _ (omega arith) on;
 }
 
 pub returns-then-branch-clause-goes : goal.returns-then-branch-clause-goes
 returns-then-branch-clause-goes g c start read is =
-    let before : IsTrail c.args.sight.now (g.L.Links.held c.args.links.now) c.args.relation c.args.goals.now start c.reading.self (read + (g.L.Links.count c.reading.links - g.L.Links.count c.args.links.now)) = c.reading.invariant.goes start read is in
     let on : GoesOn c.args.sight.now (g.L.Links.held c.args.links.now) c.args.relation c.args.goals.now start c.advance.new.self (read + (g.L.Links.count c.reading.links - g.L.Links.count c.args.links.now) + (g.L.Links.count c.advance.new.links - g.L.Links.count c.reading.links)) true =
-    (rw (c.if-branch.true, c.reading.invariant.held) at c.in_ok-advance.ensures.goes) start (read + (g.L.Links.count c.reading.links - g.L.Links.count c.args.links.now)) before in
+    (rw (c.if-branch.true, c.reading.invariant.held) at c.in_ok-advance.ensures.goes) start (read + (g.L.Links.count c.reading.links - g.L.Links.count c.args.links.now)) (c.reading.invariant.goes start read is) in
     GoesOn-less c.args.sight.now (g.L.Links.held c.args.links.now) c.args.relation c.args.goals.now start c.advance.new.self (read + (g.L.Links.count c.advance.new.links - g.L.Links.count c.args.links.now)) _ (omega arith) true on

@@ -1,4 +1,4 @@
-use Rattle.std.proofs.Common.{rules, ◌≡◌, ◌∙◌, ap, sym, subst, List, true}
+use Rattle.std.proofs.Common.{rules, ◌≡◌, ◌∙◌, ap, sym, subst, ℕ, List, true}
 use Rattle.std.specs.Prelude.{Some}
 use Rattle.thes_base.specs.declared.data.Resource.{Resource}
 use Rattle.thes_base.specs.Resources.{IsScheme, numbered, is_scheme_kind}
@@ -7,13 +7,20 @@ use Rattle.thes_vocab.specs.Vocabulary.{Vocabulary}
 use Rattle.thes_vocab.proofs.JudgingLemmas.{row_taken, row_free, holder_taken, no_holder}
 use Rattle.thes_vocab.proofs.vocab.Vocab.judge_concept.Goals as goal
 
+-- the resource that was found
+scheme_is : (seen v : Vocabulary) (scheme : ℕ) (resources : List Resource) (r : Resource) → seen ≡ v → resources ≡ seen.resources
+    → Some r ≡ numbered resources scheme → is_scheme_kind r.kind ≡ true → IsScheme v.resources scheme
+scheme_is seen v scheme resources r is value found kind = (
+  r,
+  sym (found ∙ ap (λ (rs : List Resource). numbered rs scheme) value ∙ ap (λ (v : Vocabulary). numbered v.resources scheme) is),
+  kind,
+)
+
 pub returns-then-is_some : goal.returns-then-is_some
 returns-then-is_some c =
     let v = c.args.self.now in
     let legal = subst (λ (v : Vocabulary). LegalLabels v.resources v.labels) c.self.view_is c.self.invariant.named in
-    let at : numbered v.resources c.args.scheme ≡ Some c.in-Some.resource.now = sym (c.in-Some.ensures ∙ ap (λ (rs : List Resource). numbered rs c.args.scheme) c.as_slice.ensures.value ∙ ap (λ (v : Vocabulary). numbered v.resources c.args.scheme) c.self.view_is) in
-    let kind : is_scheme_kind c.in-Some.resource.now.kind ≡ true = search rules in
-    let is : IsScheme v.resources c.args.scheme = (c.in-Some.resource.now, at, kind) in
+    let is = scheme_is _ v c.args.scheme _ c.in-Some.resource.now c.self.view_is c.as_slice.ensures.value c.in-Some.ensures (search rules) in
     row_taken v.resources v.labels legal c.args.scheme c.args.tag.now c.args.text.now is
     (holder_taken v.resources v.labels c.args.scheme c.args.tag.now c.args.text.now c.holder.result c.holder.ensures (sym c.is_some.ensures ∙ c.if-is_some.true))
 
@@ -21,8 +28,6 @@ pub returns : goal.returns
 returns c =
     let v = c.args.self.now in
     let legal = subst (λ (v : Vocabulary). LegalLabels v.resources v.labels) c.self.view_is c.self.invariant.named in
-    let at : numbered v.resources c.args.scheme ≡ Some c.in-Some.resource.now = sym (c.in-Some.ensures ∙ ap (λ (rs : List Resource). numbered rs c.args.scheme) c.as_slice.ensures.value ∙ ap (λ (v : Vocabulary). numbered v.resources c.args.scheme) c.self.view_is) in
-    let kind : is_scheme_kind c.in-Some.resource.now.kind ≡ true = search rules in
-    let is : IsScheme v.resources c.args.scheme = (c.in-Some.resource.now, at, kind) in
+    let is = scheme_is _ v c.args.scheme _ c.in-Some.resource.now c.self.view_is c.as_slice.ensures.value c.in-Some.ensures (search rules) in
     row_free v.resources v.labels legal c.args.scheme c.args.tag.now c.args.text.now is
     (no_holder v.resources v.labels c.args.scheme c.args.tag.now c.args.text.now c.holder.result c.holder.ensures (sym c.is_some.ensures ∙ c.if-is_some.false))

@@ -1,4 +1,4 @@
-use Rattle.std.proofs.Common.{sym, subst, List, ℕ}
+use Rattle.std.proofs.Common.{◌≡◌, sym, subst, List, ℕ, Bool, true, false}
 use Rattle.std.proofs.lemmas.Bool.{both_ways}
 use Rattle.thes_base.specs.declared.data.LabelKind.TheVariants.{Pref}
 use Rattle.thes_base.specs.Labels.{HasLabel}
@@ -8,6 +8,12 @@ use Rattle.thes_vocab.specs.Vocabulary.{Vocabulary}
 use Rattle.thes_vocab.specs.Rivals.{Clashes}
 use Rattle.thes_vocab.proofs.JudgingLemmas.{row_without_name, row_clashing, row_with_rival, row_renamed}
 use Rattle.thes_vocab.proofs.vocab.Vocab.judge_relabel.Goals as goal
+
+-- none was found
+no_clash : (seen v : Vocabulary) (owner : ℕ) (tag text old : List ℕ) (keep found : Bool) → seen ≡ v
+    → (Clashes seen.labels owner tag text old keep → found ≡ true) → found ≡ false → Clashes v.labels owner tag text old keep → ⊥
+no_clash seen v owner tag text old keep found is told none clash =
+    both_ways found none (told (subst (λ (v : Vocabulary). Clashes v.labels owner tag text old keep) (sym is) clash))
 
 pub returns-in_default : goal.returns-in_default
 returns-in_default c =
@@ -28,7 +34,7 @@ returns-then-has_rival c =
     let v = c.args.self.now in
     let legal = subst (λ (v : Vocabulary). LegalLabels v.resources v.labels) c.self.view_is c.self.invariant.named in
     let has = subst (λ (v : Vocabulary). HasLabel v.labels c.args.owner Pref c.args.tag.now c.in-Some.old.now) c.self.view_is c.in-Some.ensures in
-    let free = λ (clash : Clashes v.labels c.args.owner c.args.tag.now c.args.text.now c.in-Some.old.now c.args.keep). let yes = c.clashes.ensures.1 (subst (λ (v : Vocabulary). Clashes v.labels c.args.owner c.args.tag.now c.args.text.now c.in-Some.old.now c.args.keep) (sym c.self.view_is) clash) in both_ways c.clashes.result c.if-clashes.false yes in
+    let free = no_clash _ v c.args.owner c.args.tag.now c.args.text.now c.in-Some.old.now c.args.keep c.clashes.result c.self.view_is c.clashes.ensures.1 c.if-clashes.false in
     row_with_rival v.resources v.labels c.args.owner c.args.tag.now c.args.text.now c.in-Some.old.now c.args.keep legal has free (c.has_rival.ensures.0 c.if-has_rival.true)
 
 pub returns : goal.returns
@@ -36,5 +42,5 @@ returns c =
     let v = c.args.self.now in
     let legal = subst (λ (v : Vocabulary). LegalLabels v.resources v.labels) c.self.view_is c.self.invariant.named in
     let has = subst (λ (v : Vocabulary). HasLabel v.labels c.args.owner Pref c.args.tag.now c.in-Some.old.now) c.self.view_is c.in-Some.ensures in
-    let free = λ (clash : Clashes v.labels c.args.owner c.args.tag.now c.args.text.now c.in-Some.old.now c.args.keep). let yes = c.clashes.ensures.1 (subst (λ (v : Vocabulary). Clashes v.labels c.args.owner c.args.tag.now c.args.text.now c.in-Some.old.now c.args.keep) (sym c.self.view_is) clash) in both_ways c.clashes.result c.if-clashes.false yes in
+    let free = no_clash _ v c.args.owner c.args.tag.now c.args.text.now c.in-Some.old.now c.args.keep c.clashes.result c.self.view_is c.clashes.ensures.1 c.if-clashes.false in
     row_renamed v.resources v.labels c.args.owner c.args.tag.now c.args.text.now c.in-Some.old.now c.args.keep legal has free (λ rival. both_ways c.has_rival.result c.if-has_rival.false (c.has_rival.ensures.1 rival))
