@@ -12,8 +12,8 @@ use Rattle.thes_base.specs.declared.fault.Fault.{Fault}
 use Rattle.thes_base.specs.declared.fault.Fault.TheVariants as faults
 use Rattle.thes_base.specs.declared.fault.PipeFault.TheVariants as pipe
 use Rattle.thes_base.proofs.NumberedLemmas.{none_at}
-use Rattle.thes_rows.specs.Cells.{listed}
-use Rattle.thes_rows.specs.Tables.{Tables, hier_link, no_rows}
+use Rattle.thes_tables.specs.Cells.{listed}
+use Rattle.thes_tables.specs.Tables.{Tables, hier_link, no_rows}
 use Rattle.thes_store.specs.Causes.{most}
 use Rattle.thes_office.proofs.ShowLemmas.{faulty_shows_none}
 use Rattle.thes_office.specs.Shows.{Shows}

@@ -10,7 +10,7 @@ use Rattle.thes_base.specs.declared.fault.PipeFault.{PipeFault}
 use Rattle.thes_base.specs.declared.fault.PipeFault.TheVariants as pipe
 use Rattle.thes_base.specs.declared.pipe.Pipe.{Pipe}
 use Rattle.thes_base.specs.Pipe.{KeepsCalls}
-use Rattle.thes_rows.specs.Cells.{Raw}
+use Rattle.thes_tables.specs.Cells.{Raw}
 use Rattle.thes_core.specs.Kept as core
 use Rattle.thes_core.specs.Kept.{Holds}
 use Rattle.thes_core.specs.declared.reading.Sizes.{Sizes}

@@ -3,7 +3,7 @@ use Rattle.std.proofs.Common.{ℕ, List, Option, Result, Ok, Err}
 use Rattle.std.specs.Prelude.{IfOk, IfErr}
 use Rattle.thes_base.specs.Pipe.{KeepsToLimit}
 use Rattle.thes_base.specs.declared.fault.PipeFault.{PipeFault}
-use Rattle.thes_rows.specs.Cells.{Raw}
+use Rattle.thes_tables.specs.Cells.{Raw}
 use Rattle.thes_office.specs.Office.{Kept}
 use Rattle.thes_exchange.specs.Script.{scene, Completes, Stops}
 use Rattle.thes_exchange.specs.declared.script.Ended.{Ended}

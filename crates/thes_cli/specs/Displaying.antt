@@ -7,7 +7,7 @@ use Rattle.thes_base.specs.declared.fault.PipeFault.TheVariants as pipe
 use Rattle.thes_base.specs.declared.fault.Refusal.{Refusal}
 use Rattle.thes_base.specs.declared.pipe.Pipe.{Pipe}
 use Rattle.thes_base.specs.Pipe.{KeepsCalls}
-use Rattle.thes_rows.specs.Cells.{Raw}
+use Rattle.thes_tables.specs.Cells.{Raw}
 use Rattle.thes_office.specs.Office.{Goes, Kept, Same}
 use Rattle.thes_display.specs.Shown.{IsShown, IsStopped}
 use Rattle.thes_display.specs.declared.shown.Shown.{Shown}

@@ -5,7 +5,7 @@ use Rattle.thes_base.specs.declared.fault.PipeFault.{PipeFault}
 use Rattle.thes_base.specs.declared.fault.PipeFault.TheVariants as pipe
 use Rattle.thes_base.specs.declared.pipe.Pipe.{Pipe}
 use Rattle.thes_base.specs.Pipe.{KeepsCalls}
-use Rattle.thes_rows.specs.Cells.{Raw}
+use Rattle.thes_tables.specs.Cells.{Raw}
 use Rattle.thes_office.specs.Office.{Goes, Kept, Same}
 use Rattle.thes_export.specs.Written.{IsExported, IsStopped}
 use Rattle.thes_cli.specs.Ending.{fault_line, Prints}

@@ -3,7 +3,7 @@ use Rattle.std.specs.Prelude.{◌≡◌, ◌==◌, if◌then◌else◌, ℕ, Boo
 use Rattle.thes_base.specs.Pipe.{device_of, IsFresh, KeepsToLimit}
 use Rattle.thes_base.specs.declared.fault.FormFault.TheVariants.{BadShape}
 use Rattle.thes_base.specs.declared.pipe.Pipe.{Pipe}
-use Rattle.thes_rows.specs.Cells.{Raw}
+use Rattle.thes_tables.specs.Cells.{Raw}
 use Rattle.thes_office.specs.Office.{Kept}
 use Rattle.thes_importer.specs.Engine.{ImportsFile, Stops, scene}
 use Rattle.thes_importer.specs.declared.import.Ended.{Ended}

@@ -4,9 +4,9 @@ use Rattle.thes_base.specs.declared.data.Limits.{Limits}
 use Rattle.thes_base.specs.declared.fault.Fault.{Fault}
 use Rattle.thes_base.specs.declared.fault.Fault.TheVariants.{OutOfMemory, Store}
 use Rattle.thes_base.specs.State.{State}
-use Rattle.thes_rows.specs.Cells.{Raw}
+use Rattle.thes_tables.specs.Cells.{Raw}
 use Rattle.thes_store.specs.Causes.{most}
-use Rattle.thes_tables.specs.Loads.{Loads}
+use Rattle.thes_load_rules.specs.Loads.{Loads}
 use Rattle.thes_office.specs.Office.{Kept}
 use Rattle.thes_office.specs.Shows.{Shows}
 

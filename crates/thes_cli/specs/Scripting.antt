@@ -3,7 +3,7 @@ use Rattle.std.specs.Prelude.{◌≡◌, ℕ, List, Option, MatchResult, MatchOp
 use Rattle.thes_base.specs.Pipe.{KeepsToLimit}
 use Rattle.thes_base.specs.declared.fault.PipeFault.{PipeFault}
 use Rattle.thes_base.specs.declared.pipe.Pipe.{Pipe}
-use Rattle.thes_rows.specs.Cells.{Raw}
+use Rattle.thes_tables.specs.Cells.{Raw}
 use Rattle.thes_office.specs.Office.{Kept}
 use Rattle.thes_exchange.specs.Script.{scene, Completes, Stops}
 use Rattle.thes_exchange.specs.declared.script.Ended.{Ended}

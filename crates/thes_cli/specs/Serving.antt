@@ -4,7 +4,7 @@ use Rattle.std.specs.Io.KnownBytes.{Appends}
 use Rattle.thes_base.specs.Pipe.{failed_of, denied_of, written, AppendsFront}
 use Rattle.thes_base.specs.declared.fault.PipeFault.TheVariants.{Write}
 use Rattle.thes_base.specs.declared.pipe.Pipe.{Pipe}
-use Rattle.thes_rows.specs.Cells.{Raw}
+use Rattle.thes_tables.specs.Cells.{Raw}
 use Rattle.thes_office.specs.Office.{Kept}
 use Rattle.thes_http.specs.Server.{LeadsBy}
 use Rattle.thes_http.specs.Serving.{doing}

@@ -5,7 +5,7 @@ use Rattle.sqlite.specs.State.{HasCleanDisk}
 use Rattle.sqlite_trees.specs.declared.store.Store.{Ghosts}
 use Rattle.thes_base.specs.declared.fault.Fault.{Fault}
 use Rattle.thes_base.specs.declared.fault.PipeFault.TheVariants as pipe
-use Rattle.thes_rows.specs.Tables.{no_rows}
+use Rattle.thes_tables.specs.Tables.{no_rows}
 use Rattle.thes_sql.specs.Does.{IsEmpty}
 use Rattle.thes_sql.specs.Schema.{schema_0}
 use Rattle.thes_sql.specs.Stored.{Keeps}

@@ -4,8 +4,8 @@ use Rattle.thes_base.specs.State.{empty_state}
 use Rattle.thes_base.specs.declared.fault.Fault.{Fault}
 use Rattle.thes_base.specs.declared.fault.Fault.TheVariants.{OutOfMemory}
 use Rattle.thes_base.specs.declared.fault.PipeFault.TheVariants as pipe
-use Rattle.thes_rows.specs.Cells.{Raw, listed}
-use Rattle.thes_rows.specs.Tables.{Tables, no_rows}
+use Rattle.thes_tables.specs.Cells.{Raw, listed}
+use Rattle.thes_tables.specs.Tables.{Tables, no_rows}
 use Rattle.thes_office.specs.Office.{Kept}
 use Rattle.thes_office.specs.Shows.{Shows}
 use Rattle.thes_cli.specs.Checking.{no_sizes, sizes_of, ChecksStore}

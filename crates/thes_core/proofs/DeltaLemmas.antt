@@ -18,14 +18,14 @@ use Rattle.thes_base.proofs.LinkSets.{links_total, links_exact, without_node_fro
 use Rattle.thes_base.proofs.ListMembers.{Contains-head, Contains-later, Contains-cons_cases, Contains-none}
 use Rattle.thes_graph.specs.Reading.{IsRow}
 use Rattle.thes_graph.proofs.NormLemmas.{ends_or_not}
-use Rattle.thes_rows.specs.declared.rows.MoveRow.{MoveRow}
-use Rattle.thes_rows.specs.declared.change.Change.{Change}
-use Rattle.thes_rows.specs.declared.change.Change.TheVariants as change
-use Rattle.thes_rows.specs.Changes.{changes_of, changes_made, move_row, drop_link, new_moves}
-use Rattle.thes_rows.specs.Leads.{Leads}
-use Rattle.thes_rows.specs.Tables.{IsIn, Once, Lists}
-use Rattle.thes_rows.proofs.Leading.{leads, leads_deprecated}
-use Rattle.thes_rows.proofs.Sets.{absent_by, turned_by}
+use Rattle.thes_tables.specs.declared.rows.MoveRow.{MoveRow}
+use Rattle.thes_tables.specs.declared.change.Change.{Change}
+use Rattle.thes_tables.specs.declared.change.Change.TheVariants as change
+use Rattle.thes_tables.specs.Changes.{changes_of, changes_made, move_row, drop_link, new_moves}
+use Rattle.thes_tables.specs.Leads.{Leads}
+use Rattle.thes_tables.specs.Tables.{IsIn, Once, Lists}
+use Rattle.thes_tables.proofs.Leading.{leads, leads_deprecated}
+use Rattle.thes_tables.proofs.Sets.{absent_by, turned_by}
 use Rattle.thes_core.specs.declared.thesaurus.Thesaurus.{Thesaurus}
 use Rattle.thes_core.specs.Deltas.{moves_from, placed_at}
 use Rattle.thes_core.specs.declared.facts.Facts.{Facts}

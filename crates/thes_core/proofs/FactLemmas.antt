@@ -11,8 +11,8 @@ use Rattle.thes_base.specs.Refusals.{EachListed, PostingPasses, unless_listed}
 use Rattle.thes_base.proofs.RowLemmas.{passed_unless}
 use Rattle.thes_post.proofs.EachLemmas.{has_of_each}
 use Rattle.thes_post.proofs.SumLemmas.{AllStand}
-use Rattle.thes_rows.specs.declared.rows.PostingRow.{PostingRow}
-use Rattle.thes_rows.specs.Tables.{posting_row}
+use Rattle.thes_tables.specs.declared.rows.PostingRow.{PostingRow}
+use Rattle.thes_tables.specs.Tables.{posting_row}
 use Rattle.thes_core.specs.Facts.{row_at}
 use Rattle.thes_core.specs.Named.{first_of}
 

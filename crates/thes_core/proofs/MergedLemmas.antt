@@ -16,13 +16,13 @@ use Rattle.thes_base.proofs.LinkSets.{links_total, links_exact}
 use Rattle.thes_graph.specs.Reading.{IsRow}
 use Rattle.thes_post.proofs.SumLemmas.{all_stand}
 use Rattle.thes_vocab.specs.LabelData.{AreLabelsOf}
-use Rattle.thes_rows.specs.declared.change.Change.{Change}
-use Rattle.thes_rows.specs.declared.change.Change.TheVariants as change
-use Rattle.thes_rows.specs.Changes.{add_link, drop_link, new_moves}
-use Rattle.thes_rows.specs.Leads.{Leads}
-use Rattle.thes_rows.specs.Tables.{IsIn, Lists}
-use Rattle.thes_rows.proofs.Leading.{leads_merged}
-use Rattle.thes_rows.proofs.Sets.{absent_by, turned_by}
+use Rattle.thes_tables.specs.declared.change.Change.{Change}
+use Rattle.thes_tables.specs.declared.change.Change.TheVariants as change
+use Rattle.thes_tables.specs.Changes.{add_link, drop_link, new_moves}
+use Rattle.thes_tables.specs.Leads.{Leads}
+use Rattle.thes_tables.specs.Tables.{IsIn, Lists}
+use Rattle.thes_tables.proofs.Leading.{leads_merged}
+use Rattle.thes_tables.proofs.Sets.{absent_by, turned_by}
 use Rattle.thes_core.specs.declared.thesaurus.Thesaurus.{Thesaurus}
 use Rattle.thes_core.specs.Deltas.{joined_link, moves_from, taken_rows}
 use Rattle.thes_core.specs.Facts.{standing_numbers}

@@ -11,8 +11,8 @@ use Rattle.thes_base.proofs.LinkLemmas.{sent_never, sent_other, sent_stays}
 use Rattle.thes_graph.specs.Net.{Net, is_marked}
 use Rattle.thes_graph.specs.Reading.{IsRow}
 use Rattle.thes_graph.proofs.NormLemmas.{norm_ends, ends_or_not}
-use Rattle.thes_rows.specs.Tables.{IsIn, Lists}
-use Rattle.thes_rows.proofs.Sets.{clash, absent, lists_same}
+use Rattle.thes_tables.specs.Tables.{IsIn, Lists}
+use Rattle.thes_tables.proofs.Sets.{clash, absent, lists_same}
 use Rattle.thes_core.specs.Deltas.{joined_link}
 use Rattle.thes_core.proofs.DeltaLemmas.{contains_in, in_contains, once_apart}
 

@@ -17,10 +17,10 @@ use Rattle.thes_post.specs.Rising.{RisesFrom}
 use Rattle.thes_post.proofs.EachLemmas.{has_of_each}
 use Rattle.thes_post.proofs.OnceLemmas.{has, has_below, rises_sorted}
 use Rattle.thes_post.proofs.SumLemmas.{AllStand, stands_parts}
-use Rattle.thes_rows.specs.declared.rows.MoveRow.{MoveRow}
-use Rattle.thes_rows.specs.declared.change.Change.{Change}
-use Rattle.thes_rows.specs.declared.change.Change.TheVariants as change
-use Rattle.thes_rows.specs.Changes.{new_moves}
+use Rattle.thes_tables.specs.declared.rows.MoveRow.{MoveRow}
+use Rattle.thes_tables.specs.declared.change.Change.{Change}
+use Rattle.thes_tables.specs.declared.change.Change.TheVariants as change
+use Rattle.thes_tables.specs.Changes.{new_moves}
 use Rattle.thes_core.specs.Deltas.{moves_from, placed_at}
 
 -- Rising lists of the same numbers are one.

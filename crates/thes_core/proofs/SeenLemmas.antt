@@ -11,8 +11,8 @@ use Rattle.std.proofs.lemmas.Option.{same_Some}
 use Rattle.thes_base.specs.declared.data.Link.{Link}
 use Rattle.thes_base.specs.Links.{link_cmp}
 use Rattle.thes_base.proofs.LinkSets.{links_total, links_exact}
-use Rattle.thes_rows.specs.Tables.{IsIn, Lists}
-use Rattle.thes_rows.proofs.Sets.{clash, in_append, append_left, append_right, lists_push, tied}
+use Rattle.thes_tables.specs.Tables.{IsIn, Lists}
+use Rattle.thes_tables.proofs.Sets.{clash, in_append, append_left, append_right, lists_push, tied}
 use Rattle.thes_graph.proofs.LinkOrderLemmas.{computed, computed_is}
 
 pub was_new : (seen : BTreeSet Link) (new : Link) → contains computed seen new ≡ false → contains link_cmp seen new ≡ false

@@ -18,8 +18,8 @@ use Rattle.thes_base.proofs.MergedLabels.{name_of, takes_labels, name_taken}
 use Rattle.thes_vocab.specs.LabelData.{AreLabelsOf, data_cmp, own_label}
 use Rattle.thes_vocab.specs.Taken.{takes, taken}
 use Rattle.thes_vocab.proofs.OwnLemmas.{data_exact, data_total}
-use Rattle.thes_rows.specs.Tables.{IsIn, Once, Lists}
-use Rattle.thes_rows.proofs.Sets.{Absent, inserted, absent_by, turned_by, clash, any_in, in_any, in_filter, filter_in, in_map, map_in, once_map}
+use Rattle.thes_tables.specs.Tables.{IsIn, Once, Lists}
+use Rattle.thes_tables.proofs.Sets.{Absent, inserted, absent_by, turned_by, clash, any_in, in_any, in_filter, filter_in, in_map, map_in, once_map}
 use Rattle.thes_core.specs.Deltas.{taken_rows}
 
 -- Labels in order stand once.

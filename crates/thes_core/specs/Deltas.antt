@@ -8,9 +8,9 @@ use Rattle.thes_base.specs.Links.{norm, sent, sent_link}
 use Rattle.thes_base.specs.Machine.{owned}
 use Rattle.thes_graph.specs.Net.{Net, is_marked}
 use Rattle.thes_vocab.specs.Taken.{takes, taken}
-use Rattle.thes_rows.specs.declared.rows.MoveRow.{MoveRow}
-use Rattle.thes_rows.specs.declared.change.Change.{Change}
-use Rattle.thes_rows.specs.declared.change.Change.TheVariants as change
+use Rattle.thes_tables.specs.declared.rows.MoveRow.{MoveRow}
+use Rattle.thes_tables.specs.declared.change.Change.{Change}
+use Rattle.thes_tables.specs.declared.change.Change.TheVariants as change
 
 -- one move from the source to the target for each posting, numbered from this number on
 abbrev pub moves_from : ℕ → ℕ → ℕ → List ℕ → List MoveRow

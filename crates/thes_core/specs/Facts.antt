@@ -6,8 +6,8 @@ use Rattle.thes_base.specs.declared.request.Command.TheVariants as request
 use Rattle.thes_base.specs.Resources.{numbered}
 use Rattle.thes_base.specs.Postings.{stands_at}
 use Rattle.thes_base.specs.Refusals.{IsOfKey}
-use Rattle.thes_rows.specs.declared.rows.PostingRow.{PostingRow}
-use Rattle.thes_rows.specs.Tables.{posting_row}
+use Rattle.thes_tables.specs.declared.rows.PostingRow.{PostingRow}
+use Rattle.thes_tables.specs.Tables.{posting_row}
 use Rattle.thes_core.specs.declared.facts.Facts.{Facts}
 
 -- the row of the posting with this number, if there is one

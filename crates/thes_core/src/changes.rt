@@ -9,9 +9,9 @@ ghost use Rattle.thes_base.specs.Machine.{next_state, link};
 ghost use Rattle.thes_base.specs.Resources.{is_outside};
 ghost use Rattle.thes_core.specs.Requests.{AreMeant, MayChange};
 ghost use Rattle.thes_core.specs.View.{IsKept, state_of};
-ghost use Rattle.thes_rows.specs.Changes.{add_link, drop_link, changes_made, changes_of, changes_relabelled};
-ghost use Rattle.thes_rows.specs.Leads.{Leads};
-ghost use Rattle.thes_rows.specs.Tables.{hier_type};
+ghost use Rattle.thes_tables.specs.Changes.{add_link, drop_link, changes_made, changes_of, changes_relabelled};
+ghost use Rattle.thes_tables.specs.Leads.{Leads};
+ghost use Rattle.thes_tables.specs.Tables.{hier_type};
 
 mod answers;
 mod links;
@@ -25,9 +25,9 @@ use thes_base::number::ResNo;
 use thes_base::request::Command;
 use thes_base::text::{Iri, Tag, Text};
 use thes_graph::judge::in_order;
-use thes_rows::change::Change;
-use thes_rows::delta::Delta;
-use thes_rows::rows::{HierRow, HierType, LabelRow};
+use thes_tables::change::Change;
+use thes_tables::delta::Delta;
+use thes_tables::rows::{HierRow, HierType, LabelRow};
 
 // A delta of one change.
 fn one(alloc: Global, change: Change) -> Result<Delta, AllocError>

@@ -5,7 +5,7 @@ ghost use Rattle.thes_core.specs.Named.{first_of};
 
 use std::alloc::Global;
 use thes_base::number::PostNo;
-use thes_rows::rows::PostingRow;
+use thes_tables::rows::PostingRow;
 
 /// Facts that a request has to be told of postings before it can be decided.
 #[derive(Debug, Drop)]

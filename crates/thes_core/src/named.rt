@@ -10,7 +10,7 @@ use std::alloc::{AllocError, Global};
 use thes_base::fault::Refusal;
 use thes_base::number::{PostNo, ResNo};
 use thes_post::rising::is_each_once;
-use thes_rows::rows::PostingRow;
+use thes_tables::rows::PostingRow;
 
 /// Counts postings that a request names. What passes 32 bits is counted as the greatest number.
 pub fn count_named(postings: &[PostNo]) -> u32

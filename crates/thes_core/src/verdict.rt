@@ -1,6 +1,6 @@
 //! What a core decides of a request.
 use thes_base::request::Answer;
-use thes_rows::delta::Delta;
+use thes_tables::delta::Delta;
 
 /// A core's decision on a request, before anything changes.
 #[derive(Debug, Drop)]

@@ -1,10 +1,10 @@
 //! How a file stores a display, and how it is made.
 use std::alloc::{AllocError, Global};
 use std::io;
+use test_office::ways::display_in;
+use test_office::{Store, invalid, store_after};
 use thes_base::number::ResNo;
 use thes_base::text::Tag;
-use thes_desks::ways::display_in;
-use thes_desks::{Store, invalid, store_after};
 use thes_display::shown::Shown;
 use thes_http::service::Display;
 

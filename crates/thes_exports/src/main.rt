@@ -5,9 +5,9 @@
 use std::alloc::Global;
 use std::rt::HostRuntime;
 use std::{env, fs, io};
+use test_office::ways::export_in;
+use test_office::{Store, invalid, store_after};
 use thes_base::number::ResNo;
-use thes_desks::ways::export_in;
-use thes_desks::{Store, invalid, store_after};
 
 // Writes the export of a store so many times.
 fn write_exports(rt: &HostRuntime, alloc: Global, store: &mut Store, count: u32) -> io::Result<()> {

@@ -5,12 +5,12 @@ use Rattle.std.specs.Io.KnownBytes.{Consumes}
 use Rattle.httparse.specs.Grammar.{RequestHead, print_request}
 use Rattle.std.proofs.KnownBytes.{Consumes-trans}
 use Rattle.thes_base.specs.declared.fault.Fault.TheVariants.{OutOfMemory}
-use Rattle.thes_head.specs.declared.problem.Problem.{Problem}
-use Rattle.thes_head.specs.declared.problem.Problem.TheVariants.{BadHead}
+use Rattle.thes_http_request.specs.declared.problem.Problem.{Problem}
+use Rattle.thes_http_request.specs.declared.problem.Problem.TheVariants.{BadHead}
 use Rattle.thes_http.specs.declared.response.Response.{Response}
-use Rattle.thes_head.specs.Heads.{head_limit, HasHead, IsBadHead}
-use Rattle.thes_head.specs.Inbox.{Takes, ReadsBody, CutsBody, Asks}
-use Rattle.thes_head.specs.Wants.{Wants}
+use Rattle.thes_http_request.specs.Heads.{head_limit, HasHead, IsBadHead}
+use Rattle.thes_http_request.specs.Inbox.{Takes, ReadsBody, CutsBody, Asks}
+use Rattle.thes_http_request.specs.Wants.{Wants}
 use Rattle.thes_http.specs.Responses.{problem_response, fault_response}
 use Rattle.thes_http.specs.Serving.{Doing, DoesOrFails}
 use Rattle.thes_http.specs.Connection.{IsAnswer, IsCutOff}

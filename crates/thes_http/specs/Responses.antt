@@ -12,8 +12,8 @@ use Rattle.thes_exchange.specs.declared.answer.Reply.TheVariants as reply
 use Rattle.thes_exchange.specs.declared.desk.Viewed.{Viewed}
 use Rattle.thes_exchange.specs.declared.desk.Viewed.TheVariants as view
 use Rattle.thes_exchange.specs.AnswerTexts.{reply_text}
-use Rattle.thes_head.specs.declared.problem.Problem.{Problem}
-use Rattle.thes_head.specs.declared.problem.Problem.TheVariants.{BadHead, TransferCoding, NoSuchPath, BadMethod, NoLength, TooLong, BadQuery}
+use Rattle.thes_http_request.specs.declared.problem.Problem.{Problem}
+use Rattle.thes_http_request.specs.declared.problem.Problem.TheVariants.{BadHead, TransferCoding, NoSuchPath, BadMethod, NoLength, TooLong, BadQuery}
 use Rattle.thes_http.specs.declared.response.Status.{Status}
 use Rattle.thes_http.specs.declared.response.Status.TheVariants as status
 use Rattle.thes_http.specs.declared.response.Media.{Media}
@@ -26,7 +26,7 @@ use Rattle.thes_http.specs.declared.service.Imported.TheVariants as imported
 use Rattle.thes_http.specs.declared.service.Displayed.{Displayed}
 use Rattle.thes_http.specs.declared.service.Displayed.TheVariants as displayed
 use Rattle.http.specs.StatusCode.{code_digits, reason_phrase}
-use Rattle.thes_head.specs.Places.{verb_text}
+use Rattle.thes_http_request.specs.Places.{verb_text}
 use Rattle.thes_base.specs.declared.fault.FormFault.TheVariants.{BadShape}
 
 -- Words on the wire.

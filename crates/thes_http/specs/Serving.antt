@@ -16,18 +16,18 @@ use Rattle.thes_exchange.specs.declared.desk.Viewed.{Viewed}
 use Rattle.thes_exchange.specs.declared.request.Query.{Query}
 use Rattle.thes_exchange.specs.declared.request.Query.TheVariants as asks
 use Rattle.thes_exchange.specs.declared.request.Request.TheVariants.{Do, Get}
-use Rattle.thes_head.specs.declared.place.Place.{Place}
-use Rattle.thes_head.specs.declared.place.Place.TheVariants as place
-use Rattle.thes_head.specs.declared.problem.Problem.{Problem}
-use Rattle.thes_head.specs.declared.problem.Problem.TheVariants.{BadHead, BadQuery}
+use Rattle.thes_http_request.specs.declared.place.Place.{Place}
+use Rattle.thes_http_request.specs.declared.place.Place.TheVariants as place
+use Rattle.thes_http_request.specs.declared.problem.Problem.{Problem}
+use Rattle.thes_http_request.specs.declared.problem.Problem.TheVariants.{BadHead, BadQuery}
 use Rattle.thes_http.specs.declared.response.Response.{Response}
 use Rattle.thes_http.specs.declared.service.Imported.{Imported}
 use Rattle.thes_http.specs.declared.service.Display.{Display}
 use Rattle.thes_http.specs.declared.service.Display.TheVariants as display
 use Rattle.thes_http.specs.declared.service.Displayed.{Displayed}
-use Rattle.thes_head.specs.Heads.{parts_of, HasHead, IsCutHead, IsBadHead}
-use Rattle.thes_head.specs.Wants.{Wants, wants_of}
-use Rattle.thes_head.specs.Queries.{Asked, asked_of}
+use Rattle.thes_http_request.specs.Heads.{parts_of, HasHead, IsCutHead, IsBadHead}
+use Rattle.thes_http_request.specs.Wants.{Wants, wants_of}
+use Rattle.thes_http_request.specs.Queries.{Asked, asked_of}
 use Rattle.thes_http.specs.Responses.{problem_response, form_response, fault_response, performed_response, viewed_response, imported_response, exported_response, displayed_response}
 
 abbrev pub Importing : Type 0 → Type 1

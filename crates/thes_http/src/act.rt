@@ -1,7 +1,7 @@
 //! What a request does.
 ghost use Rattle.std.specs.Prelude.{◌≡◌, if◌then◌else◌, true};
 ghost use Rattle.thes_http.specs.Serving.{doing, Performs, Shows, ShowsNumber, DisplaysIn, DisplaysAsked, OrFails, DoesOrFails};
-ghost use Rattle.thes_head.specs.Queries.{asked_of};
+ghost use Rattle.thes_http_request.specs.Queries.{asked_of};
 
 use crate::response::Response;
 use crate::service::{Display, Service};
@@ -10,10 +10,10 @@ use thes_base::fault::{Fault, FormFault, ReadStop};
 use thes_base::number::{PostNo, ResNo};
 use thes_base::text::Tag;
 use thes_exchange::request::{Memory, Query, Request, read_request};
-use thes_head::place::Place;
-use thes_head::problem::Problem;
-use thes_head::query::read_query;
-use thes_head::want::Want;
+use thes_http_request::place::Place;
+use thes_http_request::problem::Problem;
+use thes_http_request::query::read_query;
+use thes_http_request::want::Want;
 
 /// Does what a request asks for.
 pub fn act<S: Service>(alloc: Global, service: &mut S, want: Want<'_>, body: &[u8]) -> Response

@@ -13,8 +13,8 @@ use thes_base::pipe::{Budget, Pipe, Stop};
 use thes_base::request::Answer;
 use thes_exchange::answer::{Reply, reply_line};
 use thes_exchange::desk::{ViewLine, Viewed};
-use thes_head::place::Verb;
-use thes_head::problem::Problem;
+use thes_http_request::place::Verb;
+use thes_http_request::problem::Problem;
 
 /// The status of an answer.
 #[derive(Clone, Copy, Debug, PartialEq, Eq)]

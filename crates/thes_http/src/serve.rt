@@ -3,7 +3,7 @@ ghost use Rattle.std.specs.Prelude.{◌≡◌, ◌≤◌, ◌⊎◌, true, ℕ, 
 ghost use Rattle.std.specs.Io.KnownBytes.{Consumes, IsAtEnd};
 ghost use Rattle.thes_base.specs.Pipe.{failed_of, ended_of, denied_of, IsFresh, PaysCalls, KeepsToLimit, unread, written};
 ghost use Rattle.thes_exchange.specs.Script.{scene};
-ghost use Rattle.thes_head.specs.Inbox.{HasStopped};
+ghost use Rattle.thes_http_request.specs.Inbox.{HasStopped};
 ghost use Rattle.thes_http.specs.Connection.{IsAnswer, IsCutOff, IsServed, IsServedInPart, IsUntouched};
 ghost use Rattle.thes_http.specs.Serving.{doing};
 
@@ -15,10 +15,10 @@ use std::alloc::Global;
 use std::io::{Read, Write};
 use thes_base::fault::Fault;
 use thes_base::pipe::{Budget, Pipe};
-use thes_head::body::{BodyStop, read_body};
-use thes_head::inbox::{Gone, HeadStop, Inbox};
-use thes_head::problem::Problem;
-use thes_head::want::want_in;
+use thes_http_request::body::{BodyStop, read_body};
+use thes_http_request::inbox::{Gone, HeadStop, Inbox};
+use thes_http_request::problem::Problem;
+use thes_http_request::want::want_in;
 
 /// The end of a connection.
 #[derive(Clone, Copy, Debug, PartialEq, Eq)]

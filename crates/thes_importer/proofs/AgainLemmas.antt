@@ -23,7 +23,7 @@ use Rattle.thes_base.proofs.NumberedLemmas.{push_new}
 use Rattle.thes_base.proofs.RowLemmas.{passed_unless}
 use Rattle.thes_import.specs.declared.row.Row.{Row}
 use Rattle.thes_import.specs.declared.row.Row.TheVariants as row
-use Rattle.thes_rows.specs.Cells.{Raw}
+use Rattle.thes_tables.specs.Cells.{Raw}
 use Rattle.thes_office.specs.Office.{ChangesNothing, setting as setting_of}
 use Rattle.thes_office.proofs.ShowLemmas.{shows_one}
 use Rattle.thes_importer.specs.Imports.{PerformsRows}

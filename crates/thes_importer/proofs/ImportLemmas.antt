@@ -12,7 +12,7 @@ use Rattle.thes_base.specs.declared.request.Command.{Command}
 use Rattle.thes_base.specs.declared.request.Command.TheVariants as request
 use Rattle.thes_base.specs.State.{State}
 use Rattle.thes_base.specs.Headline.{IsInOrder}
-use Rattle.thes_rows.specs.Cells.{Raw}
+use Rattle.thes_tables.specs.Cells.{Raw}
 use Rattle.thes_import.specs.declared.row.Row.{Row}
 use Rattle.thes_import.specs.declared.row.Row.TheVariants as row
 use Rattle.thes_office.specs.Office.{ChangesNothing, Goes, GoesOn, Kept, Steps}

@@ -10,7 +10,7 @@ use Rattle.thes_base.specs.Legal.{Legal}
 use Rattle.thes_base.specs.Machine.{Run, Step}
 use Rattle.thes_base.specs.Refusals.{Setting}
 use Rattle.thes_base.specs.State.{State}
-use Rattle.thes_rows.specs.Cells.{Raw}
+use Rattle.thes_tables.specs.Cells.{Raw}
 use Rattle.thes_import.specs.declared.row.Row.{Row}
 use Rattle.thes_office.specs.Office.{ChangesNothing}
 use Rattle.thes_importer.specs.Imports.{PerformsRows}

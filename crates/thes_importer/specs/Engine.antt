@@ -5,7 +5,7 @@ use Rattle.thes_base.specs.Pipe.{AppendsFront, denied_of, failed_of, written}
 use Rattle.thes_base.specs.declared.fault.PipeFault.{PipeFault}
 use Rattle.thes_base.specs.declared.fault.PipeFault.TheVariants.{Write, TooLong, Fault}
 use Rattle.thes_base.specs.declared.pipe.Pipe.{Pipe}
-use Rattle.thes_rows.specs.Cells.{Raw}
+use Rattle.thes_tables.specs.Cells.{Raw}
 use Rattle.thes_office.specs.Office.{Goes, Kept}
 use Rattle.thes_importer.specs.Imports.{Imports, fault_in}
 use Rattle.thes_importer.specs.Outcomes.{no_counts}

@@ -5,7 +5,7 @@ use Rattle.thes_base.specs.declared.data.Limits.{Limits}
 use Rattle.thes_base.specs.declared.fault.Fault.{Fault}
 use Rattle.thes_base.specs.declared.fault.Fault.TheVariants as faults
 use Rattle.thes_base.specs.declared.request.Command.TheVariants as request
-use Rattle.thes_rows.specs.Cells.{Raw}
+use Rattle.thes_tables.specs.Cells.{Raw}
 use Rattle.thes_import.specs.PostingFile.{HasNoHeader, IsPostingFile}
 use Rattle.thes_import.specs.declared.row.Row.{Row}
 use Rattle.thes_import.specs.declared.row.Row.TheVariants as row

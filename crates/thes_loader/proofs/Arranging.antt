@@ -4,15 +4,15 @@ use Rattle.std.proofs.lemmas.List.Sorted.{IsPermutation-refl, IsPermutation-sym,
 use Rattle.std.specs.Prelude.{None, Some, Ok, Err}
 use Rattle.thes_base.specs.declared.fault.Fault.{Fault}
 use Rattle.thes_base.specs.State.{State}
-use Rattle.thes_rows.specs.declared.cells.Cell.{Cell}
-use Rattle.thes_rows.specs.Tables.{Tables}
-use Rattle.thes_rows.specs.Cells.{Raw, RawTable, listed}
-use Rattle.thes_tables.specs.Rules.{state_of}
-use Rattle.thes_tables.specs.Loads.{Loads}
-use Rattle.thes_tables.proofs.Holding.{held_loads}
-use Rattle.thes_tables.proofs.Opening.{IsOpen, open_of}
-use Rattle.thes_tables.proofs.Single.{loads_single}
-use Rattle.thes_tables.proofs.Telling.{told_legal}
+use Rattle.thes_tables.specs.declared.cells.Cell.{Cell}
+use Rattle.thes_tables.specs.Tables.{Tables}
+use Rattle.thes_tables.specs.Cells.{Raw, RawTable, listed}
+use Rattle.thes_load_rules.specs.Rules.{state_of}
+use Rattle.thes_load_rules.specs.Loads.{Loads}
+use Rattle.thes_load_rules.proofs.Holding.{held_loads}
+use Rattle.thes_load_rules.proofs.Opening.{IsOpen, open_of}
+use Rattle.thes_load_rules.proofs.Single.{loads_single}
+use Rattle.thes_load_rules.proofs.Telling.{told_legal}
 use Rattle.thes_core.specs.Kept.{Kept, Holds}
 use Rattle.thes_loader.specs.Sorted.{first_number, IsSorted, AreSorted}
 use Rattle.thes_loader.specs.Loaded.{IsLoaded}

@@ -5,11 +5,11 @@ use Rattle.thes_base.specs.declared.data.Limits.{Limits}
 use Rattle.thes_base.specs.declared.fault.Fault.{Fault}
 use Rattle.thes_base.specs.declared.fault.Table.{Table}
 use Rattle.thes_base.specs.declared.fault.Table.TheVariants as table
-use Rattle.thes_rows.specs.Cells.{Raw}
+use Rattle.thes_tables.specs.Cells.{Raw}
 use Rattle.thes_store.specs.Handing.{handed_of}
 use Rattle.thes_store.specs.Handing as hands
 use Rattle.thes_store.proofs.Handed.{takes_then}
-use Rattle.thes_load.specs.Progress.{table_no, no_rows}
+use Rattle.thes_load_rows.specs.Progress.{table_no, no_rows}
 use Rattle.thes_loader.specs.declared.loader.Loader.{Loader}
 use Rattle.thes_loader.specs.Feeding.{IsBegun, KnowsRows, Feeds, IsInTurn}
 use Rattle.thes_loader.specs.Handed.{ReadsHanded}

@@ -4,19 +4,19 @@ use Rattle.std.specs.Prelude.{Ok}
 use Rattle.thes_base.specs.Legal.{Legal}
 use Rattle.thes_base.specs.State.{State}
 use Rattle.thes_post.specs.Sums.{AreSums}
-use Rattle.thes_rows.specs.Cells.{Raw}
-use Rattle.thes_rows.specs.Tables.{Tables}
+use Rattle.thes_tables.specs.Cells.{Raw}
+use Rattle.thes_tables.specs.Tables.{Tables}
 use Rattle.thes_vocab.specs.Vocabulary.{Vocabulary}
-use Rattle.thes_tables.specs.Loads.{Loads}
-use Rattle.thes_tables.specs.Rules.{state_of}
-use Rattle.thes_tables.proofs.Telling.{told_legal}
+use Rattle.thes_load_rules.specs.Loads.{Loads}
+use Rattle.thes_load_rules.specs.Rules.{state_of}
+use Rattle.thes_load_rules.proofs.Telling.{told_legal}
 use Rattle.thes_core.specs.Kept.{Kept, Holds}
 use Rattle.thes_core.specs.Parts.{ArePartsOf}
-use Rattle.thes_load.specs.declared.handed.LoadedParts.{LoadedParts}
-use Rattle.thes_load.specs.declared.stage.Stage.{Stage}
-use Rattle.thes_load.specs.Progress.{HasRead, HasNames, is_stopped}
-use Rattle.thes_load.specs.Linking.{HasLinks}
-use Rattle.thes_load.specs.Ending.{Ends}
+use Rattle.thes_load_rows.specs.declared.handed.LoadedParts.{LoadedParts}
+use Rattle.thes_load_rows.specs.declared.stage.Stage.{Stage}
+use Rattle.thes_load_rows.specs.Progress.{HasRead, HasNames, is_stopped}
+use Rattle.thes_load_rows.specs.Linking.{HasLinks}
+use Rattle.thes_load_rows.specs.Ending.{Ends}
 use Rattle.thes_loader.specs.Reading.{IsOfRows}
 use Rattle.thes_loader.specs.Loaded.{IsLoaded}
 

@@ -13,8 +13,8 @@ use Rattle.std.specs.Cmp.{IsTotalOrder, tied_itself, Equal-is}
 use Rattle.std.specs.FinMap.{IsAntisymmetric}
 use Rattle.std.specs.FinSet as set
 use Rattle.thes_base.proofs.SetMembers.{same_members}
-use Rattle.thes_rows.specs.Tables.{IsIn, Once}
-use Rattle.thes_tables.proofs.Lists.{row_of, in_set}
+use Rattle.thes_tables.specs.Tables.{IsIn, Once}
+use Rattle.thes_load_rules.proofs.Lists.{row_of, in_set}
 use Rattle.thes_core.proofs.DeltaLemmas.{contains_in, in_contains}
 
 -- Elements.

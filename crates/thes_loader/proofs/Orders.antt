@@ -14,15 +14,15 @@ use Rattle.thes_base.specs.Labels.{Label}
 use Rattle.thes_base.specs.Legal.{LegalLabels, LegalLinks}
 use Rattle.thes_base.proofs.LabelSets.{labels_total, labels_exact}
 use Rattle.thes_base.proofs.LinkSets.{links_total, links_exact}
-use Rattle.thes_rows.specs.declared.cells.Cell.{Cell}
-use Rattle.thes_rows.specs.declared.rows.HierRow.{HierRow}
-use Rattle.thes_rows.specs.declared.rows.PostingRow.{PostingRow}
-use Rattle.thes_rows.specs.declared.rows.MoveRow.{MoveRow}
-use Rattle.thes_rows.specs.Tables.{Tables, Ascends, hier_link}
-use Rattle.thes_rows.specs.Cells.{Raw, RawTable, resource_rows, outside_cells, label_cells, link_cells, hier_cells, posting_cells, move_cells}
-use Rattle.thes_tables.specs.Rules.{state_of, links_of, AreInOrder, ResourceRule, OutsideRule, LabelRule, LinkRule, HierRule, PostingRule, MoveRule}
-use Rattle.thes_tables.specs.Loads.{Verdict, Loads, IsTable, IsMeta, HasVersion, IsNewer, IsOlder, stopped_if, faulty_unless, tables_of}
-use Rattle.thes_tables.proofs.LinkTables.{hier_link_one}
+use Rattle.thes_tables.specs.declared.cells.Cell.{Cell}
+use Rattle.thes_tables.specs.declared.rows.HierRow.{HierRow}
+use Rattle.thes_tables.specs.declared.rows.PostingRow.{PostingRow}
+use Rattle.thes_tables.specs.declared.rows.MoveRow.{MoveRow}
+use Rattle.thes_tables.specs.Tables.{Tables, Ascends, hier_link}
+use Rattle.thes_tables.specs.Cells.{Raw, RawTable, resource_rows, outside_cells, label_cells, link_cells, hier_cells, posting_cells, move_cells}
+use Rattle.thes_load_rules.specs.Rules.{state_of, links_of, AreInOrder, ResourceRule, OutsideRule, LabelRule, LinkRule, HierRule, PostingRule, MoveRule}
+use Rattle.thes_load_rules.specs.Loads.{Verdict, Loads, IsTable, IsMeta, HasVersion, IsNewer, IsOlder, stopped_if, faulty_unless, tables_of}
+use Rattle.thes_load_rules.proofs.LinkTables.{hier_link_one}
 use Rattle.thes_loader.specs.Sorted.{first_number}
 use Rattle.thes_loader.specs.Arranged.{IsArranged}
 use Rattle.thes_loader.proofs.Members.{in_back, map_permuted, once_permuted, set_permuted}

@@ -6,8 +6,8 @@ use Rattle.std.proofs.lemmas.List.Sorted.{sum_by-IsPermutation}
 use Rattle.std.specs.Prelude.{sum_by, Some}
 use Rattle.std.specs.List.Sorted.{IsPermutation, IsNonDecreasingBy}
 use Rattle.thes_base.specs.Resources.{numbered}
-use Rattle.thes_rows.specs.Tables.{IsIn}
-use Rattle.thes_tables.proofs.Lists.{numbered_later}
+use Rattle.thes_tables.specs.Tables.{IsIn}
+use Rattle.thes_load_rules.proofs.Lists.{numbered_later}
 use Rattle.thes_loader.proofs.Members.{in_back}
 
 module _ {A : Type 0} (n : A → ℕ) where

@@ -4,11 +4,11 @@ use Rattle.std.specs.Prelude.{None, Some}
 use Rattle.std.proofs.lemmas.List.{append-nil}
 use Rattle.thes_base.specs.declared.fault.Table.{Table}
 use Rattle.thes_base.specs.declared.fault.Table.TheVariants as table
-use Rattle.thes_rows.specs.declared.cells.Cell.{Cell}
-use Rattle.thes_rows.specs.Cells.{Raw, RawTable}
+use Rattle.thes_tables.specs.declared.cells.Cell.{Cell}
+use Rattle.thes_tables.specs.Cells.{Raw, RawTable}
 use Rattle.thes_store.specs.Handing.{handed_of}
 use Rattle.thes_store.specs.Handing as hands
-use Rattle.thes_load.specs.Progress.{table_no, pushed, unqueried}
+use Rattle.thes_load_rows.specs.Progress.{table_no, pushed, unqueried}
 use Rattle.thes_loader.specs.declared.loader.Loader.{Loader}
 use Rattle.thes_loader.specs.Feeding.{KnowsRows, Feeds, IsInTurn}
 

@@ -3,15 +3,15 @@ use Rattle.std.proofs.Common.{◌≡◌, ◌↔◌, ◌<◌, ◌≤◌, ◌+◌,
 use Rattle.std.specs.Prelude.{Option, None, Some, IsTrue}
 use Rattle.thes_base.specs.declared.fault.Fault.{Fault}
 use Rattle.thes_base.specs.declared.fault.Table.{Table}
-use Rattle.thes_rows.specs.declared.cells.Cell.{Cell}
-use Rattle.thes_rows.specs.Cells.{Raw}
-use Rattle.thes_load.specs.declared.stage.Stage.{Stage}
-use Rattle.thes_load.specs.declared.stage.Stage.TheVariants as stage
-use Rattle.thes_load.specs.Progress.{is_stopped, table_no, next_table, HasRead}
-use Rattle.thes_load.proofs.CloseSteps.{stopped_on}
-use Rattle.thes_load.proofs.RowSteps.{stopped_row}
-use Rattle.thes_load.proofs.TableOrder.{table_same, next_no, last_no}
-use Rattle.thes_load.proofs.UnqueriedSteps.{stopped_lost}
+use Rattle.thes_tables.specs.declared.cells.Cell.{Cell}
+use Rattle.thes_tables.specs.Cells.{Raw}
+use Rattle.thes_load_rows.specs.declared.stage.Stage.{Stage}
+use Rattle.thes_load_rows.specs.declared.stage.Stage.TheVariants as stage
+use Rattle.thes_load_rows.specs.Progress.{is_stopped, table_no, next_table, HasRead}
+use Rattle.thes_load_rows.proofs.CloseSteps.{stopped_on}
+use Rattle.thes_load_rows.proofs.RowSteps.{stopped_row}
+use Rattle.thes_load_rows.proofs.TableOrder.{table_same, next_no, last_no}
+use Rattle.thes_load_rows.proofs.UnqueriedSteps.{stopped_lost}
 use Rattle.thes_loader.specs.Reading.{IsOfRows}
 use Rattle.thes_loader.specs.Feeding.{Follows, with_news}
 

@@ -4,10 +4,10 @@ use Rattle.std.specs.List.Sorted.{IsPermutation}
 use Rattle.thes_base.specs.declared.fault.Fault.{Fault}
 use Rattle.thes_base.specs.Legal.{Legal}
 use Rattle.thes_base.specs.State.{State}
-use Rattle.thes_rows.specs.Tables.{Tables, IsRowsOf}
-use Rattle.thes_rows.specs.Cells.{Raw, RawTable, listed}
-use Rattle.thes_tables.specs.Rules.{state_of}
-use Rattle.thes_tables.specs.Loads.{Loads}
+use Rattle.thes_tables.specs.Tables.{Tables, IsRowsOf}
+use Rattle.thes_tables.specs.Cells.{Raw, RawTable, listed}
+use Rattle.thes_load_rules.specs.Rules.{state_of}
+use Rattle.thes_load_rules.specs.Loads.{Loads}
 use Rattle.thes_core.specs.Kept.{Kept, Holds}
 use Rattle.thes_loader.specs.Sorted.{AreSorted}
 

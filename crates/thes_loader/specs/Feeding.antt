@@ -5,11 +5,11 @@ use Rattle.thes_base.specs.declared.fault.Fault.{Fault}
 use Rattle.thes_base.specs.declared.fault.Fault.TheVariants as faults
 use Rattle.thes_base.specs.declared.fault.Table.{Table}
 use Rattle.thes_base.specs.declared.fault.Table.TheVariants as table
-use Rattle.thes_rows.specs.declared.cells.Cell.{Cell}
-use Rattle.thes_rows.specs.Cells.{Raw}
-use Rattle.thes_load.specs.declared.stage.Stage.{Stage}
-use Rattle.thes_load.specs.declared.stage.Stage.TheVariants as stage
-use Rattle.thes_load.specs.Progress.{HasRead, stage_table, table_no, no_rows, pushed, unqueried}
+use Rattle.thes_tables.specs.declared.cells.Cell.{Cell}
+use Rattle.thes_tables.specs.Cells.{Raw}
+use Rattle.thes_load_rows.specs.declared.stage.Stage.{Stage}
+use Rattle.thes_load_rows.specs.declared.stage.Stage.TheVariants as stage
+use Rattle.thes_load_rows.specs.Progress.{HasRead, stage_table, table_no, no_rows, pushed, unqueried}
 use Rattle.thes_loader.specs.declared.loader.Loader.{Loader}
 
 -- what the loader has read are these rows

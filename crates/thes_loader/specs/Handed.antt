@@ -1,7 +1,7 @@
 -- All rows of a store, handed to a loader.
 use Rattle.std.specs.Prelude.{◌≡◌}
 use Rattle.thes_base.specs.declared.data.Limits.{Limits}
-use Rattle.thes_rows.specs.Cells.{Raw}
+use Rattle.thes_tables.specs.Cells.{Raw}
 use Rattle.thes_store.specs.Handing.{Takes, handed}
 use Rattle.thes_loader.specs.declared.loader.Loader.{Loader}
 use Rattle.thes_loader.specs.Feeding.{IsBegun, KnowsRows, Feeds}

@@ -1,9 +1,9 @@
 -- A core that is made of rows.
 use Rattle.std.specs.Prelude.{◌≡◌, Ok}
-use Rattle.thes_rows.specs.Tables.{Tables}
-use Rattle.thes_rows.specs.Cells.{Raw}
-use Rattle.thes_tables.specs.Rules.{state_of}
-use Rattle.thes_tables.specs.Loads.{Loads}
+use Rattle.thes_tables.specs.Tables.{Tables}
+use Rattle.thes_tables.specs.Cells.{Raw}
+use Rattle.thes_load_rules.specs.Rules.{state_of}
+use Rattle.thes_load_rules.specs.Loads.{Loads}
 use Rattle.thes_core.specs.Kept.{Kept, Holds}
 
 -- the rows load, and the core holds the state that they tell

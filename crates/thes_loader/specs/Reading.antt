@@ -1,9 +1,9 @@
 -- What a loader has read.
 use Rattle.std.specs.Prelude.{◌≡◌, false}
 use Rattle.thes_base.specs.declared.data.Limits.{Limits}
-use Rattle.thes_rows.specs.Cells.{Raw}
-use Rattle.thes_load.specs.declared.stage.Stage.{Stage}
-use Rattle.thes_load.specs.Progress.{HasRead, is_stopped}
+use Rattle.thes_tables.specs.Cells.{Raw}
+use Rattle.thes_load_rows.specs.declared.stage.Stage.{Stage}
+use Rattle.thes_load_rows.specs.Progress.{HasRead, is_stopped}
 
 -- where the loader stands with the rows, and the limits of the core that it will make
 pub record Reading : Type 0 where

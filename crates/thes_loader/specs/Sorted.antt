@@ -2,9 +2,9 @@
 use Rattle.std.specs.Prelude.{◌≡◌, ℕ, pos, List, ◌∷◌, Option, None, Some, Vec}
 use Rattle.std.specs.Global.{Global}
 use Rattle.std.specs.List.Sorted.{IsPermutation, IsNonDecreasingBy}
-use Rattle.thes_rows.specs.declared.cells.Cell.{Cell}
-use Rattle.thes_rows.specs.declared.cells.Cell.TheVariants.{Int}
-use Rattle.thes_rows.specs.Cells.{Raw, RawTable}
+use Rattle.thes_tables.specs.declared.cells.Cell.{Cell}
+use Rattle.thes_tables.specs.declared.cells.Cell.TheVariants.{Int}
+use Rattle.thes_tables.specs.Cells.{Raw, RawTable}
 use Rattle.thes_loader.specs.declared.rows.Rows.{Rows}
 
 -- the number of a row of a numbered table

@@ -1,10 +1,10 @@
 //! A core of the rows of a store.
 ghost use Rattle.std.specs.Prelude.{◌≡◌, ◌⊎◌, false, None, Some, Err, IfOk, IfErr, MatchOption};
 ghost use Rattle.thes_base.specs.declared.fault.Fault.TheVariants as faults;
-ghost use Rattle.thes_rows.specs.Cells.{Raw};
-ghost use Rattle.thes_tables.specs.Loads.{Loads};
+ghost use Rattle.thes_tables.specs.Cells.{Raw};
+ghost use Rattle.thes_load_rules.specs.Loads.{Loads};
 ghost use Rattle.thes_loader.specs.Reading.{IsOfRows};
-ghost use Rattle.thes_load.specs.Progress.{is_stopped};
+ghost use Rattle.thes_load_rows.specs.Progress.{is_stopped};
 ghost use Rattle.thes_loader.specs.Feeding.{IsBegun, IsInTurn, KnowsRows, Follows, Feeds};
 ghost use Rattle.thes_loader.specs.Loaded.{IsLoaded};
 
@@ -14,9 +14,9 @@ use std::mem;
 use thes_base::data::Limits;
 use thes_base::fault::{Fault, Table};
 use thes_core::Core;
-use thes_load::stage::Stage;
-use thes_rows::cells::Cell;
+use thes_load_rows::stage::Stage;
 use thes_store::sink::RowSink;
+use thes_tables::cells::Cell;
 
 /// Reads the rows of a store one by one, and makes a core of them. Once all rows have come, no posting and no move is kept.
 /// When memory runs out, what was read is lost. Whatever comes, in any order, a loader has read rows or has stopped.

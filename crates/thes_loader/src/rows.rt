@@ -1,8 +1,8 @@
 //! A core of lists of rows.
 ghost use Rattle.std.specs.Prelude.{◌≡◌, ◌⊎◌, false, IfOk, IfErr, OnOk, Err};
 ghost use Rattle.thes_base.specs.declared.fault.Fault.TheVariants as faults;
-ghost use Rattle.thes_rows.specs.Cells.{Raw};
-ghost use Rattle.thes_tables.specs.Loads.{Loads};
+ghost use Rattle.thes_tables.specs.Cells.{Raw};
+ghost use Rattle.thes_load_rules.specs.Loads.{Loads};
 ghost use Rattle.thes_store.specs.Handing.{Takes, handed_of};
 ghost use Rattle.thes_loader.specs.Feeding.{KnowsRows, Feeds};
 ghost use Rattle.thes_loader.specs.Loaded.{IsLoaded};
@@ -15,9 +15,9 @@ use std::marker::Model;
 use thes_base::data::Limits;
 use thes_base::fault::{Fault, Table};
 use thes_core::Core;
-use thes_rows::cells::Cell;
 use thes_store::handing::{AsCells, hand_rows};
 use thes_store::sink::RowSink;
+use thes_tables::cells::Cell;
 
 /// A row of cells.
 #[derive(Debug, Drop)]
@@ -27,7 +27,7 @@ pub struct Row {
 
 impl Model for Row {
     ghost use Rattle.std.specs.Prelude.{List};
-    ghost use Rattle.thes_rows.specs.declared.cells.Cell.{Cell};
+    ghost use Rattle.thes_tables.specs.declared.cells.Cell.{Cell};
 
     ghost Value = { List Cell };
 

@@ -11,9 +11,9 @@ use Rattle.thes_base.specs.Legal.{Legal}
 use Rattle.thes_base.specs.Postings.{stands_at}
 use Rattle.thes_base.specs.Resources.{numbered}
 use Rattle.thes_base.specs.State.{State}
-use Rattle.thes_rows.specs.declared.rows.PostingRow.{PostingRow}
-use Rattle.thes_rows.specs.Cells.{Raw}
-use Rattle.thes_rows.specs.Tables.{IsIn, posting_row}
+use Rattle.thes_tables.specs.declared.rows.PostingRow.{PostingRow}
+use Rattle.thes_tables.specs.Cells.{Raw}
+use Rattle.thes_tables.specs.Tables.{IsIn, posting_row}
 use Rattle.thes_core.specs.declared.facts.Facts.{Facts}
 use Rattle.thes_core.specs.Facts.{AreFacts, IsRowOfKey, row_at, standing_numbers}
 use Rattle.thes_store.specs.Handing.{Takes}

@@ -12,10 +12,10 @@ use Rattle.thes_base.specs.Machine.{Run, Step}
 use Rattle.thes_base.specs.Refusals.{Setting}
 use Rattle.thes_base.specs.State.{State}
 use Rattle.thes_base.proofs.MachineLemmas.{legal_is_in_order}
-use Rattle.thes_rows.specs.Cells.{Raw}
+use Rattle.thes_tables.specs.Cells.{Raw}
 use Rattle.thes_core.specs.Kept as core
 use Rattle.thes_store.specs.Causes.{HasCause, IsCounted}
-use Rattle.thes_tables.specs.Loads.{Loads}
+use Rattle.thes_load_rules.specs.Loads.{Loads}
 use Rattle.thes_office.specs.Asks.{IsRead}
 use Rattle.thes_office.specs.Office.{AreLimits, Goes, GoesOn, IsConsistent, IsCopy, Kept, Performed, RanAll, RanPart, Readied, Same, Steps, setting}
 use Rattle.thes_office.specs.Shows.{Shows}

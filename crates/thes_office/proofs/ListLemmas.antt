@@ -13,14 +13,14 @@ use Rattle.thes_base.specs.Resources.{numbered, IsConcept}
 use Rattle.thes_base.specs.Rows.{accepted}
 use Rattle.thes_base.specs.State.{State}
 use Rattle.thes_base.specs.Views.{totals_of}
-use Rattle.thes_rows.specs.declared.rows.PostingRow.{PostingRow}
-use Rattle.thes_rows.specs.Cells.{Raw}
-use Rattle.thes_rows.specs.Tables.{moves_of}
+use Rattle.thes_tables.specs.declared.rows.PostingRow.{PostingRow}
+use Rattle.thes_tables.specs.Cells.{Raw}
+use Rattle.thes_tables.specs.Tables.{moves_of}
 use Rattle.thes_core.specs.Kept as core
 use Rattle.thes_store.specs.Handing.{Takes, TakesSome}
 use Rattle.thes_store.specs.Reading.{Told, IsTold, standing_rows}
-use Rattle.thes_tables.specs.Rules as tables
-use Rattle.thes_tables.proofs.Holding.{held_loads}
+use Rattle.thes_load_rules.specs.Rules as tables
+use Rattle.thes_load_rules.proofs.Holding.{held_loads}
 use Rattle.thes_office.specs.Asks.{InShown}
 use Rattle.thes_office.specs.Listing.{JudgesConcept, rows_at}
 use Rattle.thes_office.specs.Office.{IsCopy}

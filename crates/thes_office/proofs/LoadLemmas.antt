@@ -4,11 +4,11 @@ use Rattle.std.specs.Prelude.{Err}
 use Rattle.thes_base.specs.declared.data.Limits.{Limits}
 use Rattle.thes_base.specs.declared.fault.Fault.{Fault}
 use Rattle.thes_base.specs.declared.fault.Fault.TheVariants as faults
-use Rattle.thes_rows.specs.Cells.{Raw}
+use Rattle.thes_tables.specs.Cells.{Raw}
 use Rattle.thes_core.specs.Kept.{Kept}
 use Rattle.thes_loader.specs.Loaded.{IsLoaded}
-use Rattle.thes_tables.specs.Loads.{Loads}
-use Rattle.thes_tables.specs.Rules.{state_of}
+use Rattle.thes_load_rules.specs.Loads.{Loads}
+use Rattle.thes_load_rules.specs.Rules.{state_of}
 use Rattle.thes_office.specs.Office.{IsCopy}
 use Rattle.thes_office.specs.Shows.{Shows}
 use Rattle.thes_office.proofs.ShowLemmas.{loads_shows}

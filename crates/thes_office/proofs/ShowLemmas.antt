@@ -4,17 +4,17 @@ use Rattle.std.specs.Prelude.{Ok, Err}
 use Rattle.thes_base.specs.declared.fault.Fault.{Fault}
 use Rattle.thes_base.specs.State.{State}
 use Rattle.thes_base.specs.Legal.{Legal}
-use Rattle.thes_rows.specs.declared.change.Change.{Change}
-use Rattle.thes_rows.specs.Cells.{Raw, listed}
-use Rattle.thes_rows.specs.Leads.{Leads}
-use Rattle.thes_rows.specs.Rows.{all_changed, FitAll}
-use Rattle.thes_rows.specs.Tables.{Tables, IsRowsOf}
-use Rattle.thes_rows.proofs.Listing.{listed_one}
-use Rattle.thes_tables.specs.Loads.{Loads}
-use Rattle.thes_tables.specs.Rules.{state_of}
-use Rattle.thes_tables.proofs.Holding.{held_loads}
-use Rattle.thes_tables.proofs.Single.{loads_single}
-use Rattle.thes_tables.proofs.Telling.{told_legal}
+use Rattle.thes_tables.specs.declared.change.Change.{Change}
+use Rattle.thes_tables.specs.Cells.{Raw, listed}
+use Rattle.thes_tables.specs.Leads.{Leads}
+use Rattle.thes_tables.specs.Rows.{all_changed, FitAll}
+use Rattle.thes_tables.specs.Tables.{Tables, IsRowsOf}
+use Rattle.thes_tables.proofs.Listing.{listed_one}
+use Rattle.thes_load_rules.specs.Loads.{Loads}
+use Rattle.thes_load_rules.specs.Rules.{state_of}
+use Rattle.thes_load_rules.proofs.Holding.{held_loads}
+use Rattle.thes_load_rules.proofs.Single.{loads_single}
+use Rattle.thes_load_rules.proofs.Telling.{told_legal}
 use Rattle.thes_office.specs.Shows.{Shows}
 
 -- rows that load show the state that they tell

@@ -12,10 +12,10 @@ use Rattle.thes_base.specs.Refusals.{Setting, IsSetting}
 use Rattle.thes_base.specs.State.{State}
 use Rattle.thes_base.specs.Texts.{HasForms}
 use Rattle.thes_base.proofs.Sound.{forms_of_legal}
-use Rattle.thes_rows.specs.declared.change.Change.{Change}
-use Rattle.thes_rows.specs.Cells.{Raw, listed}
-use Rattle.thes_rows.specs.Rows.{all_changed}
-use Rattle.thes_rows.specs.Tables.{Tables}
+use Rattle.thes_tables.specs.declared.change.Change.{Change}
+use Rattle.thes_tables.specs.Cells.{Raw, listed}
+use Rattle.thes_tables.specs.Rows.{all_changed}
+use Rattle.thes_tables.specs.Tables.{Tables}
 use Rattle.thes_core.specs.Decides.{Grants, Makes}
 use Rattle.thes_core.specs.Kept.{Kept}
 use Rattle.thes_core.proofs.NextLemmas.{next_legal, step_of_accepted}

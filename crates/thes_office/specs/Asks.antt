@@ -6,8 +6,8 @@ use Rattle.thes_base.specs.declared.data.History.{History}
 use Rattle.thes_base.specs.declared.request.Command.{Command}
 use Rattle.thes_base.specs.Resources.{numbered}
 use Rattle.thes_base.specs.State.{State}
-use Rattle.thes_rows.specs.Cells.{Raw}
-use Rattle.thes_rows.specs.declared.rows.PostingRow.{PostingRow}
+use Rattle.thes_tables.specs.Cells.{Raw}
+use Rattle.thes_tables.specs.declared.rows.PostingRow.{PostingRow}
 use Rattle.thes_core.specs.Facts.{AreFacts, IsRowOfKey, row_at, standing_numbers}
 use Rattle.thes_core.specs.declared.facts.Facts.{Facts}
 use Rattle.thes_store.specs.Causes.{HasCause, most}

@@ -7,9 +7,9 @@ use Rattle.thes_base.specs.Resources.{IsConcept}
 use Rattle.thes_base.specs.Rows.{accepted}
 use Rattle.thes_base.specs.State.{State}
 use Rattle.thes_base.specs.Views.{standing_histories}
-use Rattle.thes_rows.specs.Cells.{Raw}
-use Rattle.thes_rows.specs.Tables.{posting_row}
-use Rattle.thes_rows.specs.declared.rows.PostingRow.{PostingRow}
+use Rattle.thes_tables.specs.Cells.{Raw}
+use Rattle.thes_tables.specs.Tables.{posting_row}
+use Rattle.thes_tables.specs.declared.rows.PostingRow.{PostingRow}
 use Rattle.thes_store.specs.Handing.{Takes, TakesSome}
 use Rattle.thes_office.specs.Asks.{InShown}
 

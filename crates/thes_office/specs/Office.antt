@@ -11,7 +11,7 @@ use Rattle.thes_base.specs.Headline.{IsInOrder}
 use Rattle.thes_base.specs.Machine.{Step, Run}
 use Rattle.thes_base.specs.Refusals.{Setting}
 use Rattle.thes_base.specs.State.{State}
-use Rattle.thes_rows.specs.Cells.{Raw}
+use Rattle.thes_tables.specs.Cells.{Raw}
 use Rattle.thes_core.specs.Kept as core
 use Rattle.thes_core.specs.Kept.{Holds}
 use Rattle.thes_store.specs.Causes.{most}

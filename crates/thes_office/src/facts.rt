@@ -9,8 +9,8 @@ use thes_base::number::{PostNo, ResNo};
 use thes_base::request::Command;
 use thes_base::text::Key;
 use thes_core::Facts;
-use thes_rows::rows::PostingRow;
 use thes_store::keeper::{Keeper, Posting};
+use thes_tables::rows::PostingRow;
 
 /// Asks a keeper what a request has to be told of postings.
 pub fn facts_of<K: Keeper>(alloc: Global, keeper: &mut K, command: &Command) -> Result<Facts, Fault>

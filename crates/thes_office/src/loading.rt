@@ -1,6 +1,6 @@
 //! A core from the tables of a keeper.
 ghost use Rattle.std.specs.Prelude.{◌≡◌, ◌≢◌, ◌⊎◌, false, Err, IfOk, IfErr};
-ghost use Rattle.thes_tables.specs.Loads.{Loads};
+ghost use Rattle.thes_load_rules.specs.Loads.{Loads};
 ghost use Rattle.thes_office.specs.Asks.{IsRead};
 ghost use Rattle.thes_office.specs.Office.{IsCopy};
 

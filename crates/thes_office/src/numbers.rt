@@ -5,8 +5,8 @@ use std::alloc::Global;
 use std::marker::Model;
 use thes_base::fault::Fault;
 use thes_base::number::PostNo;
-use thes_rows::rows::PostingRow;
 use thes_store::sink::PostingSink;
+use thes_tables::rows::PostingRow;
 
 /// Keeps the numbers of the rows that come, in their order.
 #[derive(Debug, Drop)]

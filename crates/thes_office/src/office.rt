@@ -3,7 +3,7 @@ ghost use Rattle.std.specs.Prelude.{⊤, ◌≡◌, ◌⊎◌, ◌<◌, false, E
 ghost use Rattle.thes_base.specs.Headline.{IsInOrder};
 ghost use Rattle.thes_base.specs.State.{State};
 ghost use Rattle.thes_store.specs.Causes.{most};
-ghost use Rattle.thes_tables.specs.Loads.{Loads};
+ghost use Rattle.thes_load_rules.specs.Loads.{Loads};
 ghost use Rattle.thes_office.specs.Office.{Goes, Performed, Ran, Same};
 ghost use Rattle.thes_office.specs.Shows.{Shows};
 

@@ -4,9 +4,9 @@ use crate::ways::{ended_text, text_of};
 use Failing::{FullWriter, Reader, Writer};
 use std::alloc::{AllocError, Global};
 use std::io;
+use test_office::Store;
+use test_office::failing::Failing;
 use thes_base::fault::PipeFault;
-use thes_desks::Store;
-use thes_desks::failing::Failing;
 use thes_exchange::script::Ended;
 
 // How many requests were performed: those that are answered, and the one whose answer a writer failed to take.

@@ -4,8 +4,8 @@ use crate::ways::text_of;
 use std::alloc::{AllocError, Global};
 use std::io;
 use std::io::ErrorKind;
+use test_office::Store;
 use thes_base::request::{Answer, Command};
-use thes_desks::Store;
 use thes_exchange::answer::{Reply, reply_line};
 use thes_exchange::request::{Memory, Request, read_request};
 

@@ -3,6 +3,7 @@ ghost use Rattle.std.specs.Prelude.{◌≡◌, false};
 
 use crate::list::command;
 use std::alloc::{AllocError, Global};
+use test_office::Store;
 use thes_base::data::{History, Label, Link};
 use thes_base::fault::ReadStop;
 use thes_base::number::{PostNo, ResNo};
@@ -10,7 +11,6 @@ use thes_base::request::Command;
 use thes_base::text::{Iri, Tag, Text};
 use thes_core::Core;
 use thes_core::reading::Sizes;
-use thes_desks::Store;
 use thes_exchange::request::{Memory, read_request};
 use thes_office::numbers::Numbers;
 

@@ -6,8 +6,8 @@ use crate::lookups::look_up;
 use crate::stored::{Stored, Way, push_line};
 use std::alloc::{AllocError, Global};
 use std::io;
+use test_office::Store;
 use thes_base::fault::PipeFault;
-use thes_desks::Store;
 use thes_exchange::script::Ended;
 
 /// Runs a stored script. Returns its answers, and what its look-ups tell. Where it did not end as its answers say, a line

@@ -8,7 +8,7 @@ use Rattle.thes_base.specs.declared.request.Answer.{Answer}
 use Rattle.thes_base.specs.declared.request.Command.{Command}
 use Rattle.thes_base.specs.Headline.{IsInOrder}
 use Rattle.thes_base.specs.State.{State}
-use Rattle.thes_rows.specs.Cells.{Raw}
+use Rattle.thes_tables.specs.Cells.{Raw}
 use Rattle.thes_office.specs.Office.{Goes, GoesOn, Kept, Same, Steps}
 use Rattle.thes_office.specs.Shows.{Shows}
 use Rattle.thes_office.proofs.KeptLemmas.{goes_on_by, goes_on_none}

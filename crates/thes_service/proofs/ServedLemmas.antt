@@ -8,7 +8,7 @@ use Rattle.thes_base.specs.Headline.{IsInOrder}
 use Rattle.thes_base.specs.Machine.{Run}
 use Rattle.thes_base.specs.Refusals.{Setting}
 use Rattle.thes_base.specs.State.{State}
-use Rattle.thes_rows.specs.Cells.{Raw}
+use Rattle.thes_tables.specs.Cells.{Raw}
 use Rattle.thes_office.specs.Office.{Goes, GoesOn, Kept, setting}
 use Rattle.thes_office.specs.Shows.{Shows}
 use Rattle.thes_office.proofs.ShowLemmas.{shows_one}
@@ -17,12 +17,12 @@ use Rattle.thes_importer.specs.Imports as importer
 use Rattle.thes_importer.specs.declared.postings.Halted.{Halted}
 use Rattle.thes_importer.specs.declared.postings.Imported as performed
 use Rattle.thes_importer.specs.declared.postings.Imported.TheVariants as done
-use Rattle.thes_head.specs.declared.place.Place.{Place}
-use Rattle.thes_head.specs.declared.place.Place.TheVariants as place
-use Rattle.thes_head.specs.declared.problem.Problem.{Problem}
-use Rattle.thes_head.specs.Heads.{parts_of}
-use Rattle.thes_head.specs.Queries.{Asked, asked_of}
-use Rattle.thes_head.specs.Wants.{Wants, wants_of}
+use Rattle.thes_http_request.specs.declared.place.Place.{Place}
+use Rattle.thes_http_request.specs.declared.place.Place.TheVariants as place
+use Rattle.thes_http_request.specs.declared.problem.Problem.{Problem}
+use Rattle.thes_http_request.specs.Heads.{parts_of}
+use Rattle.thes_http_request.specs.Queries.{Asked, asked_of}
+use Rattle.thes_http_request.specs.Wants.{Wants, wants_of}
 use Rattle.thes_http.specs.declared.response.Response.{Response}
 use Rattle.thes_http.specs.declared.service.Display.{Display}
 use Rattle.thes_http.specs.declared.service.Display.TheVariants as display

@@ -1,7 +1,7 @@
 -- What becomes of a list of postings when a row comes.
 use Rattle.std.specs.Prelude.{◌≡◌, ◌++◌, ◌∷◌, [], Result, Ok, Err}
 use Rattle.thes_base.specs.declared.fault.Fault.{Fault}
-use Rattle.thes_rows.specs.declared.rows.PostingRow.{PostingRow}
+use Rattle.thes_tables.specs.declared.rows.PostingRow.{PostingRow}
 use Rattle.thes_exchange.specs.Listing.{entries}
 use Rattle.thes_exchange.specs.ViewTexts.{entry_data}
 use Rattle.thes_service.specs.declared.rows.Rows.{Rows}

@@ -6,8 +6,8 @@ ghost use Rattle.thes_exchange.specs.ViewTexts.{line_text, listing_data};
 use std::alloc::{AllocError, Global};
 use thes_base::fault::Fault;
 use thes_exchange::listing::Listing;
-use thes_rows::rows::PostingRow;
 use thes_store::sink::PostingSink;
+use thes_tables::rows::PostingRow;
 
 /// Lists the postings that come.
 #[derive(Drop)]

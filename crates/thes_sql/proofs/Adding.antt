@@ -29,15 +29,15 @@ use Rattle.thes_base.specs.declared.data.Resource.{Resource}
 use Rattle.thes_base.specs.declared.data.Link.{Link}
 use Rattle.thes_base.specs.Labels.{Label, label_kind_no}
 use Rattle.thes_base.specs.Links.{link_kind_no}
-use Rattle.thes_rows.specs.declared.rows.HierRow.{HierRow}
-use Rattle.thes_rows.specs.declared.rows.PostingRow.{PostingRow}
-use Rattle.thes_rows.specs.declared.rows.MoveRow.{MoveRow}
-use Rattle.thes_rows.specs.declared.change.Change.{Change}
-use Rattle.thes_rows.specs.declared.change.Change.TheVariants as change
-use Rattle.thes_rows.specs.Tables.{Tables, IsIn}
-use Rattle.thes_rows.specs.Rows.{changed, Fits}
+use Rattle.thes_tables.specs.declared.rows.HierRow.{HierRow}
+use Rattle.thes_tables.specs.declared.rows.PostingRow.{PostingRow}
+use Rattle.thes_tables.specs.declared.rows.MoveRow.{MoveRow}
+use Rattle.thes_tables.specs.declared.change.Change.{Change}
+use Rattle.thes_tables.specs.declared.change.Change.TheVariants as change
+use Rattle.thes_tables.specs.Tables.{Tables, IsIn}
+use Rattle.thes_tables.specs.Rows.{changed, Fits}
 use Rattle.thes_sql.specs.Does.{Does}
-use Rattle.thes_rows.specs.Cells.{resource_kind_no, optional_cell, hier_type_no, resource_cells, outside_cells, posting_cells, move_cells}
+use Rattle.thes_tables.specs.Cells.{resource_kind_no, optional_cell, hier_type_no, resource_cells, outside_cells, posting_cells, move_cells}
 use Rattle.thes_sql.specs.Schema.{resource, outside, label, link, hier, posting, move, store_schema}
 use Rattle.thes_sql.specs.Stored.{Keeps, Rising, AreKeyed, AreHidden, AreNumbered, hidden_row, values, numbered_from, stored_resource, stored_outside, stored_posting, stored_move, label_values, link_values, hier_values, value_of, IsSpelledOutside, IsSpelledLabel, IsSpelledPosting}
 use Rattle.thes_sql.proofs.Texts.{Means}

@@ -15,11 +15,11 @@ use Rattle.thes_base.specs.declared.data.Link.{Link}
 use Rattle.thes_base.specs.Labels.{Label, label_cmp}
 use Rattle.thes_base.specs.Links.{link_cmp}
 use Rattle.thes_base.specs.Changes.{dead, marked_dead}
-use Rattle.thes_rows.specs.declared.rows.HierRow.{HierRow}
-use Rattle.thes_rows.specs.declared.rows.PostingRow.{PostingRow}
-use Rattle.thes_rows.specs.declared.change.Change.TheVariants as change
-use Rattle.thes_rows.specs.Tables.{Tables, hier_link}
-use Rattle.thes_rows.specs.Rows.{withdrawn_row, placed_row, without_row, without_hier}
+use Rattle.thes_tables.specs.declared.rows.HierRow.{HierRow}
+use Rattle.thes_tables.specs.declared.rows.PostingRow.{PostingRow}
+use Rattle.thes_tables.specs.declared.change.Change.TheVariants as change
+use Rattle.thes_tables.specs.Tables.{Tables, hier_link}
+use Rattle.thes_tables.specs.Rows.{withdrawn_row, placed_row, without_row, without_hier}
 use Rattle.thes_sql.specs.Schema.{resource, label, link, hier, posting, store_schema}
 use Rattle.thes_sql.specs.Stored.{Keeps, AreKeyed, AreHidden, hidden_row, stored_resource, stored_posting, label_values, link_values, hier_values, numbered_from, IsSpelledLabel, IsSpelledPosting}
 use Rattle.thes_sql.proofs.Texts.{plain_query, whole, Means}

@@ -9,8 +9,8 @@ use Rattle.sqlite_rules.specs.Cast.{cast_row}
 use Rattle.sqlite.specs.Rowids.TheVariants.{Chosen}
 use Rattle.sqlite.specs.declared.error.Error.{Error}
 use Rattle.sqlite.specs.State.{State, Executes, ExecutesInside}
-use Rattle.thes_rows.specs.Tables.{no_rows}
-use Rattle.thes_rows.specs.Cells.{meta_cells}
+use Rattle.thes_tables.specs.Tables.{no_rows}
+use Rattle.thes_tables.specs.Cells.{meta_cells}
 use Rattle.thes_sql.specs.Schema.{meta, store_schema}
 use Rattle.thes_sql.specs.Stored.{Keeps, AreKeyed, AreHidden, stored_meta, values}
 use Rattle.thes_sql.specs.Does.{IsEmpty, Turns}

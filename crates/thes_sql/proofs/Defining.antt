@@ -31,7 +31,7 @@ use Rattle.sqlite_trees.specs.declared.store.Store.{Ghosts}
 use Rattle.sqlite.proofs.Callers.{IsPlain, command_of, statement_of, runs_as}
 use Rattle.sqlite_trees.proofs.ListLemmas.{all-append}
 use Rattle.thes_sql.specs.Schema.{meta, resource, outside, label, link, hier, posting, move, posting_at, move_posting, schema_0, schema_1, schema_2, schema_3, schema_4, schema_5, schema_6, schema_7, schema_8, schema_9, store_schema}
-use Rattle.thes_rows.specs.Tables.{Tables}
+use Rattle.thes_tables.specs.Tables.{Tables}
 use Rattle.thes_sql.specs.Stored.{HoldResources, HoldOutside, HoldPostings, HoldMoves, AreHidden, label_values, link_values}
 use Rattle.thes_sql.specs.Older.{old_schema, KeepsOld, KeepsAs, IsOldStore, IsEnlarged}
 use Rattle.thes_sql.specs.Does.{IsEmpty, Turns, TurnsEach, Extends, Tries}

@@ -10,10 +10,10 @@ use Rattle.thes_base.specs.declared.data.Link.{Link}
 use Rattle.thes_base.specs.Labels.{Label}
 use Rattle.thes_base.specs.declared.fault.Table.{Table}
 use Rattle.thes_base.specs.declared.fault.Table.TheVariants as table
-use Rattle.thes_rows.specs.declared.rows.HierRow.{HierRow}
-use Rattle.thes_rows.specs.declared.rows.PostingRow.{PostingRow}
-use Rattle.thes_rows.specs.declared.rows.MoveRow.{MoveRow}
-use Rattle.thes_rows.specs.Tables.{Tables}
+use Rattle.thes_tables.specs.declared.rows.HierRow.{HierRow}
+use Rattle.thes_tables.specs.declared.rows.PostingRow.{PostingRow}
+use Rattle.thes_tables.specs.declared.rows.MoveRow.{MoveRow}
+use Rattle.thes_tables.specs.Tables.{Tables}
 use Rattle.thes_sql.specs.Stored.{Hold, Keeps, AreHidden, AreNumbered, HoldResources, HoldOutside, HoldPostings, HoldMoves, label_values, link_values, hier_values, AreSpelled, IsSpelledOutside, IsSpelledLabel, IsSpelledPosting}
 use Rattle.thes_sql.specs.Older.{KeepsAs, stored_version}
 use Rattle.thes_sql.specs.Reads.{tree_of}

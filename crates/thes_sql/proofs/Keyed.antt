@@ -19,7 +19,7 @@ use Rattle.sqlite_rules.proofs.ProbeLemmas.{has_mapped, mapped_has}
 use Rattle.sqlite_rules.proofs.TableLemmas.{put_all_has, put_all_keeps, put_all_adds, without_all_has}
 use Rattle.thes_sql.specs.Stored.{Rising, AreKeyed}
 use Rattle.thes_sql.proofs.Elements.{perm_has, filter_has, has_filter, same_rows, table_put, table_left, left_not, left_has, test_id, num_same}
-use Rattle.thes_rows.proofs.Sets.{clash}
+use Rattle.thes_tables.proofs.Sets.{clash}
 
 pub lower : (m n : ℕ) → m < n → value_cmp (Int (pos m)) (Int (pos n)) ≡ Less
 lower m n h = value_cmp-Int (pos m) (pos n) ∙ grind (arith, ints, nat_tests)

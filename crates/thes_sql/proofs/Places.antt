@@ -3,8 +3,8 @@ use Rattle.std.proofs.Common.{arith, ◌≡◌, ℕ, zero, suc, List, [], ◌∷
 use Rattle.std.proofs.lemmas.Bool.Decides.{nat_tests}
 use Rattle.thes_base.specs.declared.data.Resource.{Resource}
 use Rattle.thes_base.specs.Changes.{dead, marked_dead}
-use Rattle.thes_rows.specs.declared.rows.PostingRow.{PostingRow}
-use Rattle.thes_rows.specs.Rows.{with_posting}
+use Rattle.thes_tables.specs.declared.rows.PostingRow.{PostingRow}
+use Rattle.thes_tables.specs.Rows.{with_posting}
 use Rattle.thes_sql.specs.Stored.{AreNumbered, numbered_from}
 
 module _ {A : Type 0} (f : A → A) where

@@ -26,15 +26,15 @@ use Rattle.sqlite.proofs.Callers.{IsPlain, command_of, reads_as}
 use Rattle.thes_base.specs.declared.fault.Table.{Table}
 use Rattle.thes_base.specs.declared.fault.Table.TheVariants as table
 use Rattle.thes_base.specs.declared.data.Resource.{Resource}
-use Rattle.thes_rows.specs.declared.cells.Cell.{Cell}
-use Rattle.thes_rows.specs.declared.rows.PostingRow.{PostingRow}
-use Rattle.thes_rows.specs.declared.rows.MoveRow.{MoveRow}
-use Rattle.thes_rows.specs.Tables.{Tables}
-use Rattle.thes_rows.specs.Cells.{resource_rows, resource_cells, outside_cells, label_cells, link_cells, hier_cells, posting_cells, move_cells, meta_cells, number_cell}
+use Rattle.thes_tables.specs.declared.cells.Cell.{Cell}
+use Rattle.thes_tables.specs.declared.rows.PostingRow.{PostingRow}
+use Rattle.thes_tables.specs.declared.rows.MoveRow.{MoveRow}
+use Rattle.thes_tables.specs.Tables.{Tables}
+use Rattle.thes_tables.specs.Cells.{resource_rows, resource_cells, outside_cells, label_cells, link_cells, hier_cells, posting_cells, move_cells, meta_cells, number_cell}
 use Rattle.thes_sql.specs.Schema.{store_schema}
 use Rattle.thes_sql.specs.Stored.{Keeps, Rising, AreKeyed, AreHidden, hidden_row, numbered_from, values, stored_meta, stored_resource, stored_outside, stored_posting, stored_move}
 use Rattle.thes_sql.specs.Older.{old_schema, HasVersion, stored_version, version_row}
-use Rattle.thes_rows.specs.declared.cells.Cell.TheVariants as cells
+use Rattle.thes_tables.specs.declared.cells.Cell.TheVariants as cells
 use Rattle.thes_sql.specs.Reads.{rows_of, read_text, keyed_as, numbered_as, standing_at, moves_of, tree_of, places_of, shown_rows, IsReadable}
 use Rattle.thes_sql.proofs.Texts.{plain_query, whole, same}
 use Rattle.thes_sql.proofs.Keyed.{lower, rising_filter}

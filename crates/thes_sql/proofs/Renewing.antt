@@ -27,14 +27,14 @@ use Rattle.thes_base.specs.declared.data.Link.{Link}
 use Rattle.thes_base.specs.Links.{link_kind_no}
 use Rattle.thes_base.specs.declared.fault.Table.{Table as Name}
 use Rattle.thes_base.specs.declared.fault.Table.TheVariants as table
-use Rattle.thes_rows.specs.declared.cells.Cell.{Cell}
-use Rattle.thes_rows.specs.declared.cells.Cell.TheVariants as cells
-use Rattle.thes_rows.specs.declared.rows.HierRow.{HierRow}
-use Rattle.thes_rows.specs.Tables.{Tables}
-use Rattle.thes_rows.specs.Cells.{number_cell, hier_type_no}
+use Rattle.thes_tables.specs.declared.cells.Cell.{Cell}
+use Rattle.thes_tables.specs.declared.cells.Cell.TheVariants as cells
+use Rattle.thes_tables.specs.declared.rows.HierRow.{HierRow}
+use Rattle.thes_tables.specs.Tables.{Tables}
+use Rattle.thes_tables.specs.Cells.{number_cell, hier_type_no}
 use Rattle.thes_sql.specs.Schema.{meta, link, hier, store_schema}
 use Rattle.thes_sql.specs.Stored.{Keeps, AreHidden, hidden_row, values, link_values, hier_values}
-use Rattle.thes_rows.specs.OldRows.{is_broader, untyped, renewed}
+use Rattle.thes_tables.specs.OldRows.{is_broader, untyped, renewed}
 use Rattle.thes_sql.specs.Older.{KeepsAs, stored_version, copied, IsEnlarged, IsCopied, IsMoved, IsRenewed}
 use Rattle.thes_sql.specs.Does.{TurnsEach}
 use Rattle.thes_sql.specs.Reads.{tree_of}

@@ -18,12 +18,12 @@ use Rattle.thes_base.specs.declared.data.Resource.{Resource}
 use Rattle.thes_base.specs.Labels.{Label, label_kind_no, label_cmp}
 use Rattle.thes_base.specs.Links.{link_kind_no, link_cmp}
 use Rattle.thes_base.proofs.SetMembers.{both_equal}
-use Rattle.thes_rows.specs.declared.rows.HierRow.{HierRow}
-use Rattle.thes_rows.specs.declared.rows.HierType.{HierType}
-use Rattle.thes_rows.specs.declared.rows.HierType.TheVariants as typ
-use Rattle.thes_rows.specs.declared.rows.PostingRow.{PostingRow}
-use Rattle.thes_rows.specs.Tables.{hier_link, hier_kind}
-use Rattle.thes_rows.specs.Cells.{hier_type_no}
+use Rattle.thes_tables.specs.declared.rows.HierRow.{HierRow}
+use Rattle.thes_tables.specs.declared.rows.HierType.{HierType}
+use Rattle.thes_tables.specs.declared.rows.HierType.TheVariants as typ
+use Rattle.thes_tables.specs.declared.rows.PostingRow.{PostingRow}
+use Rattle.thes_tables.specs.Tables.{hier_link, hier_kind}
+use Rattle.thes_tables.specs.Cells.{hier_type_no}
 use Rattle.thes_sql.specs.Stored.{hidden_row, stored_resource, stored_posting, label_values, link_values, hier_values}
 use Rattle.thes_sql.proofs.Texts.{retire_query, set_place_query, move_all_query, drop_label_query, drop_link_query, drop_hier_query}
 use Rattle.thes_sql.proofs.Elements.{test_id}

@@ -11,10 +11,10 @@ use Rattle.sqlite.specs.Schema.{Schema}
 use Rattle.sqlite.specs.Listing.{understood}
 use Rattle.sqlite_resolve.specs.declared.compiled.Compiled.{Compiled}
 use Rattle.sqlite_resolve.specs.declared.error.CompileError.{CompileError}
-use Rattle.thes_rows.specs.declared.cells.Cell.TheVariants.{Text}
-use Rattle.thes_rows.specs.Cells.{number_cell}
-use Rattle.thes_rows.specs.OldRows.{is_broader, untyped, renewed}
-use Rattle.thes_rows.specs.Tables.{Tables}
+use Rattle.thes_tables.specs.declared.cells.Cell.TheVariants.{Text}
+use Rattle.thes_tables.specs.Cells.{number_cell}
+use Rattle.thes_tables.specs.OldRows.{is_broader, untyped, renewed}
+use Rattle.thes_tables.specs.Tables.{Tables}
 use Rattle.thes_sql.specs.Schema.{schema_7, store_schema}
 use Rattle.thes_sql.specs.Stored.{Keeps, keyed, values, HoldResources, HoldOutside, HoldPostings, HoldMoves, AreHidden, AreNumbered, AreSpelled, label_values, link_values, hier_values}
 

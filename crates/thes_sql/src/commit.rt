@@ -1,7 +1,7 @@
 //! Changes that are made together.
 ghost use Rattle.std.specs.Prelude.{◌≡◌, IfOk, IsTrue};
-ghost use Rattle.thes_rows.specs.Tables.{Tables};
-ghost use Rattle.thes_rows.specs.Rows.{all_changed, FitAll};
+ghost use Rattle.thes_tables.specs.Tables.{Tables};
+ghost use Rattle.thes_tables.specs.Rows.{all_changed, FitAll};
 ghost use Rattle.thes_sql.specs.Stored.{Keeps, Hold};
 ghost use Rattle.thes_sql.specs.Does.{DoesAll, DoesInside, StaysInside, IsOwnTransaction};
 ghost use Rattle.sqlite.specs.State.{HasCleanDisk, Survives};
@@ -9,7 +9,7 @@ ghost use Rattle.sqlite.specs.Held.{state};
 
 use crate::writes::apply;
 use sqlite::{Alter, Connection, Error, Transaction};
-use thes_rows::change::Change;
+use thes_tables::change::Change;
 
 // Makes changes in order, inside the transaction.
 fn apply_all<S: Alter>(tx: &mut Transaction<'_, S>, changes: &[Change]) -> Result<(), Error>

@@ -1,6 +1,6 @@
 //! The making of the tables.
 ghost use Rattle.std.specs.Prelude.{◌≡◌, ◌∷◌, [], IfOk, IsTrue};
-ghost use Rattle.thes_rows.specs.Tables.{no_rows};
+ghost use Rattle.thes_tables.specs.Tables.{no_rows};
 ghost use Rattle.thes_sql.specs.Schema.{schema_0, schema_8, store_schema};
 ghost use Rattle.thes_sql.specs.Stored.{Keeps, Hold};
 ghost use Rattle.thes_sql.specs.Older.{old_schema, IsOldStore, IsEnlarged};

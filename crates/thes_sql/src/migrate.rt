@@ -1,7 +1,7 @@
 //! What makes a store of version 1 one of version 2.
 ghost use Rattle.std.specs.Prelude.{◌≡◌, ◌≤◌, IfOk, IsTrue};
-ghost use Rattle.thes_rows.specs.OldRows.{renewed};
-ghost use Rattle.thes_rows.specs.Tables.{Tables};
+ghost use Rattle.thes_tables.specs.OldRows.{renewed};
+ghost use Rattle.thes_tables.specs.Tables.{Tables};
 ghost use Rattle.thes_sql.specs.Stored.{Keeps, Hold};
 ghost use Rattle.thes_sql.specs.Older.{KeepsOld, IsOldStore, IsEnlarged, IsCopied, IsMoved, IsRenewed};
 ghost use Rattle.thes_sql.specs.Does.{TurnsEach, DoesInside, StaysInside, IsOwnTransaction};

@@ -1,7 +1,7 @@
 //! What statements are given of rows.
 ghost use Rattle.std.specs.Prelude.{◌≡◌, ◌<◌, IsUtf8};
-ghost use Rattle.thes_rows.specs.Cells.{resource_cells, outside_cells};
-ghost use Rattle.thes_rows.specs.Cells.{label_cells, link_cells, hier_cells, posting_cells, move_cells};
+ghost use Rattle.thes_tables.specs.Cells.{resource_cells, outside_cells};
+ghost use Rattle.thes_tables.specs.Cells.{label_cells, link_cells, hier_cells, posting_cells, move_cells};
 ghost use Rattle.thes_sql.specs.Stored.{values, IsSpelledLabel, IsSpelledPosting};
 ghost use Rattle.sqlite.specs.Values.{bound};
 
@@ -10,8 +10,8 @@ use sqlite::types::ValueRef;
 use thes_base::data::{Link, Resource};
 use thes_base::number::ResNo;
 use thes_base::text::Iri;
-use thes_rows::numbers::{flag_number, resource_number, type_number};
-use thes_rows::rows::{HierRow, LabelRow, MoveRow, PostingRow};
+use thes_tables::numbers::{flag_number, resource_number, type_number};
+use thes_tables::rows::{HierRow, LabelRow, MoveRow, PostingRow};
 
 // The number of a resource, if there is one.
 fn number_of(n: Option<ResNo>) -> Option<u32>

@@ -1,6 +1,6 @@
 //! Each kind of change, as one statement.
 ghost use Rattle.std.specs.Prelude.{◌≡◌};
-ghost use Rattle.thes_rows.specs.declared.change.Change.TheVariants as change;
+ghost use Rattle.thes_tables.specs.declared.change.Change.TheVariants as change;
 ghost use Rattle.thes_sql.specs.Does.{Does, DoesInside, StaysInside};
 
 use crate::values::{
@@ -11,8 +11,8 @@ use sqlite::{Alter, Error, Transaction, params};
 use thes_base::data::{Link, Resource};
 use thes_base::number::{PostNo, ResNo};
 use thes_base::text::Iri;
-use thes_rows::change::Change;
-use thes_rows::rows::{HierRow, LabelRow, MoveRow, PostingRow};
+use thes_tables::change::Change;
+use thes_tables::rows::{HierRow, LabelRow, MoveRow, PostingRow};
 
 // Adds a resource.
 fn add_resource<S: Alter>(

@@ -15,14 +15,14 @@ use Rattle.thes_base.specs.declared.fault.Table.{Table}
 use Rattle.thes_base.specs.declared.fault.Table.TheVariants as table
 use Rattle.thes_base.specs.declared.data.Resource.{Resource}
 use Rattle.thes_base.specs.Labels.{Label, label_kind_no}
-use Rattle.thes_rows.specs.declared.cells.Cell.{Cell}
-use Rattle.thes_rows.specs.declared.change.Change.{Change}
-use Rattle.thes_rows.specs.declared.rows.PostingRow.{PostingRow}
-use Rattle.thes_rows.specs.declared.rows.MoveRow.{MoveRow}
-use Rattle.thes_rows.specs.Tables.{Tables}
-use Rattle.thes_rows.specs.Rows.{FitAll, all_changed}
-use Rattle.thes_rows.specs.Cells.{listed, number_cell, flag_cell, resource_kind_no, optional_cell, resource_rows, meta_cells, outside_cells, label_cells, link_cells, hier_cells, posting_cells, move_cells}
-use Rattle.thes_rows.proofs.Listing.{listed_one}
+use Rattle.thes_tables.specs.declared.cells.Cell.{Cell}
+use Rattle.thes_tables.specs.declared.change.Change.{Change}
+use Rattle.thes_tables.specs.declared.rows.PostingRow.{PostingRow}
+use Rattle.thes_tables.specs.declared.rows.MoveRow.{MoveRow}
+use Rattle.thes_tables.specs.Tables.{Tables}
+use Rattle.thes_tables.specs.Rows.{FitAll, all_changed}
+use Rattle.thes_tables.specs.Cells.{listed, number_cell, flag_cell, resource_kind_no, optional_cell, resource_rows, meta_cells, outside_cells, label_cells, link_cells, hier_cells, posting_cells, move_cells}
+use Rattle.thes_tables.proofs.Listing.{listed_one}
 use Rattle.thes_sql.specs.Stored.{Keeps, Hold, AreHidden, hidden_row, value_of, numbered_from, stored_resource, stored_outside, stored_posting, stored_move, label_values, link_values, hier_values, stored_meta, IsSpelledOutside, IsSpelledLabel, IsSpelledPosting}
 use Rattle.thes_sql.specs.Does.{IsOwnTransaction}
 use Rattle.thes_sql.specs.Reads.{tree_of, places_of, IsReadable, LeavesTables}

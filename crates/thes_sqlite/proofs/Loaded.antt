@@ -7,7 +7,7 @@ use Rattle.sqlite_trees.specs.declared.store.Store.{Ghosts}
 use Rattle.thes_base.specs.declared.fault.Fault.{Fault}
 use Rattle.thes_base.specs.declared.fault.Table.{Table}
 use Rattle.thes_base.specs.declared.fault.Table.TheVariants as table
-use Rattle.thes_rows.specs.declared.cells.Cell.{Cell}
+use Rattle.thes_tables.specs.declared.cells.Cell.{Cell}
 use Rattle.thes_sql.specs.Reads.{IsReadable, LeavesTables}
 use Rattle.thes_store.specs.Causes.{HasCause}
 use Rattle.thes_store.specs.Handing.{Takes, TakesSome, Hands, handed_of}

@@ -12,16 +12,16 @@ use Rattle.sqlite.specs.declared.types.Value.{Value}
 use Rattle.sqlite.specs.declared.types.Value.TheVariants.{Null, Int, Text, Blob, Real}
 use Rattle.sqlite.specs.Order.{Row, column}
 use Rattle.sqlite_rules.specs.Lists.{Has}
-use Rattle.thes_rows.specs.declared.cells.Cell.{Cell}
-use Rattle.thes_rows.specs.declared.cells.Cell.TheVariants as cells
-use Rattle.thes_rows.specs.declared.rows.PostingRow.{PostingRow}
+use Rattle.thes_tables.specs.declared.cells.Cell.{Cell}
+use Rattle.thes_tables.specs.declared.cells.Cell.TheVariants as cells
+use Rattle.thes_tables.specs.declared.rows.PostingRow.{PostingRow}
 use Rattle.thes_base.specs.declared.data.Move.{Move}
 use Rattle.thes_base.specs.Resources.{numbered}
 use Rattle.thes_base.proofs.NumberedLemmas.{numbered_at}
-use Rattle.thes_rows.specs.declared.rows.MoveRow.{MoveRow}
-use Rattle.thes_rows.specs.Tables.{Tables, IsIn, step_of}
-use Rattle.thes_rows.specs.Cells.{posting_cells, move_cells}
-use Rattle.thes_rows.proofs.Listing.{map_one, posting_one, move_one}
+use Rattle.thes_tables.specs.declared.rows.MoveRow.{MoveRow}
+use Rattle.thes_tables.specs.Tables.{Tables, IsIn, step_of}
+use Rattle.thes_tables.specs.Cells.{posting_cells, move_cells}
+use Rattle.thes_tables.proofs.Listing.{map_one, posting_one, move_one}
 use Rattle.thes_sql.specs.Stored.{value_of, values, AreNumbered}
 use Rattle.thes_sql.specs.Reads.{numbered_as, moves_of}
 use Rattle.thes_sql.proofs.Elements.{filter_has, has_filter, num_same}

@@ -12,17 +12,17 @@ use Rattle.thes_base.specs.declared.fault.Fault.TheVariants as faults
 use Rattle.thes_base.specs.declared.fault.Table.TheVariants as table
 use Rattle.thes_base.specs.Legal.{Legal}
 use Rattle.thes_base.specs.State.{State}
-use Rattle.thes_rows.specs.declared.cells.Cell.TheVariants as cells
-use Rattle.thes_rows.specs.Tables.{Tables, IsRowsOf}
-use Rattle.thes_rows.proofs.Listing.{head_one, tail_one, number_one}
-use Rattle.thes_tables.specs.Rules.{state_of}
-use Rattle.thes_tables.specs.Loads.{Loads}
-use Rattle.thes_tables.proofs.Holding.{held_loads}
+use Rattle.thes_tables.specs.declared.cells.Cell.TheVariants as cells
+use Rattle.thes_tables.specs.Tables.{Tables, IsRowsOf}
+use Rattle.thes_tables.proofs.Listing.{head_one, tail_one, number_one}
+use Rattle.thes_load_rules.specs.Rules.{state_of}
+use Rattle.thes_load_rules.specs.Loads.{Loads}
+use Rattle.thes_load_rules.proofs.Holding.{held_loads}
 use Rattle.thes_sql.specs.Stored.{Keeps}
 use Rattle.thes_sql.specs.Older.{KeepsOld, HasKnownSchema, HasVersion, KeepsKnown, LeavesKnown, version_row, old_schema}
-use Rattle.thes_rows.specs.OldRows.{renewed}
+use Rattle.thes_tables.specs.OldRows.{renewed}
 use Rattle.thes_sql.specs.Reads.{read_text}
-use Rattle.thes_rows.proofs.OldRowLemmas.{renews}
+use Rattle.thes_tables.proofs.OldRowLemmas.{renews}
 use Rattle.thes_sqlite.specs.Faults.{IsKeeperFault}
 use Rattle.thes_sqlite.specs.Kept.{raw_in}
 use Rattle.thes_sqlite.specs.Migrated.{IsMigrateFault, IsMetaFault, IsTableFault, IsCause, IsWhole, Migrates}

@@ -3,7 +3,7 @@ use Rattle.std.proofs.Common.{◌≡◌, ℕ, List, Bool, true, false, if◌then
 use Rattle.std.specs.Str.{IsUtf8, is_utf8}
 use Rattle.std.proofs.lemmas.Str.{IsUtf8-from_is_utf8, is_utf8-from_IsUtf8}
 use Rattle.sqlite.specs.declared.types.Value.TheVariants.{Text}
-use Rattle.thes_rows.specs.declared.cells.Cell.TheVariants as cells
+use Rattle.thes_tables.specs.declared.cells.Cell.TheVariants as cells
 use Rattle.thes_sqlite.specs.ValueCells.{cell_of, no_cell}
 
 pub text_cell : (t : List ℕ) → IsUtf8 t → cell_of (Text t) ≡ cells.Text t

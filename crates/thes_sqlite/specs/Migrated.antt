@@ -10,13 +10,13 @@ use Rattle.sqlite_trees.specs.declared.store.Store.{Ghosts}
 use Rattle.thes_base.specs.declared.fault.Fault.{Fault}
 use Rattle.thes_base.specs.declared.fault.Fault.TheVariants.{OutOfMemory, Store, BadStore, NewerStore}
 use Rattle.thes_base.specs.declared.fault.Table.TheVariants as table
-use Rattle.thes_rows.specs.declared.cells.Cell.{Cell}
-use Rattle.thes_rows.specs.Tables.{Tables}
-use Rattle.thes_rows.specs.Cells.{number_cell}
+use Rattle.thes_tables.specs.declared.cells.Cell.{Cell}
+use Rattle.thes_tables.specs.Tables.{Tables}
+use Rattle.thes_tables.specs.Cells.{number_cell}
 use Rattle.thes_sql.specs.Stored.{Keeps, Hold}
 use Rattle.thes_sql.specs.Reads.{read_text}
 use Rattle.thes_sql.specs.Older.{KeepsOld, HasKnownSchema, IsUnderstood, links_text, hier_text}
-use Rattle.thes_rows.specs.OldRows.{renewed}
+use Rattle.thes_tables.specs.OldRows.{renewed}
 use Rattle.thes_sqlite.specs.Kept.{IsUp}
 use Rattle.thes_sqlite.specs.Faults.{IsKeeperFault}
 use Rattle.thes_sqlite.specs.ValueCells.{cell_of}

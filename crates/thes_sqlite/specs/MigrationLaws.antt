@@ -8,12 +8,12 @@ use Rattle.sqlite_trees.specs.declared.store.Store.{Ghosts}
 use Rattle.thes_base.specs.declared.fault.Fault.{Fault}
 use Rattle.thes_base.specs.Legal.{Legal}
 use Rattle.thes_base.specs.State.{State}
-use Rattle.thes_rows.specs.Tables.{Tables, IsRowsOf}
-use Rattle.thes_tables.specs.Rules.{state_of}
-use Rattle.thes_tables.specs.Loads.{Loads}
+use Rattle.thes_tables.specs.Tables.{Tables, IsRowsOf}
+use Rattle.thes_load_rules.specs.Rules.{state_of}
+use Rattle.thes_load_rules.specs.Loads.{Loads}
 use Rattle.thes_sql.specs.Stored.{Keeps, Hold}
 use Rattle.thes_sql.specs.Older.{KeepsOld}
-use Rattle.thes_rows.specs.OldRows.{IsOldRowsOf}
+use Rattle.thes_tables.specs.OldRows.{IsOldRowsOf}
 use Rattle.thes_sqlite.specs.Kept.{raw_in}
 use Rattle.thes_sqlite.specs.Migrated.{Migrates}
 

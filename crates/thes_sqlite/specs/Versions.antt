@@ -1,6 +1,6 @@
 -- What the cells of a row of meta tell of its version.
 use Rattle.std.specs.Prelude.{◌<◌, ◌≤◌, ℕ, List, Option, None, Some}
-use Rattle.thes_rows.specs.declared.cells.Cell.{Cell}
+use Rattle.thes_tables.specs.declared.cells.Cell.{Cell}
 use Rattle.thes_sqlite.specs.declared.migrating.Version.{Version}
 use Rattle.thes_sqlite.specs.declared.migrating.Version.TheVariants.{Older, Current, Newer}
 use Rattle.thes_sqlite.specs.Migrated.{IsVersionRow}

@@ -1,6 +1,6 @@
 //! Postings looked up in the database.
 ghost use Rattle.std.specs.Prelude.{◌≡◌, IfOk};
-ghost use Rattle.thes_rows.specs.Tables.{Tables};
+ghost use Rattle.thes_tables.specs.Tables.{Tables};
 ghost use Rattle.thes_sql.specs.Stored.{Keeps};
 ghost use Rattle.thes_sql.specs.Reads.{LeavesTables};
 ghost use Rattle.thes_store.specs.Reading.{IsFound, IsTold};
@@ -13,9 +13,9 @@ use sqlite::{Alter, Connection, Error};
 use std::alloc::Global;
 use thes_base::number::PostNo;
 use thes_base::text::Key;
-use thes_rows::rows::PostingRow;
 use thes_sql::reads::{rows_keyed, rows_moving, rows_numbered};
 use thes_store::keeper::Posting;
+use thes_tables::rows::PostingRow;
 
 /// Finds the posting of a key.
 pub(crate) fn find_posting<S: Alter>(

@@ -6,7 +6,7 @@ ghost use Rattle.thes_sqlite.specs.ValueCells.{cell_of};
 use sqlite::Row;
 use sqlite::types::ValueRef;
 use std::alloc::{AllocError, Global};
-use thes_rows::cells::{Cell, CellText};
+use thes_tables::cells::{Cell, CellText};
 
 // The cell of a value. A value that no row of a store has comes as a number that no column takes.
 fn cell_found(alloc: Global, value: ValueRef<'_>) -> Result<Cell, AllocError>

@@ -1,7 +1,7 @@
 //! Rows of the database, handed to a sink.
 ghost use Rattle.std.specs.Prelude.{◌≡◌, ◌∷◌, [], List, Some, map, IfErr};
-ghost use Rattle.thes_rows.specs.declared.rows.PostingRow.{PostingRow};
-ghost use Rattle.thes_rows.specs.Cells.{posting_cells};
+ghost use Rattle.thes_tables.specs.declared.rows.PostingRow.{PostingRow};
+ghost use Rattle.thes_tables.specs.Cells.{posting_cells};
 ghost use Rattle.thes_store.specs.Handing.{Hands, handed_of};
 ghost use Rattle.thes_sql.specs.Stored.{values};
 ghost use Rattle.thes_sqlite.specs.Faults.{IsKeeperFault};

@@ -1,8 +1,8 @@
 //! A keeper over the tables of a database.
 ghost use Rattle.std.specs.Prelude.{◌≡◌, ◌⊎◌, ◌<◌, false, OnOk, OnErr, IfOk, IfErr};
-ghost use Rattle.thes_rows.specs.Tables.{Tables, no_rows};
-ghost use Rattle.thes_rows.specs.Rows.{FitAll};
-ghost use Rattle.thes_rows.specs.Cells.{listed};
+ghost use Rattle.thes_tables.specs.Tables.{Tables, no_rows};
+ghost use Rattle.thes_tables.specs.Rows.{FitAll};
+ghost use Rattle.thes_tables.specs.Cells.{listed};
 ghost use Rattle.thes_sql.specs.Schema.{schema_0};
 ghost use Rattle.thes_sql.specs.Does.{IsEmpty};
 ghost use Rattle.thes_base.specs.declared.fault.Table.{Table};
@@ -24,15 +24,15 @@ use std::snapshot::Snapshot;
 use thes_base::fault::{Fault, Table};
 use thes_base::number::{PostNo, ResNo};
 use thes_base::text::{Base, Key};
-use thes_rows::change::Change;
-use thes_rows::delta::Delta;
-use thes_rows::rows::PostingRow;
 use thes_sql::commit::commit_all;
 use thes_sql::create::create_tables;
 use thes_sql::reads::rows_standing;
 use thes_store::handing::tables_in_order;
 use thes_store::keeper::{Keeper, Posting};
 use thes_store::sink::{PostingSink, RowSink};
+use thes_tables::change::Change;
+use thes_tables::delta::Delta;
+use thes_tables::rows::PostingRow;
 
 /// Keeps the tables of a store in a database.
 pub struct SqlKeeper<S: Alter> {

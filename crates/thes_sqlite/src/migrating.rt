@@ -1,6 +1,6 @@
 //! From version 1 of the tables to version 2.
 ghost use Rattle.std.specs.Prelude.{◌≡◌, ◌∷◌, [], ℕ, List, cond, IfOk, IfErr, OnOk, false};
-ghost use Rattle.thes_rows.specs.Tables.{Tables};
+ghost use Rattle.thes_tables.specs.Tables.{Tables};
 ghost use Rattle.thes_sql.specs.Older.{HasVersion, HasKnownSchema, version_row, old_schema, KeepsKnown, LeavesKnown};
 ghost use Rattle.thes_sqlite.specs.Faults.{IsKeeperFault};
 ghost use Rattle.thes_sqlite.specs.Migrated.{IsMigrateFault, IsMetaFault, IsTableFault, IsCause, IsWhole, Migrates};
@@ -13,9 +13,9 @@ use crate::found::cells_found;
 use sqlite::{Alter, Connection, Row};
 use std::alloc::Global;
 use thes_base::fault::{Fault, Table};
-use thes_rows::cells::Cell;
 use thes_sql::migrate::migrate_tables;
 use thes_sql::versions::{has_hier, has_links, has_meta, version_rows};
+use thes_tables::cells::Cell;
 
 // A version of the tables: that before this one, this one, or a later one.
 #[derive(Clone, Copy)]

@@ -1,8 +1,8 @@
 //! Rows of the database as rows of the tables.
 ghost use Rattle.std.specs.Prelude.{◌≡◌, List, map, IfOk, IfSome};
-ghost use Rattle.thes_rows.specs.declared.rows.MoveRow.{MoveRow};
-ghost use Rattle.thes_rows.specs.Cells.{posting_cells, move_cells};
-ghost use Rattle.thes_rows.specs.Tables.{step_of};
+ghost use Rattle.thes_tables.specs.declared.rows.MoveRow.{MoveRow};
+ghost use Rattle.thes_tables.specs.Cells.{posting_cells, move_cells};
+ghost use Rattle.thes_tables.specs.Tables.{step_of};
 ghost use Rattle.thes_sql.specs.Stored.{value_of, values};
 ghost use Rattle.sqlite_value.specs.Value.{owned};
 
@@ -10,9 +10,9 @@ use sqlite::types::ValueRef;
 use sqlite::{Error, ErrorCode, Row};
 use std::alloc::{AllocError, Global};
 use thes_base::data::{Move, Moves};
-use thes_load::rows::{move_in, posting_in};
-use thes_rows::cells::{Cell, CellText};
-use thes_rows::rows::{MoveRow, PostingRow};
+use thes_load_rows::rows::{move_in, posting_in};
+use thes_tables::cells::{Cell, CellText};
+use thes_tables::rows::{MoveRow, PostingRow};
 
 // The cell of a value. None for what no table holds: a number with a point, bytes, and a text that isn't UTF-8.
 fn cell_of(alloc: Global, value: ValueRef<'_>) -> Result<Option<Cell>, AllocError>

@@ -4,7 +4,7 @@ use Rattle.std.specs.Prelude.{Option, None, Some, slice_get, is_some, vec_len}
 use Rattle.std.specs.List.{cons_option}
 use Rattle.std.proofs.lemmas.List.Elements.{filter_map-append}
 use Rattle.thes_base.proofs.NumberedLemmas.{push_cases}
-use Rattle.thes_rows.specs.declared.change.Change.{Change}
+use Rattle.thes_tables.specs.declared.change.Change.{Change}
 use Rattle.thes_store.proofs.Places.{take_one}
 use Rattle.thes_store.specs.declared.slots.Slots.{Slots}
 use Rattle.thes_store.specs.Added.{all_added}

@@ -7,14 +7,14 @@ use Rattle.std.proofs.lemmas.Option.{same_Some}
 use Rattle.std.proofs.lemmas.List.{take_all}
 use Rattle.thes_base.specs.Resources.{numbered, set_numbered}
 use Rattle.thes_base.proofs.NumberedLemmas.{push_cases, set_cases, numbered_bound}
-use Rattle.thes_rows.specs.declared.change.Change.{Change}
-use Rattle.thes_rows.specs.declared.change.Change.TheVariants as change
-use Rattle.thes_rows.specs.declared.rows.PostingRow.{PostingRow}
-use Rattle.thes_rows.specs.declared.rows.MoveRow.{MoveRow}
-use Rattle.thes_rows.specs.Tables.{Tables, IsIn}
-use Rattle.thes_rows.specs.Rows.{changed, all_changed, with_posting, withdrawn_row, placed_row, moved_row, Fits, FitAll}
-use Rattle.thes_rows.proofs.Sets.{append_left, map_in}
-use Rattle.thes_rows.proofs.Steps.{all_append}
+use Rattle.thes_tables.specs.declared.change.Change.{Change}
+use Rattle.thes_tables.specs.declared.change.Change.TheVariants as change
+use Rattle.thes_tables.specs.declared.rows.PostingRow.{PostingRow}
+use Rattle.thes_tables.specs.declared.rows.MoveRow.{MoveRow}
+use Rattle.thes_tables.specs.Tables.{Tables, IsIn}
+use Rattle.thes_tables.specs.Rows.{changed, all_changed, with_posting, withdrawn_row, placed_row, moved_row, Fits, FitAll}
+use Rattle.thes_tables.proofs.Sets.{append_left, map_in}
+use Rattle.thes_tables.proofs.Steps.{all_append}
 use Rattle.thes_store.proofs.Places.{take_one}
 use Rattle.thes_store.specs.declared.indexes.Indexes.{Indexes}
 use Rattle.thes_store.specs.Index.{IsAt}

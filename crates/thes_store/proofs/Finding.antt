@@ -7,8 +7,8 @@ use Rattle.std.specs.Prelude.{Option, None, Some, IfSome, IfNone, slice_get, fil
 use Rattle.std.specs.BTreeMap.{get}
 use Rattle.std.specs.Cmp.Lexicographic.{slice_cmp}
 use Rattle.std.specs.Ordering.{nat_cmp}
-use Rattle.thes_rows.specs.declared.rows.PostingRow.{PostingRow}
-use Rattle.thes_rows.specs.Tables.{Tables, IsIn, is_standing}
+use Rattle.thes_tables.specs.declared.rows.PostingRow.{PostingRow}
+use Rattle.thes_tables.specs.Tables.{Tables, IsIn, is_standing}
 use Rattle.thes_store.specs.declared.indexes.Indexes.{Indexes}
 use Rattle.thes_store.specs.declared.keys.Keys.{Keys}
 use Rattle.thes_store.specs.Index.{IsAt, ArePlaces}

@@ -9,8 +9,8 @@ use Rattle.thes_base.specs.declared.fault.Fault.{Fault}
 use Rattle.thes_base.specs.declared.fault.Table.{Table}
 use Rattle.thes_base.specs.declared.fault.Table.TheVariants as table
 use Rattle.thes_base.specs.declared.data.Resource.{Resource}
-use Rattle.thes_rows.specs.declared.cells.Cell.{Cell}
-use Rattle.thes_rows.specs.Cells.{Raw, resource_cells, resource_rows}
+use Rattle.thes_tables.specs.declared.cells.Cell.{Cell}
+use Rattle.thes_tables.specs.Cells.{Raw, resource_cells, resource_rows}
 use Rattle.thes_store.specs.Handing.{Takes, TakesSome, Hands, handed_of, handed}
 use Rattle.thes_store.specs.Loading.{rows_of, handed_tables, table_order}
 use Rattle.thes_store.proofs.Places.{take_one, split_at}

@@ -6,9 +6,9 @@ use Rattle.std.specs.Ordering.{nat_cmp}
 use Rattle.std.specs.BTreeSet.{BTreeSet, contains}
 use Rattle.std.proofs.lemmas.Option.{same_Some}
 use Rattle.std.proofs.lemmas.Bool.{eqb-true}
-use Rattle.thes_rows.specs.declared.rows.PostingRow.{PostingRow}
-use Rattle.thes_rows.specs.Tables.{IsIn}
-use Rattle.thes_rows.specs.Rows.{placed_row, moved_row}
+use Rattle.thes_tables.specs.declared.rows.PostingRow.{PostingRow}
+use Rattle.thes_tables.specs.Tables.{IsIn}
+use Rattle.thes_tables.specs.Rows.{placed_row, moved_row}
 use Rattle.thes_store.proofs.Places.{in_keys}
 use Rattle.thes_store.specs.declared.index.Index.{Index}
 use Rattle.thes_store.specs.Covers.{AreStanding}

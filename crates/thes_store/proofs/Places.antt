@@ -11,10 +11,10 @@ use Rattle.std.proofs.lemmas.Bool.{cases_eq}
 use Rattle.std.proofs.lemmas.Cmp.{ranked}
 use Rattle.std.proofs.lemmas.Map.Keys.{sorted_head, sorted_tail}
 use Rattle.std.proofs.lemmas.Option.{slice_get_past}
-use Rattle.thes_rows.specs.Tables.{IsIn}
+use Rattle.thes_tables.specs.Tables.{IsIn}
 use Rattle.std.proofs.lemmas.List.{take_more}
-use Rattle.thes_rows.proofs.MoveRows.{get_at}
-use Rattle.thes_rows.proofs.Sets.{in_append}
+use Rattle.thes_tables.proofs.MoveRows.{get_at}
+use Rattle.thes_tables.proofs.Sets.{in_append}
 use Rattle.thes_store.specs.declared.index.Index.{Index}
 use Rattle.thes_store.specs.Index.{ArePlaces}
 use Rattle.thes_store.specs.Picked.{passing, picked}

@@ -4,7 +4,7 @@ use Rattle.std.specs.Prelude.{Option, None, Some, slice_get, vec_len}
 use Rattle.std.specs.List.{cons_option}
 use Rattle.std.specs.Vec.{vec_capacity}
 use Rattle.std.proofs.lemmas.List.{drop_more}
-use Rattle.thes_rows.specs.declared.change.Change.{Change}
+use Rattle.thes_tables.specs.declared.change.Change.{Change}
 use Rattle.thes_store.specs.declared.slots.Slots.{Slots}
 use Rattle.thes_store.specs.declared.tables.MemTables.{MemTables}
 use Rattle.thes_store.specs.Added.{all_added, added_resource, added_outside, added_label, added_link, added_hier, added_posting, added_move}

@@ -10,7 +10,7 @@ use Rattle.std.specs.Option.{IsSomeAnd}
 use Rattle.std.specs.Ordering.{nat_cmp}
 use Rattle.std.specs.BTreeSet.{BTreeSet, contains}
 use Rattle.thes_base.proofs.NumberedLemmas.{push_cases, slice_set_cases}
-use Rattle.thes_rows.specs.Tables.{IsIn}
+use Rattle.thes_tables.specs.Tables.{IsIn}
 use Rattle.thes_store.proofs.Places.{in_keys}
 use Rattle.thes_store.specs.declared.slots.Slots.{Slots}
 use Rattle.thes_store.specs.Index.{IsAt, KeepsOthers}

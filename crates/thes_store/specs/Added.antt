@@ -4,11 +4,11 @@ use Rattle.std.specs.List.{filter_map}
 use Rattle.thes_base.specs.declared.data.Resource.{Resource}
 use Rattle.thes_base.specs.declared.data.Link.{Link}
 use Rattle.thes_base.specs.Labels.{Label}
-use Rattle.thes_rows.specs.declared.rows.HierRow.{HierRow}
-use Rattle.thes_rows.specs.declared.rows.PostingRow.{PostingRow}
-use Rattle.thes_rows.specs.declared.rows.MoveRow.{MoveRow}
-use Rattle.thes_rows.specs.declared.change.Change.{Change}
-use Rattle.thes_rows.specs.declared.change.Change.TheVariants as change
+use Rattle.thes_tables.specs.declared.rows.HierRow.{HierRow}
+use Rattle.thes_tables.specs.declared.rows.PostingRow.{PostingRow}
+use Rattle.thes_tables.specs.declared.rows.MoveRow.{MoveRow}
+use Rattle.thes_tables.specs.declared.change.Change.{Change}
+use Rattle.thes_tables.specs.declared.change.Change.TheVariants as change
 
 abbrev pub added_resource : Change → Option Resource
 added_resource (change.AddResource n row) = Some row

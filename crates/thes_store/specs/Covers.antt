@@ -1,11 +1,11 @@
 -- By what the rows of postings and of moves are found.
 use Rattle.std.specs.Prelude.{◌≡◌, ◌≢◌, ◌-◌, ℕ, List, length, Some, slice_get, take, Result, OnOk}
-use Rattle.thes_rows.specs.declared.change.Change.{Change}
-use Rattle.thes_rows.specs.declared.change.Change.TheVariants as change
-use Rattle.thes_rows.specs.declared.rows.PostingRow.{PostingRow}
-use Rattle.thes_rows.specs.declared.rows.MoveRow.{MoveRow}
-use Rattle.thes_rows.specs.Tables.{Tables}
-use Rattle.thes_rows.specs.Rows.{all_changed}
+use Rattle.thes_tables.specs.declared.change.Change.{Change}
+use Rattle.thes_tables.specs.declared.change.Change.TheVariants as change
+use Rattle.thes_tables.specs.declared.rows.PostingRow.{PostingRow}
+use Rattle.thes_tables.specs.declared.rows.MoveRow.{MoveRow}
+use Rattle.thes_tables.specs.Tables.{Tables}
+use Rattle.thes_tables.specs.Rows.{all_changed}
 use Rattle.thes_store.specs.declared.indexes.Indexes.{Indexes}
 use Rattle.thes_store.specs.declared.index.Index.{Index}
 use Rattle.thes_store.specs.Index.{IsAt, KeepsPlaces}

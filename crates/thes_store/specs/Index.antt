@@ -4,7 +4,7 @@ use Rattle.std.specs.Option.{IsSomeAnd}
 use Rattle.std.specs.Ordering.{nat_cmp}
 use Rattle.std.specs.List.Sorted.{IsStrictlySortedBy}
 use Rattle.std.specs.BTreeSet.{contains}
-use Rattle.thes_rows.specs.Tables.{IsIn}
+use Rattle.thes_tables.specs.Tables.{IsIn}
 use Rattle.thes_store.specs.declared.index.Index.{Index}
 
 -- the number has this place

@@ -6,8 +6,8 @@ use Rattle.thes_base.specs.Links.{link_cmp}
 use Rattle.thes_base.specs.declared.data.Link.{Link}
 use Rattle.thes_base.specs.declared.data.LinkKind.TheVariants as kinds
 use Rattle.thes_base.specs.declared.data.LinkKind.{LinkKind}
-use Rattle.thes_rows.specs.declared.rows.HierRow.{HierRow}
-use Rattle.thes_rows.specs.Tables.{hier_link}
+use Rattle.thes_tables.specs.declared.rows.HierRow.{HierRow}
+use Rattle.thes_tables.specs.Tables.{hier_link}
 
 abbrev pub owner_of : Label → ℕ
 owner_of l = l.owner

@@ -1,6 +1,6 @@
 -- The rows at some places.
 use Rattle.std.specs.Prelude.{ℕ, List, [], ◌∷◌, Bool, Option, None, Some, slice_get, slice_set, if◌then◌else◌, ◌==◌}
-use Rattle.thes_rows.specs.declared.rows.MoveRow.{MoveRow}
+use Rattle.thes_tables.specs.declared.rows.MoveRow.{MoveRow}
 
 -- a move of the posting
 abbrev pub is_move_of : ℕ → MoveRow → Bool

@@ -1,8 +1,8 @@
 -- Tables in memory, and room for more rows.
 use Rattle.std.specs.Prelude.{◌≤◌, ◌+◌, List, length, vec_len}
 use Rattle.std.specs.Vec.{vec_capacity}
-use Rattle.thes_rows.specs.declared.change.Change.{Change}
-use Rattle.thes_rows.specs.Tables.{Tables}
+use Rattle.thes_tables.specs.declared.change.Change.{Change}
+use Rattle.thes_tables.specs.Tables.{Tables}
 use Rattle.thes_store.specs.declared.tables.MemTables.{MemTables}
 use Rattle.thes_store.specs.Added.{all_added, added_resource, added_outside, added_label, added_link, added_hier, added_posting, added_move}
 use Rattle.thes_store.specs.Numbers.{owner_of, end_of, narrower_of}

@@ -6,8 +6,8 @@ use Rattle.thes_base.specs.Links.{link_cmp}
 use Rattle.thes_base.specs.declared.data.Link.{Link}
 use Rattle.thes_base.proofs.LabelSets.{labels_exact}
 use Rattle.thes_base.proofs.LinkSets.{links_exact}
-use Rattle.thes_rows.specs.declared.rows.HierRow.{HierRow}
-use Rattle.thes_rows.specs.Tables.{hier_link}
+use Rattle.thes_tables.specs.declared.rows.HierRow.{HierRow}
+use Rattle.thes_tables.specs.Tables.{hier_link}
 use Rattle.thes_store.specs.Numbers.{owner_of, end_of, narrower_of, same_label, same_link, same_hier}
 
 pub owners_agree : (x y : Label) → same_label x y ≡ true → owner_of x ≡ owner_of y

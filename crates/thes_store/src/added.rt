@@ -1,13 +1,13 @@
 //! Which rows changes add, and room for them.
 ghost use Rattle.std.specs.Prelude.{◌≡◌, ◌≤◌, ◌+◌, List, Option, length, vec_len, is_some, OnOk};
 ghost use Rattle.std.specs.Vec.{vec_capacity};
-ghost use Rattle.thes_rows.specs.declared.change.Change.{Change};
+ghost use Rattle.thes_tables.specs.declared.change.Change.{Change};
 ghost use Rattle.thes_store.specs.Added.{all_added};
 
 use std::alloc::AllocError;
 use thes_base::data::{Link, Resource};
-use thes_rows::change::Change;
-use thes_rows::rows::{HierRow, LabelRow, MoveRow, OutsideRow, PostingRow};
+use thes_tables::change::Change;
+use thes_tables::rows::{HierRow, LabelRow, MoveRow, OutsideRow, PostingRow};
 
 /// A row of a table, which a change may add.
 pub trait Added {

@@ -9,8 +9,8 @@ use crate::sink::{PostingSink, RowSink};
 use thes_base::fault::Fault;
 use thes_base::number::{PostNo, ResNo};
 use thes_base::text::Key;
-use thes_rows::delta::Delta;
-use thes_rows::rows::PostingRow;
+use thes_tables::delta::Delta;
+use thes_tables::rows::PostingRow;
 
 /// The call that fails next.
 #[derive(Clone, Copy, Debug, PartialEq, Eq)]
@@ -45,7 +45,7 @@ impl FailOnce {
 }
 
 impl Keeper for FailOnce {
-    ghost use Rattle.thes_rows.specs.Cells.{listed};
+    ghost use Rattle.thes_tables.specs.Cells.{listed};
 
     ghost rows = { λ k. listed k.keeper };
 

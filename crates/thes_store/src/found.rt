@@ -7,8 +7,8 @@ ghost use Rattle.thes_store.specs.Numbers.{end_of};
 
 use crate::slots::Found;
 use thes_base::data::{Link, LinkKind};
-use thes_rows::change::Change;
-use thes_rows::rows::{HierRow, LabelRow};
+use thes_tables::change::Change;
+use thes_tables::rows::{HierRow, LabelRow};
 
 // The end by which a link is found.
 fn end_of(link: &Link) -> u32

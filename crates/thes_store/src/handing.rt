@@ -2,9 +2,9 @@
 ghost use Rattle.std.specs.Prelude.{◌≡◌, ◌∷◌, ◌+◌, ◌<◌, ◌^◌, ℕ, [], List, Some, IfOk, IfErr, map};
 ghost use Rattle.std.specs.List.{cons_option};
 ghost use Rattle.thes_base.specs.declared.fault.Fault.{Fault};
-ghost use Rattle.thes_rows.specs.declared.cells.Cell.{Cell};
-ghost use Rattle.thes_rows.specs.declared.cells.Cell.TheVariants.{Text};
-ghost use Rattle.thes_rows.specs.Cells.{number_cell, optional_cell, meta_cells, resource_cells, resource_rows, listed};
+ghost use Rattle.thes_tables.specs.declared.cells.Cell.{Cell};
+ghost use Rattle.thes_tables.specs.declared.cells.Cell.TheVariants.{Text};
+ghost use Rattle.thes_tables.specs.Cells.{number_cell, optional_cell, meta_cells, resource_cells, resource_rows, listed};
 ghost use Rattle.thes_base.specs.declared.fault.Table.TheVariants as table;
 ghost use Rattle.thes_store.specs.Handing.{Hands, handed_of, handed};
 ghost use Rattle.thes_store.specs.Loading.{rows_of, handed_tables, table_order};
@@ -19,9 +19,9 @@ use thes_base::data::{Link, Resource};
 use thes_base::fault::{Fault, Table};
 use thes_base::number::ResNo;
 use thes_base::text::Base;
-use thes_rows::cells::{Cell, CellText};
-use thes_rows::numbers::{flag_number, resource_number, type_number};
-use thes_rows::rows::{HierRow, LabelRow, MoveRow, OutsideRow, PostingRow};
+use thes_tables::cells::{Cell, CellText};
+use thes_tables::numbers::{flag_number, resource_number, type_number};
+use thes_tables::rows::{HierRow, LabelRow, MoveRow, OutsideRow, PostingRow};
 
 /// A row that is told by cells.
 pub trait AsCells {
@@ -68,7 +68,7 @@ fn hand_row<S: RowSink>(name: Table, row: &[Cell], sink: &mut S) -> Result<(), F
 }
 
 impl AsCells for OutsideRow {
-    ghost use Rattle.thes_rows.specs.Cells.{outside_cells};
+    ghost use Rattle.thes_tables.specs.Cells.{outside_cells};
 
     ghost cells_of = { outside_cells };
 
@@ -79,7 +79,7 @@ impl AsCells for OutsideRow {
 }
 
 impl AsCells for LabelRow {
-    ghost use Rattle.thes_rows.specs.Cells.{label_cells};
+    ghost use Rattle.thes_tables.specs.Cells.{label_cells};
 
     ghost cells_of = { label_cells };
 
@@ -92,7 +92,7 @@ impl AsCells for LabelRow {
 }
 
 impl AsCells for Link {
-    ghost use Rattle.thes_rows.specs.Cells.{link_cells};
+    ghost use Rattle.thes_tables.specs.Cells.{link_cells};
 
     ghost cells_of = { link_cells };
 
@@ -107,7 +107,7 @@ impl AsCells for Link {
 }
 
 impl AsCells for HierRow {
-    ghost use Rattle.thes_rows.specs.Cells.{hier_cells};
+    ghost use Rattle.thes_tables.specs.Cells.{hier_cells};
 
     ghost cells_of = { hier_cells };
 
@@ -122,7 +122,7 @@ impl AsCells for HierRow {
 }
 
 impl AsCells for PostingRow {
-    ghost use Rattle.thes_rows.specs.Cells.{posting_cells};
+    ghost use Rattle.thes_tables.specs.Cells.{posting_cells};
 
     ghost cells_of = { posting_cells };
 
@@ -138,7 +138,7 @@ impl AsCells for PostingRow {
 }
 
 impl AsCells for MoveRow {
-    ghost use Rattle.thes_rows.specs.Cells.{move_cells};
+    ghost use Rattle.thes_tables.specs.Cells.{move_cells};
 
     ghost cells_of = { move_cells };
 

@@ -3,7 +3,7 @@ ghost use Rattle.std.specs.Prelude.{◌≡◌, ℕ, slice_get, IfOk, OnOk};
 ghost use Rattle.std.specs.List.Sorted.{IsStrictlySortedBy};
 ghost use Rattle.std.specs.Option.{option_copied};
 ghost use Rattle.std.specs.Ordering.{nat_cmp};
-ghost use Rattle.thes_rows.specs.Tables.{IsIn};
+ghost use Rattle.thes_tables.specs.Tables.{IsIn};
 ghost use Rattle.thes_store.specs.Index.{IsAt, HasSet, KeepsPlaces, KeepsOthers, ArePlaces};
 
 use std::alloc::{AllocError, Global};

@@ -1,14 +1,14 @@
 //! The indexes of the tables in memory.
 ghost use Rattle.std.specs.Prelude.{◌≡◌, ◌≢◌, ◌+◌, ◌<◌, ◌^◌, ℕ, length, IfOk, OnOk};
-ghost use Rattle.thes_rows.specs.Tables.{Tables};
-ghost use Rattle.thes_rows.specs.Rows.{Fits, FitAll};
+ghost use Rattle.thes_tables.specs.Tables.{Tables};
+ghost use Rattle.thes_tables.specs.Rows.{Fits, FitAll};
 ghost use Rattle.thes_store.specs.Covers.{Covers, CoversBoth, Reaches, IsReached, Grows, GrowsBy, moves_more};
 
 use crate::index::Index;
 use crate::keys::Keys;
 use std::alloc::{AllocError, Global};
-use thes_rows::change::Change;
-use thes_rows::rows::PostingRow;
+use thes_tables::change::Change;
+use thes_tables::rows::PostingRow;
 
 /// Where rows are found: postings by their keys and by the concepts at which they stand, moves by their postings. Each is
 /// told by its place in its table.

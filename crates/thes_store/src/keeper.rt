@@ -1,8 +1,8 @@
 //! What a keeper of the tables promises.
 ghost use Rattle.std.specs.Prelude.{◌≡◌, ℕ, OnOk, OnErr, IfOk};
-ghost use Rattle.thes_rows.specs.Tables.{Tables};
-ghost use Rattle.thes_rows.specs.Rows.{all_changed, FitAll};
-ghost use Rattle.thes_rows.specs.Cells.{Raw, listed};
+ghost use Rattle.thes_tables.specs.Tables.{Tables};
+ghost use Rattle.thes_tables.specs.Rows.{all_changed, FitAll};
+ghost use Rattle.thes_tables.specs.Cells.{Raw, listed};
 ghost use Rattle.thes_store.specs.Causes.{HasCause};
 ghost use Rattle.thes_store.specs.Handing.{Hands, handed};
 ghost use Rattle.thes_store.specs.Reading.{IsFound, IsTold, standing_rows};
@@ -13,8 +13,8 @@ use thes_base::data::Moves;
 use thes_base::fault::Fault;
 use thes_base::number::{PostNo, ResNo};
 use thes_base::text::Key;
-use thes_rows::delta::Delta;
-use thes_rows::rows::PostingRow;
+use thes_tables::delta::Delta;
+use thes_tables::rows::PostingRow;
 
 /// A posting with its moves, in order.
 #[derive(Debug, Drop)]

@@ -1,8 +1,8 @@
 //! A keeper in memory.
 ghost use Rattle.std.specs.Prelude.{◌≡◌, ◌≢◌, ◌++◌, ℕ, map, slice_get, option_copied, Some, IfSome, IfNone, IfOk, IfErr, OnOk};
 ghost use Rattle.thes_base.specs.declared.fault.Fault.{Fault};
-ghost use Rattle.thes_rows.specs.declared.rows.PostingRow.{PostingRow};
-ghost use Rattle.thes_rows.specs.Tables.{IsIn, is_standing, no_rows, step_of};
+ghost use Rattle.thes_tables.specs.declared.rows.PostingRow.{PostingRow};
+ghost use Rattle.thes_tables.specs.Tables.{IsIn, is_standing, no_rows, step_of};
 ghost use Rattle.thes_store.specs.Keys.{LeadsTo};
 ghost use Rattle.thes_store.specs.Picked.{is_move_of, passing, picked};
 ghost use Rattle.thes_store.specs.Reading.{IsFound};
@@ -20,8 +20,8 @@ use thes_base::data::{Move, Moves};
 use thes_base::fault::Fault;
 use thes_base::number::{PostNo, ResNo};
 use thes_base::text::{Base, Key};
-use thes_rows::delta::Delta;
-use thes_rows::rows::{MoveRow, PostingRow};
+use thes_tables::delta::Delta;
+use thes_tables::rows::{MoveRow, PostingRow};
 
 /// Keeps its tables in memory. It fails only where memory runs out.
 #[derive(Drop)]
@@ -33,7 +33,7 @@ pub struct MemKeeper {
 
 impl Model for MemKeeper {
     ghost use Rattle.std.specs.Coded.{codes};
-    ghost use Rattle.thes_rows.specs.Tables.{Tables};
+    ghost use Rattle.thes_tables.specs.Tables.{Tables};
     ghost use Rattle.thes_store.specs.Covers.{Covers};
     ghost use Rattle.thes_store.specs.Room.{tables_of, AllFound};
 
@@ -174,7 +174,7 @@ fn hand_postings<S: PostingSink>(
 }
 
 impl Keeper for MemKeeper {
-    ghost use Rattle.thes_rows.specs.Cells.{listed};
+    ghost use Rattle.thes_tables.specs.Cells.{listed};
 
     ghost rows = { λ k. listed k };
 

@@ -2,12 +2,12 @@
 ghost use Rattle.std.specs.Prelude.{◌≡◌, List, Option, None, Some, Result, IfErr};
 ghost use Rattle.thes_base.specs.declared.fault.Fault.{Fault};
 ghost use Rattle.thes_base.specs.declared.fault.Table.{Table};
-ghost use Rattle.thes_rows.specs.declared.cells.Cell.{Cell};
-ghost use Rattle.thes_rows.specs.declared.rows.PostingRow.{PostingRow};
+ghost use Rattle.thes_tables.specs.declared.cells.Cell.{Cell};
+ghost use Rattle.thes_tables.specs.declared.rows.PostingRow.{PostingRow};
 
 use thes_base::fault::{Fault, Table};
-use thes_rows::cells::Cell;
-use thes_rows::rows::PostingRow;
+use thes_tables::cells::Cell;
+use thes_tables::rows::PostingRow;
 
 /// Takes the rows of the tables, one at a time. Running out of memory is its only fault.
 pub trait RowSink {

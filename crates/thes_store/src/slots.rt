@@ -9,7 +9,7 @@ ghost use Rattle.thes_store.specs.Slots.{rows_in, AreFound, AreExpected, IsReady
 use crate::added::{Added, count_added};
 use crate::index::Index;
 use std::alloc::{AllocError, Global};
-use thes_rows::change::Change;
+use thes_tables::change::Change;
 
 /// A row that is found by a number.
 pub trait Found: Added {

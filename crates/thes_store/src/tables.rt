@@ -2,9 +2,9 @@
 ghost use Rattle.std.specs.Prelude.{◌≡◌, ◌∷◌, [], List, map, vec_len, OnOk};
 ghost use Rattle.std.specs.Vec.{vec_capacity};
 ghost use Rattle.thes_base.specs.Changes.{marked_dead};
-ghost use Rattle.thes_rows.specs.declared.change.Change.{Change};
-ghost use Rattle.thes_rows.specs.Tables.{no_rows};
-ghost use Rattle.thes_rows.specs.Rows.{changed, all_changed, with_posting, withdrawn_row, placed_row, moved_row};
+ghost use Rattle.thes_tables.specs.declared.change.Change.{Change};
+ghost use Rattle.thes_tables.specs.Tables.{no_rows};
+ghost use Rattle.thes_tables.specs.Rows.{changed, all_changed, with_posting, withdrawn_row, placed_row, moved_row};
 ghost use Rattle.thes_store.specs.Covers.{AreStanding, StandThroughout};
 ghost use Rattle.thes_store.specs.Picked.{with_row, changed_at};
 ghost use Rattle.thes_store.specs.Room.{tables_of, AllFound, HasRoom};
@@ -17,8 +17,8 @@ use std::collections::BTreeSet;
 use thes_base::data::{Link, Resource};
 use thes_base::number::{PostNo, ResNo};
 use thes_base::text::Base;
-use thes_rows::change::Change;
-use thes_rows::rows::{HierRow, LabelRow, MoveRow, OutsideRow, PostingRow};
+use thes_tables::change::Change;
+use thes_tables::rows::{HierRow, LabelRow, MoveRow, OutsideRow, PostingRow};
 
 /// The rows of all tables.
 #[derive(Drop)]

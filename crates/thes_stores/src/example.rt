@@ -6,7 +6,7 @@ use thes_base::fault::Fault;
 use thes_base::number::ResNo;
 use thes_core::Core;
 use thes_loader::{Row, Rows, from_rows};
-use thes_rows::cells::{Cell, CellText};
+use thes_tables::cells::{Cell, CellText};
 
 /// Rows of tables, and the verdict that is stored for them.
 #[derive(Drop)]

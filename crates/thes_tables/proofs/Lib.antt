@@ -1,9 +1,7 @@
-pub mod Single
-pub mod Opening
-pub mod Lists
-pub mod LinkTables
+pub mod Sets
+pub mod Steps
+pub mod LinkRows
 pub mod MoveRows
-pub mod MoveOrders
-pub mod Telling
-pub mod Holding
-pub mod Judging
+pub mod Leading
+pub mod Listing
+pub mod OldRowLemmas

@@ -1,136 +1,260 @@
--- Rows of move, and the moves of the histories that they tell.
-use Rattle.std.proofs.Common.{◌≡◌, ◌⊎◌, ◌<◌, ◌≤◌, ℕ, suc, ◌+◌, length, List, [], ◌∷◌, refl, sym, ap, ◌∙◌, subst, arith, inl, inr, Bool, true, false, cond, eqb, eqb-true, ne_eqb, map}
-use Rattle.std.proofs.lemmas.Bool.{cases_Bool, eq-eqb, eqb-false}
-use Rattle.std.specs.Prelude.{Some, count_by, sum_by, slice_get, filter, ◌==◌}
-use Rattle.std.proofs.lemmas.List.Sums.{sum_by-cons}
+-- The rows of the moves, as requests change the histories.
+use Rattle.std.proofs.Common.{◌≡◌, ◌<◌, ◌≤◌, ◌⊎◌, inl, inr, ℕ, zero, suc, ◌+◌, ◌-◌, length, List, [], ◌∷◌, ◌++◌, refl, sym, ap, ◌∙◌, subst, arith, true, false, Bool, cond, map, length-append, append_assoc}
+use Rattle.std.specs.Prelude.{Some, None, slice_get, slice_set}
 use Rattle.thes_base.specs.declared.data.History.{History}
 use Rattle.thes_base.specs.declared.data.Move.{Move}
-use Rattle.thes_base.specs.Resources.{numbered}
-use Rattle.thes_base.specs.Postings.{move_count}
-use Rattle.thes_base.specs.Legal.{AllMoves, HasMove}
-use Rattle.thes_base.proofs.ListedLemmas.{NumberedFrom, numbered_from}
-use Rattle.thes_rows.specs.declared.rows.MoveRow.{MoveRow}
-use Rattle.thes_rows.specs.Tables.{IsIn, step_of, moves_of}
-use Rattle.thes_tables.specs.Rules.{EachRow}
+use Rattle.thes_base.specs.Resources.{numbered, set_numbered}
+use Rattle.thes_base.specs.Postings.{place, moved, moved_those, moves_along, move_count, stands_at}
+use Rattle.thes_base.specs.Legal.{LegalPostings, AllMoves}
+use Rattle.thes_base.proofs.NumberedLemmas.{push_old, push_new, push_cases, numbered_bound, set_cases, set_same, set_other}
+use Rattle.thes_base.proofs.MoveLemmas.{numbered_moved, slice_forward, MovedAt, rank, place_moved}
+use Rattle.std.proofs.lemmas.Option.{same_Some}
+use Rattle.thes_base.proofs.ListedLemmas.{NumberedFrom}
+use Rattle.thes_tables.specs.declared.rows.PostingRow.{PostingRow}
+use Rattle.thes_tables.specs.declared.rows.MoveRow.{MoveRow}
+use Rattle.thes_tables.specs.Tables.{IsIn, IsMoveOf, AreMoves, Rises, step_of, posting_row}
+use Rattle.thes_tables.specs.Rows.{with_posting, placed_row, moved_row}
+use Rattle.thes_tables.specs.Changes.{new_moves, move_row}
+use Rattle.std.proofs.lemmas.Bool.{cases_Bool, cases_eq}
+use Rattle.thes_tables.proofs.Sets.{clash, in_append, in_map, map_in, append_left, append_right}
 
--- the rows of a posting
-abbrev own : ℕ → List MoveRow → List MoveRow
-own n rows = filter (λ (row : MoveRow). row.posting == n) rows
+-- Orders of numbers.
 
--- the first row is the posting's, or another's
-pub hit_is : (n : ℕ) (m : MoveRow) (rows : List MoveRow) → eqb m.posting n ≡ true → moves_of n (m ∷ rows) ≡ step_of m ∷ moves_of n rows
-hit_is n m rows e = ap (λ b. map step_of (cond b (m ∷ own n rows) (own n rows))) e
+pub rises_append : (above bound : ℕ) (xs ys : List MoveRow) → Rises above xs → above ≤ bound → ((row : MoveRow) → IsIn row xs → row.number ≤ bound) → Rises bound ys → Rises above (xs ++ ys)
+rises_append above bound [] [] r least most ys = tt
+rises_append above bound [] (y ∷ ys) r least most up = ((let u = up.0 in omega (arith, u, least)), up.1)
+rises_append above bound (x ∷ xs) ys r least most up = (r.0, rises_append x.number bound xs ys r.1 (most x (inl refl)) (λ row h. most row (inr h)) up)
 
-pub miss_is : (n : ℕ) (m : MoveRow) (rows : List MoveRow) → eqb m.posting n ≡ false → moves_of n (m ∷ rows) ≡ moves_of n rows
-miss_is n m rows e = ap (λ b. map step_of (cond b (m ∷ own n rows) (own n rows))) e
+-- A move among all moves of a history.
 
--- A move of a posting has a row, and the other way round.
+pub in_all : (P : Move → Type 0) (m : Move) (moves : List Move) → AllMoves P moves → IsIn m moves → P m
+in_all P m [] all h = absurd h
+in_all P m (x ∷ moves) all (inl e) = let Q : Move → Type 0 = P in subst Q (sym e) all.0
+in_all P m (x ∷ moves) all (inr h) = in_all P m moves all.1 h
 
-pub row_of_move : (n : ℕ) (m : Move) (rows : List MoveRow) → IsIn m (moves_of n rows) → (row : MoveRow) × IsIn row rows × (row.posting ≡ n) × (step_of row ≡ m)
-row_of_move n m [] h = absurd h
-row_of_move n m (x ∷ rows) h = either (λ g. row_of_move n m rows g) (cases_Bool (eqb x.posting n))
+-- What passes, at its place, with its new row.
+
+module _ (passes : History → Bool) (target : ℕ) where
+  abbrev row_at : ℕ → History → MoveRow
+  row_at number h = record { number = number; posting = h.number; source = place h; target = target }
+
+  rows_yes : (number : ℕ) (h : History) (hs : List History) → passes h ≡ true → new_moves passes target number (h ∷ hs) ≡ row_at number h ∷ new_moves passes target (number + 1) hs
+  rows_yes number h hs e = ap (λ b. cond b (row_at number h ∷ new_moves passes target (number + 1) hs) (new_moves passes target number hs)) e
+
+  rows_no : (number : ℕ) (h : History) (hs : List History) → passes h ≡ false → new_moves passes target number (h ∷ hs) ≡ new_moves passes target number hs
+  rows_no number h hs e = ap (λ b. cond b (row_at number h ∷ new_moves passes target (number + 1) hs) (new_moves passes target number hs)) e
+
+  pub rises_new : (number bound : ℕ) (hs : List History) → bound < number → Rises bound (new_moves passes target number hs)
+  rises_new number bound [] lt = tt
+  rises_new number bound (h ∷ hs) lt = elim (cases_Bool (passes h)) [
+    | inl hit ↦ subst (Rises bound) (sym (rows_yes number h hs hit)) (lt, rises_new (number + 1) number hs (omega arith))
+    | inr miss ↦ subst (Rises bound) (sym (rows_no number h hs miss)) (rises_new number bound hs lt)
+  ]
+
+  -- a new row is that of a history that passes
+  pub new_cases : (number : ℕ) (hs : List History) (row : MoveRow) → IsIn row (new_moves passes target number hs) → (i : ℕ) × (h : History) × (slice_get hs i ≡ Some h) × (passes h ≡ true) × (row ≡ row_at (number + rank passes hs i) h)
+  new_cases number [] row m = absurd m
+  new_cases number (h ∷ hs) row m = elim (cases_Bool (passes h)) [
+    | inl hit ↦ elim (subst (IsIn row) (rows_yes number h hs hit) m) [
+      | inl e ↦ (0, h, refl, hit, e ∙ ap (λ n. row_at n h) (let q : number ≡ number + 0 = omega arith in q))
+      | inr later ↦ let r = new_cases (number + 1) hs row later in (suc r.0, r.1, r.2, r.3, r.4 ∙ ap (λ n. row_at n r.1) (let c = ap {B = ℕ} (λ b. cond b 1 0) hit in omega (arith, c)))
+    ]
+    | inr miss ↦ let r = new_cases number hs row (subst (IsIn row) (rows_no number h hs miss) m) in (suc r.0, r.1, r.2, r.3, r.4 ∙ ap (λ n. row_at n r.1) (let c = ap {B = ℕ} (λ b. cond b 1 0) miss in omega (arith, c)))
+  ]
+
+  pub new_at : (number : ℕ) (hs : List History) (i : ℕ) (h : History) → slice_get hs i ≡ Some h → passes h ≡ true → IsIn (row_at (number + rank passes hs i) h) (new_moves passes target number hs)
+  new_at number [] i h e hit = absurd (cc)
+  new_at number (x ∷ hs) zero h e hit =
+      let same : x ≡ h = cc in
+      subst (IsIn (row_at (number + 0) h)) (sym (rows_yes number x hs (ap passes same ∙ hit))) (inl (λ j. row_at ((let q : number + 0 ≡ number = omega arith in q) j) (sym same j)))
+  new_at number (x ∷ hs) (suc i) h e hit = elim (cases_Bool (passes x)) [
+    | inl picks ↦ subst (IsIn (row_at (number + rank passes (x ∷ hs) (suc i)) h)) (sym (rows_yes number x hs picks)) (inr (subst (λ n. IsIn (row_at n h) (new_moves passes target (number + 1) hs)) (let c = ap {B = ℕ} (λ b. cond b 1 0) picks in omega (arith, c)) (new_at (number + 1) hs i h e hit)))
+    | inr miss ↦ subst (IsIn (row_at (number + rank passes (x ∷ hs) (suc i)) h)) (sym (rows_no number x hs miss)) (subst (λ n. IsIn (row_at n h) (new_moves passes target number hs)) (let c = ap {B = ℕ} (λ b. cond b 1 0) miss in omega (arith, c)) (new_at number hs i h e hit))
+  ]
+
+push_in : (m x : Move) (moves : List Move) → IsIn m (moves ++ x ∷ []) → IsIn m moves ⊎ (m ≡ x)
+push_in m x moves h = elim (in_append m moves (x ∷ []) h) [ inl old ↦ inl old | inr new ↦ inr (elim new [ inl e ↦ e | inr h ↦ absurd h ]) ]
+
+module _ (rs : List _) (hs : List History) (legal : LegalPostings rs hs) where
+  -- numbers of moves are no greater than their count
+  pub bounded : (rows : List MoveRow) → AreMoves hs rows → (row : MoveRow) → IsIn row rows → row.number ≤ move_count hs
+  bounded rows are row h = let is = are.sound row h in in_all (λ m. m.number ≤ move_count hs) (step_of row) is.0.moves (legal.numbers.bounded row.posting is.0 is.1) is.2
+
+  -- one move more for each that passes
+  pub moves_more : (passes : History → Bool) (target : ℕ) (rows : List MoveRow) → AreMoves hs rows → AreMoves (moved_those passes target (move_count hs + 1) hs) (rows ++ new_moves passes target (move_count hs + 1) hs)
+  moves_more passes target rows are = record { rises = rises_append 0 (move_count hs) rows (new_moves passes target first hs) are.rises (omega arith) (bounded rows are) (rises_new passes target first (move_count hs) hs (omega arith)); sound = sound; complete = complete }
+    where
+      first : ℕ
+      first = move_count hs + 1
+
+      after : List History
+      after = moved_those passes target first hs
+
+      old_in : (h new : History) (i : ℕ) (m : Move) → MovedAt passes target first hs i h new → IsIn m h.moves → IsIn m new.moves
+      old_in h new i m (inl (hit, k, at, is)) there = subst (λ (x : History). IsIn m x.moves) (sym is) (append_left m h.moves _ there)
+      old_in h new i m (inr (miss, is)) there = subst (λ (x : History). IsIn m x.moves) (sym is) there
+
+      sound : (row : MoveRow) → IsIn row (rows ++ new_moves passes target first hs) → IsMoveOf after row
+      sound row h = elim (in_append row rows (new_moves passes target first hs) h) [ inl old ↦ from_old row (are.sound row old) | inr new ↦ from_new row (new_cases passes target first hs row new) ]
+        where
+          from_old : (row : MoveRow) → IsMoveOf hs row → IsMoveOf after row
+          from_old row (g, at, there) = go row.posting at
+            where
+              go : (n : ℕ) → numbered hs n ≡ Some g → (x : History) × (numbered after n ≡ Some x) × IsIn (step_of row) x.moves
+              go zero e = absurd (cc)
+              go (suc i) e = let f = slice_forward passes target first hs i g e in (f.0, f.1, old_in g f.0 i (step_of row) f.2 there)
+
+          from_new : (row : MoveRow) → (i : ℕ) × (h : History) × (slice_get hs i ≡ Some h) × (passes h ≡ true) × (row ≡ row_at passes target (first + rank passes hs i) h) → IsMoveOf after row
+          from_new row (i, g, e, hit, is) =
+              let f = slice_forward passes target first hs i g e in
+              let n = (legal.sound (suc i) g e).number in
+              let at : numbered after row.posting ≡ Some f.0 = ap (λ (r : MoveRow). numbered after r.posting) is ∙ ap (numbered after) n ∙ f.1 in
+              (f.0, at, there f.0 f.2)
+            where
+              there : (new : History) → MovedAt passes target first hs i g new → IsIn (step_of row) new.moves
+              there new (inl (_, k, at, same)) = subst (λ (x : History). IsIn (step_of row) x.moves) (sym same) (append_right (step_of row) g.moves _ (inl (ap step_of is ∙ (λ j. record { number = sym at j; source = place g; target = target }))))
+              there new (inr (miss, same)) = clash (passes g) hit miss
+
+      complete : (row : MoveRow) → IsMoveOf after row → IsIn row (rows ++ new_moves passes target first hs)
+      complete row (new, at, there) = go row.posting refl at
+        where
+          go : (n : ℕ) → row.posting ≡ n → numbered after n ≡ Some new → IsIn row (rows ++ new_moves passes target first hs)
+          go zero p e = absurd (cc)
+          go (suc i) p e = let was = numbered_moved passes target first hs (suc i) new e in from was.0 was.1 (slice_forward passes target first hs i was.0 was.1)
+            where
+              from : (g : History) → slice_get hs i ≡ Some g → (x : History) × (slice_get after i ≡ Some x) × MovedAt passes target first hs i g x → IsIn row (rows ++ new_moves passes target first hs)
+              from g eg (x, ex, how) = each how
+                where
+                  same : new ≡ x
+                  same = same_Some _ _ (sym e ∙ ex)
+
+                  at_old : numbered hs row.posting ≡ Some g
+                  at_old = ap (numbered hs) p ∙ eg
+
+                  each : MovedAt passes target first hs i g x → IsIn row (rows ++ new_moves passes target first hs)
+                  each (inl (hit, k, num, is)) =
+                      elim (push_in (step_of row) (record { number = k; source = place g; target = target }) g.moves (subst (λ (y : History). IsIn (step_of row) y.moves) (same ∙ is) there)) [
+                        | inl old ↦ append_left row rows _ (are.complete row (g, at_old, old))
+                        | inr mine ↦
+                            let n = (legal.sound (suc i) g eg).number in
+                            let whole : row_at passes target (first + rank passes hs i) g ≡ row = λ j. record { number = (sym num ∙ sym (ap (λ (m : Move). m.number) mine)) j; posting = (n ∙ sym p) j; source = sym (ap (λ (m : Move). m.source) mine) j; target = sym (ap (λ (m : Move). m.target) mine) j } in
+                            append_right row rows _ (subst (λ r. IsIn r (new_moves passes target first hs)) whole (new_at passes target first hs i g eg hit))
+                      ]
+                  each (inr (miss, is)) = append_left row rows _ (are.complete row (g, at_old, subst (λ (y : History). IsIn (step_of row) y.moves) (same ∙ is) there))
+
+-- moves along a way rise
+pub rises_along : (posting above number from : ℕ) (way : List ℕ) → above < number → Rises above (map (move_row posting) (moves_along number from way))
+rises_along posting above number from [] less = tt
+rises_along posting above number from (n ∷ way) less = (less, rises_along posting number (number + 1) n way (omega arith))
+
+-- one history more, with its moves
+module _ (rs : List _) (hs : List History) (legal : LegalPostings rs hs) (h : History) (is_next : h.number ≡ length hs + 1) where
+  abbrev rows_of : List MoveRow
+  rows_of = map (move_row h.number) h.moves
+
+  pub moves_posted : (rows : List MoveRow) → Rises (move_count hs) rows_of → AreMoves hs rows → AreMoves (hs ++ h ∷ []) (rows ++ rows_of)
+  moves_posted rows rising are = record {
+    rises = rises_append 0 (move_count hs) rows rows_of are.rises (omega arith) (bounded rs hs legal rows are) rising;
+    sound = λ row m. elim (in_append row rows rows_of m) [
+      | inl old ↦ let is = are.sound row old in (is.0, push_old hs h is.0 row.posting is.1, is.2)
+      | inr new ↦ let from = in_map (move_row h.number) row h.moves new in (h, here row (ap (λ (r : MoveRow). r.posting) from.2), subst (λ (m : Move). IsIn m h.moves) (sym (ap step_of from.2)) from.1)
+    ];
+    complete = λ row is. elim (push_cases hs h is.0 row.posting is.1) [
+      | inl old ↦ append_left row rows rows_of (are.complete row (is.0, old, is.2))
+      | inr new ↦ append_right row rows rows_of (mine row (new.0 ∙ sym is_next) (subst (λ (g : History). IsIn (step_of row) g.moves) new.1 is.2))
+    ];
+  }
+    where
+      here : (row : MoveRow) → row.posting ≡ h.number → numbered (hs ++ h ∷ []) row.posting ≡ Some h
+      here row e = ap (numbered (hs ++ h ∷ [])) (e ∙ is_next) ∙ push_new hs h
+
+      mine : (row : MoveRow) → row.posting ≡ h.number → IsIn (step_of row) h.moves → IsIn row rows_of
+      mine row e there = subst (λ (n : ℕ). IsIn (record row { posting = n }) rows_of) (sym e) (map_in (move_row h.number) (step_of row) h.moves there)
+
+-- a history changed in another part than its moves
+pub moves_set : (hs : List History) (n : ℕ) (h new : History) (rows : List MoveRow) → numbered hs n ≡ Some h → new.moves ≡ h.moves → AreMoves hs rows → AreMoves (set_numbered hs n new) rows
+moves_set hs n h new rows e same are = record {
+  rises = are.rises;
+  sound = λ row m. let is = are.sound row m in sound row is.0 is.1 is.2;
+  complete = λ row is. complete row is.0 is.1 is.2;
+}
   where
-    later : (row : MoveRow) × IsIn row rows × (row.posting ≡ n) × (step_of row ≡ m) → (row : MoveRow) × IsIn row (x ∷ rows) × (row.posting ≡ n) × (step_of row ≡ m)
-    later r = (r.0, inr r.1, r.2, r.3)
+    least : 1 ≤ n
+    least = (numbered_bound hs n h e).0
 
-    either : (IsIn m (moves_of n rows) → (row : MoveRow) × IsIn row rows × (row.posting ≡ n) × (step_of row ≡ m)) → (eqb x.posting n ≡ true) ⊎ (eqb x.posting n ≡ false) → (row : MoveRow) × IsIn row (x ∷ rows) × (row.posting ≡ n) × (step_of row ≡ m)
-    either ih (inl hit) = elim (subst (IsIn m) (hit_is n x rows hit) h) [
-      | inl e ↦ (x, inl refl, eqb-true x.posting n hit, sym e)
-      | inr g ↦ later (ih g)
-    ]
-    either ih (inr miss) = later (ih (subst (IsIn m) (miss_is n x rows miss) h))
-
-pub move_of_row : (rows : List MoveRow) (row : MoveRow) → IsIn row rows → IsIn (step_of row) (moves_of row.posting rows)
-move_of_row [] row h = absurd h
-move_of_row (x ∷ rows) row (inl e) =
-    subst (IsIn (step_of row)) (sym (hit_is row.posting x rows (eq-eqb x.posting row.posting (ap (λ (y : MoveRow). y.posting) (sym e))))) (inl (ap step_of e))
-move_of_row (x ∷ rows) row (inr h) =
-    let there = move_of_row rows row h in
-    elim (cases_Bool (eqb x.posting row.posting)) [
-      | inl hit ↦ subst (IsIn (step_of row)) (sym (hit_is row.posting x rows hit)) (inr there)
-      | inr miss ↦ subst (IsIn (step_of row)) (sym (miss_is row.posting x rows miss)) there
+    sound : (row : MoveRow) (g : History) → numbered hs row.posting ≡ Some g → IsIn (step_of row) g.moves → IsMoveOf (set_numbered hs n new) row
+    sound row g at there = elim (cases_eq row.posting n) [
+      | inl here ↦
+          let is : g ≡ h = same_Some _ _ (sym at ∙ ap (numbered hs) here ∙ e) in
+          (new, ap (numbered (set_numbered hs n new)) here ∙ set_same hs new h n e, subst (IsIn (step_of row)) (ap (λ (x : History). x.moves) is ∙ sym same) there)
+      | inr other ↦ (g, set_other hs new g n row.posting least other at, there)
     ]
 
-pub has_of_in : (m : Move) (moves : List Move) → IsIn m moves → HasMove m.number moves
-has_of_in m [] h = absurd h
-has_of_in m (x ∷ moves) (inl e) = inl (ap (λ (y : Move). y.number) (sym e))
-has_of_in m (x ∷ moves) (inr h) = inr (has_of_in m moves h)
-
-pub in_of_has : (k : ℕ) (moves : List Move) → HasMove k moves → (m : Move) × IsIn m moves × (m.number ≡ k)
-in_of_has k [] h = absurd h
-in_of_has k (x ∷ moves) (inl e) = (x, inl refl, e)
-in_of_has k (x ∷ moves) (inr h) = let r = in_of_has k moves h in (r.0, inr r.1, r.2)
-
-pub all_of_in : (P : Move → Type 0) (moves : List Move) → ((m : Move) → IsIn m moves → P m) → AllMoves P moves
-all_of_in P [] each = tt
-all_of_in P (m ∷ moves) each = (each m (inl refl), all_of_in P moves (λ x h. each x (inr h)))
-
--- Each row counts for one posting: there are as many rows as moves.
-
-none_of : (k p : ℕ) (hs : List History) → NumberedFrom k hs → p < k → count_by (λ h. eqb p h.number) hs ≡ 0
-none_of k p [] num lt = refl
-none_of k p (h ∷ hs) num lt =
-    let a = sum_by-cons (λ (x : History). cond (eqb p x.number) 1 0) h hs in
-    let ih = none_of (k + 1) p hs num.1 (omega arith) in
-    let q : cond {A = ℕ} (eqb p h.number) 1 0 ≡ 0 = ap (λ b. cond {A = ℕ} b 1 0) (ne_eqb p h.number (λ e. let n = num.0 in omega (arith, n, e))) in
-    omega (arith, a, ih, q)
-
-one_of : (k p : ℕ) (hs : List History) → NumberedFrom k hs → k ≤ p → p < k + length hs → count_by (λ h. eqb p h.number) hs ≡ 1
-one_of k p [] num le lt = absurd (omega arith)
-one_of k p (h ∷ hs) num le lt =
-    let a = sum_by-cons (λ (x : History). cond (eqb p x.number) 1 0) h hs in
-    let n = num.0 in
-    elim (cases_Bool (eqb p h.number)) [
-      | inl e ↦
-          let same = eqb-true p h.number e in
-          let ih = none_of (k + 1) p hs num.1 (omega (arith, same, n)) in
-          let q : cond {A = ℕ} (eqb p h.number) 1 0 ≡ 1 = ap (λ b. cond {A = ℕ} b 1 0) e in
-          omega (arith, a, ih, q)
-      | inr e ↦
-          let differ : p ≡ k → ⊥ = λ s. eqb-false p h.number e (s ∙ sym n) in
-          let above : k + 1 ≤ p = omega (arith, differ) in
-          let ih = one_of (k + 1) p hs num.1 above (omega arith) in
-          let q : cond {A = ℕ} (eqb p h.number) 1 0 ≡ 0 = ap (λ b. cond {A = ℕ} b 1 0) e in
-          omega (arith, a, ih, q)
+    complete : (row : MoveRow) (g : History) → numbered (set_numbered hs n new) row.posting ≡ Some g → IsIn (step_of row) g.moves → IsIn row rows
+    complete row g at there = elim (set_cases hs new g n row.posting least at) [
+      | inl here ↦ are.complete row (h, ap (numbered hs) here.0 ∙ e, subst (IsIn (step_of row)) (ap (λ (x : History). x.moves) here.1 ∙ same) there)
+      | inr other ↦ are.complete row (g, other.1, there)
     ]
 
-sum_none : (hs : List History) → sum_by (λ (h : History). length (moves_of h.number [])) hs ≡ 0
-sum_none [] = refl
-sum_none (h ∷ hs) = let a = sum_by-cons (λ (x : History). length (moves_of x.number [])) h hs in let ih = sum_none hs in omega (arith, a, ih)
+-- The rows of posting.
 
-sum_more : (m : MoveRow) (rows : List MoveRow) (hs : List History) → sum_by (λ (h : History). length (moves_of h.number (m ∷ rows))) hs ≡ count_by (λ h. eqb m.posting h.number) hs + sum_by (λ (h : History). length (moves_of h.number rows)) hs
-sum_more m rows [] = refl
-sum_more m rows (h ∷ hs) =
-    let a = sum_by-cons (λ (x : History). length (moves_of x.number (m ∷ rows))) h hs in
-    let b = sum_by-cons (λ (x : History). length (moves_of x.number rows)) h hs in
-    let c = sum_by-cons (λ (x : History). cond (eqb m.posting x.number) 1 0) h hs in
-    let ih = sum_more m rows hs in
-    let one = split (eqb m.posting h.number) in
-    omega (arith, a, b, c, ih, one)
-  where
-    split : (b : Bool) → length (map step_of (cond b (m ∷ own h.number rows) (own h.number rows))) ≡ cond b 1 0 + length (moves_of h.number rows)
-    split true = let e : suc (length (moves_of h.number rows)) ≡ 1 + length (moves_of h.number rows) = omega arith in e
-    split false = let e : length (moves_of h.number rows) ≡ 0 + length (moves_of h.number rows) = omega arith in e
+pub map_get : {A B : Type 0} (f : A → B) (xs : List A) (i : ℕ) (x : A) → slice_get xs i ≡ Some x → slice_get (map f xs) i ≡ Some (f x)
+map_get f [] i x e = absurd (cc)
+map_get f (y ∷ xs) zero x e = ap (λ z. Some (f z)) (same_Some _ _ e)
+map_get f (y ∷ xs) (suc i) x e = map_get f xs i x e
 
-sum_rows : (rows : List MoveRow) (hs : List History) → NumberedFrom 1 hs → EachRow (λ (m : MoveRow). (1 ≤ m.posting) × (m.posting ≤ length hs)) rows → length rows ≡ sum_by (λ (h : History). length (moves_of h.number rows)) hs
-sum_rows [] hs num known = sym (sum_none hs)
-sum_rows (m ∷ rows) hs num known =
-    let a = sum_more m rows hs in
-    let k = known m (inl refl) in
-    let one = one_of 1 m.posting hs num k.0 (let q = k.1 in omega (arith, q)) in
-    let ih = sum_rows rows hs num (λ x h. known x (inr h)) in
-    omega (arith, a, one, ih)
+pub map_numbered : {A B : Type 0} (f : A → B) (xs : List A) (n : ℕ) (x : A) → numbered xs n ≡ Some x → numbered (map f xs) n ≡ Some (f x)
+map_numbered f xs zero x e = absurd (cc)
+map_numbered f xs (suc n) x e = map_get f xs n x e
 
-sum_each : (rows : List MoveRow) (hs : List History) → ((i : ℕ) (h : History) → slice_get hs i ≡ Some h → h.moves ≡ moves_of h.number rows) → move_count hs ≡ sum_by (λ (h : History). length (moves_of h.number rows)) hs
-sum_each rows [] each = refl
-sum_each rows (h ∷ hs) each =
-    let a = sum_by-cons (λ (x : History). length x.moves) h hs in
-    let b = sum_by-cons (λ (x : History). length (moves_of x.number rows)) h hs in
-    let e = ap (length {A = Move}) (each 0 h refl) in
-    let ih = sum_each rows hs (λ i x at. each (suc i) x at) in
-    omega (arith, a, b, e, ih)
+pub with_at : (f : PostingRow → PostingRow) (n : ℕ) (rows : List PostingRow) (row : PostingRow) → numbered rows n ≡ Some row → with_posting f n rows ≡ set_numbered rows n (f row)
+with_at f n rows row e = ap (λ o. elim o [ None ↦ rows | Some r ↦ set_numbered rows n (f r) ]) e
 
-pub counted : (rows : List MoveRow) (hs : List History) → ((n : ℕ) (h : History) → numbered hs n ≡ Some h → h.number ≡ n) → EachRow (λ (m : MoveRow). (1 ≤ m.posting) × (m.posting ≤ length hs)) rows → ((n : ℕ) (h : History) → numbered hs n ≡ Some h → h.moves ≡ moves_of h.number rows) → length rows ≡ move_count hs
-counted rows hs number known each =
-    let num = numbered_from 1 hs (λ i h e. let q = number (suc i) h e in omega (arith, q)) in
-    sum_rows rows hs num known ∙ sym (sum_each rows hs (λ i h e. each (suc i) h e))
+-- all that stand at the source
+pub rows_moved : (source target number : ℕ) (hs : List History) → map (moved_row source target) (map posting_row hs) ≡ map posting_row (moved_those (stands_at source) target number hs)
+rows_moved source target number [] = refl
+rows_moved source target number (h ∷ hs) = elim (cases_Bool (stands_at source h)) [
+  | inl hit ↦ (λ i. (ap (λ b. cond b (placed_row target (posting_row h)) (posting_row h)) hit ∙ ap (λ (p : ℕ). record (posting_row h) { place = p }) (sym (place_moved number target h))) i ∷ rows_moved source target (number + 1) hs i) ∙ sym (ap (map posting_row) (ap (λ b. cond b (moved number target h ∷ moved_those (stands_at source) target (number + 1) hs) (h ∷ moved_those (stands_at source) target number hs)) hit))
+  | inr miss ↦ (λ i. ap (λ b. cond b (placed_row target (posting_row h)) (posting_row h)) miss i ∷ rows_moved source target number hs i) ∙ sym (ap (map posting_row) (ap (λ b. cond b (moved number target h ∷ moved_those (stands_at source) target (number + 1) hs) (h ∷ moved_those (stands_at source) target number hs)) miss))
+]
+
+-- One after another.
+
+abbrev pub placed_all : List MoveRow → List PostingRow → List PostingRow
+placed_all [] rows = rows
+placed_all (m ∷ ms) rows = placed_all ms (with_posting (placed_row m.target) m.posting rows)
+
+pub get_at : {A : Type 0} (pre : List A) (x : A) (rest : List A) → slice_get (pre ++ x ∷ rest) (length pre) ≡ Some x
+get_at [] x rest = refl
+get_at (y ∷ pre) x rest = get_at pre x rest
+
+set_at : {A : Type 0} (pre : List A) (x y : A) (rest : List A) → slice_set (pre ++ x ∷ rest) (length pre) y ≡ pre ++ y ∷ rest
+set_at [] x y rest = refl
+set_at (z ∷ pre) x y rest = ap (λ l. z ∷ l) (set_at pre x y rest)
+
+with_here : (f : PostingRow → PostingRow) (n : ℕ) (pre : List PostingRow) (row : PostingRow) (rest : List PostingRow) → n ≡ length pre + 1 → with_posting f n (pre ++ row ∷ rest) ≡ pre ++ f row ∷ rest
+with_here f n pre row rest e =
+    with_at f n (pre ++ row ∷ rest) row (ap (numbered (pre ++ row ∷ rest)) (e ∙ (let q : length pre + 1 ≡ suc (length pre) = omega arith in q)) ∙ get_at pre row rest)
+    ∙ ap (λ i. slice_set (pre ++ row ∷ rest) i (f row)) (let q : n - 1 ≡ length pre = omega (arith, e) in q) ∙ set_at pre row (f row) rest
+
+module _ (passes : History → Bool) (target : ℕ) where
+  pub rows_placed : (number : ℕ) (pre : List PostingRow) (hs : List History) → NumberedFrom (length pre + 1) hs → placed_all (new_moves passes target number hs) (pre ++ map posting_row hs) ≡ pre ++ map posting_row (moved_those passes target number hs)
+  rows_placed number pre [] from = refl
+  rows_placed number pre (h ∷ hs) from = elim (cases_Bool (passes h)) [
+    | inl hit ↦
+        ap (λ ms. placed_all ms (pre ++ posting_row h ∷ map posting_row hs)) (rows_yes passes target number h hs hit)
+        ∙ ap (placed_all (new_moves passes target (number + 1) hs)) (with_here (placed_row target) h.number pre (posting_row h) (map posting_row hs) from.0 ∙ sym (append_assoc pre (placed_row target (posting_row h) ∷ []) (map posting_row hs)))
+        ∙ rows_placed (number + 1) (pre ++ placed_row target (posting_row h) ∷ []) hs (onward (placed_row target (posting_row h)))
+        ∙ append_assoc pre (placed_row target (posting_row h) ∷ []) (map posting_row (moved_those passes target (number + 1) hs))
+        ∙ ap (λ (p : ℕ). let r : PostingRow = record (posting_row h) { place = p } in pre ++ r ∷ map posting_row (moved_those passes target (number + 1) hs)) (sym (place_moved number target h))
+        ∙ sym (ap (λ l. pre ++ map posting_row l) (ap (λ b. cond b (moved number target h ∷ moved_those passes target (number + 1) hs) (h ∷ moved_those passes target number hs)) hit))
+    | inr miss ↦
+        ap (λ ms. placed_all ms (pre ++ posting_row h ∷ map posting_row hs)) (rows_no passes target number h hs miss)
+        ∙ ap (placed_all (new_moves passes target number hs)) (sym (append_assoc pre (posting_row h ∷ []) (map posting_row hs)))
+        ∙ rows_placed number (pre ++ posting_row h ∷ []) hs (onward (posting_row h))
+        ∙ append_assoc pre (posting_row h ∷ []) (map posting_row (moved_those passes target number hs))
+        ∙ sym (ap (λ l. pre ++ map posting_row l) (ap (λ b. cond b (moved number target h ∷ moved_those passes target (number + 1) hs) (h ∷ moved_those passes target number hs)) miss))
+  ]
+    where
+      onward : (row : PostingRow) → NumberedFrom (length (pre ++ row ∷ []) + 1) hs
+      onward row = subst (λ n. NumberedFrom n hs) (let l = length-append pre (row ∷ []) in omega (arith, l)) from.1

@@ -1,3 +1,6 @@
-pub mod Rules
-pub mod Loads
-pub mod Laws
+pub mod Tables
+pub mod Rows
+pub mod Cells
+pub mod Changes
+pub mod Leads
+pub mod OldRows

@@ -1,4 +1,9 @@
-//! Which rows are those of a legal state, and which table of others is the first that is faulty.
+//! The tables in which a state is kept, and how requests change them.
 #![tactic(auto)]
 
+pub mod cells;
+pub mod change;
+pub mod delta;
 pub mod laws;
+pub mod numbers;
+pub mod rows;

@@ -3,7 +3,7 @@ use Rattle.std.proofs.Common.{◌≡◌, ◌∙◌, List, [], ◌∷◌, Ok, Err
 use Rattle.std.specs.Prelude.{Option, Result}
 use Rattle.thes_base.specs.declared.fault.Fault.{Fault}
 use Rattle.thes_base.specs.declared.fault.Table.{Table}
-use Rattle.thes_rows.specs.declared.cells.Cell.{Cell}
+use Rattle.thes_tables.specs.declared.cells.Cell.{Cell}
 use Rattle.thes_store.specs.Handing.{Takes, TakesSome, Hands}
 use Rattle.thes_watch.specs.Passing.{Passes}
 use Rattle.thes_watch.specs.declared.counting.Counting.{Counting}

@@ -2,7 +2,7 @@
 use Rattle.std.specs.Prelude.{◌≡◌, List, Option, Result}
 use Rattle.thes_base.specs.declared.fault.Fault.{Fault}
 use Rattle.thes_base.specs.declared.fault.Table.{Table}
-use Rattle.thes_rows.specs.declared.cells.Cell.{Cell}
+use Rattle.thes_tables.specs.declared.cells.Cell.{Cell}
 use Rattle.thes_watch.specs.declared.counting.Counting.{Counting}
 
 module _ {S P : Type 0} (gives : S → Table × Option (List Cell) → Result (Unit {0}) Fault → S → Type 0) where

@@ -1,8 +1,8 @@
 //! A sink that counts the rows that it passes on.
 use crate::progress::Progress;
 use thes_base::fault::{Fault, Table};
-use thes_rows::cells::Cell;
 use thes_store::sink::RowSink;
+use thes_tables::cells::Cell;
 
 /// Passes rows on to a sink, and tells how many there were.
 pub(crate) struct Counting<'a, S, P> {

@@ -7,10 +7,10 @@ use std::marker::Model;
 use thes_base::fault::Fault;
 use thes_base::number::{PostNo, ResNo};
 use thes_base::text::Key;
-use thes_rows::delta::Delta;
-use thes_rows::rows::PostingRow;
 use thes_store::keeper::{Keeper, Posting};
 use thes_store::sink::{PostingSink, RowSink};
+use thes_tables::delta::Delta;
+use thes_tables::rows::PostingRow;
 
 /// A keeper that tells how many rows it has handed out, and how many postings it was asked for. A contract sees it as the
 /// keeper that does the work.

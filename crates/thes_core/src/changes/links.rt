@@ -11,10 +11,10 @@ ghost use Rattle.thes_core.specs.Deltas.{joined_link, taken_rows};
 ghost use Rattle.thes_core.specs.Requests.{Allows, AreMeant};
 ghost use Rattle.thes_core.specs.View.{state_of};
 ghost use Rattle.thes_graph.specs.Reading.{IsRow};
-ghost use Rattle.thes_rows.specs.declared.change.Change.TheVariants as change;
-ghost use Rattle.thes_rows.specs.Changes.{add_link, drop_link};
-ghost use Rattle.thes_rows.specs.Leads.{Leads};
-ghost use Rattle.thes_rows.specs.Tables.{IsIn, Lists};
+ghost use Rattle.thes_tables.specs.declared.change.Change.TheVariants as change;
+ghost use Rattle.thes_tables.specs.Changes.{add_link, drop_link};
+ghost use Rattle.thes_tables.specs.Leads.{Leads};
+ghost use Rattle.thes_tables.specs.Tables.{IsIn, Lists};
 ghost use Rattle.thes_vocab.specs.LabelData.{AreLabelsOf};
 ghost use Rattle.thes_vocab.specs.Taken.{taken};
 
@@ -28,9 +28,9 @@ use thes_base::data::{Label, LabelValue, Link};
 use thes_base::number::ResNo;
 use thes_graph::judge::in_order;
 use thes_graph::links::Links;
-use thes_rows::change::Change;
-use thes_rows::delta::Delta;
-use thes_rows::rows::LabelRow;
+use thes_tables::change::Change;
+use thes_tables::delta::Delta;
+use thes_tables::rows::LabelRow;
 
 // These links leave the tables.
 fn push_going(delta: &mut Delta, links: &[Link]) -> Result<(), AllocError>

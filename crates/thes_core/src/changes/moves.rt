@@ -7,8 +7,8 @@ ghost use Rattle.thes_core.specs.Deltas.{moves_from, placed_at};
 ghost use Rattle.thes_core.specs.Requests.{Allows};
 ghost use Rattle.thes_core.specs.View.{state_of};
 ghost use Rattle.thes_post.specs.Sums.{AreSums};
-ghost use Rattle.thes_rows.specs.declared.change.Change.TheVariants as change;
-ghost use Rattle.thes_rows.specs.Changes.{changes_of, move_row};
+ghost use Rattle.thes_tables.specs.declared.change.Change.TheVariants as change;
+ghost use Rattle.thes_tables.specs.Changes.{changes_of, move_row};
 
 use crate::thesaurus::Thesaurus;
 use std::alloc::AllocError;
@@ -16,9 +16,9 @@ use thes_base::data::{Resource, ResourceKind};
 use thes_base::number::{MoveNo, PostNo, ResNo};
 use thes_base::text::{Key, RecordName, Tag, Text};
 use thes_post::rising::sorted;
-use thes_rows::change::Change;
-use thes_rows::delta::Delta;
-use thes_rows::rows::{MoveRow, PostingRow};
+use thes_tables::change::Change;
+use thes_tables::delta::Delta;
+use thes_tables::rows::{MoveRow, PostingRow};
 
 // The items, as long as there is a number for a move of each from the first one on; else none of them.
 pub(super) fn numbered<T>(first: u64, items: &[T]) -> &[T]

@@ -1,7 +1,7 @@
 use Rattle.std.proofs.Common.{◌∙◌, None, subst}
 use Rattle.thes_base.specs.Forms.{IsBase}
-use Rattle.thes_rows.specs.Cells.{listed}
-use Rattle.thes_rows.specs.Tables.{Tables}
+use Rattle.thes_tables.specs.Cells.{listed}
+use Rattle.thes_tables.specs.Tables.{Tables}
 use Rattle.thes_cli.specs.Streams.{streams}
 use Rattle.thes_cli.specs.Work.{Works}
 use Rattle.thes_cli.proofs.NewStoreLemmas.{works_in_memory}

@@ -4,7 +4,7 @@ use Rattle.thes_base.specs.Postings.{place}
 use Rattle.thes_base.specs.Refusals.{IsKnownPosting}
 use Rattle.thes_post.proofs.EachLemmas.{each_at, each_more}
 use Rattle.thes_post.proofs.JudgeLemmas.{passes_more, passes_never}
-use Rattle.thes_rows.specs.declared.rows.PostingRow.{PostingRow}
+use Rattle.thes_tables.specs.declared.rows.PostingRow.{PostingRow}
 use Rattle.thes_core.proofs.FactLemmas.{named_at, row_found, row_missing}
 use Rattle.thes_core.proofs.named.judge_named.Goals as goal
 

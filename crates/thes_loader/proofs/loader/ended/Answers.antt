@@ -1,7 +1,7 @@
 use Rattle.std.proofs.Common.{◌≤◌, sym, subst}
-use Rattle.thes_load.specs.declared.stage.Stage.{Stage}
-use Rattle.thes_load.specs.declared.stage.Stage.TheVariants as stage
-use Rattle.thes_load.specs.Progress.{table_no, stage_table}
+use Rattle.thes_load_rows.specs.declared.stage.Stage.{Stage}
+use Rattle.thes_load_rows.specs.declared.stage.Stage.TheVariants as stage
+use Rattle.thes_load_rows.specs.Progress.{table_no, stage_table}
 use Rattle.thes_loader.specs.Feeding.{Follows}
 use Rattle.thes_loader.proofs.Turns.{in_turn, stopped_follows, stopped_of_rows}
 use Rattle.thes_loader.proofs.loader.ended.Goals as goal

@@ -1,7 +1,7 @@
 use Rattle.std.proofs.Common.{List, Vec, Global, sym, subst, rules}
 use Rattle.std.specs.Prelude.{Option, Some}
 use Rattle.std.proofs.lemmas.List.Sorted.{IsNonDecreasingBy-from_sort_by_key}
-use Rattle.thes_rows.specs.declared.cells.Cell.{Cell}
+use Rattle.thes_tables.specs.declared.cells.Cell.{Cell}
 use Rattle.thes_loader.specs.Sorted.{first_number, table_of, IsSorted}
 use Rattle.thes_loader.proofs.rows.sort_table.Goals as goal
 

@@ -1,7 +1,7 @@
 use Rattle.std.proofs.Common.{◌≡◌, ◌⊎◌, ◌∙◌, inl, inr}
 use Rattle.std.specs.Prelude.{Err}
 use Rattle.thes_base.specs.declared.fault.Fault.TheVariants as faults
-use Rattle.thes_tables.specs.Loads.{Loads}
+use Rattle.thes_load_rules.specs.Loads.{Loads}
 use Rattle.thes_loader.proofs.Following.{reads_all}
 use Rattle.thes_office.proofs.LoadLemmas.{loaded_copies, verdict_told}
 use Rattle.thes_office.proofs.loading.load.Goals as goal

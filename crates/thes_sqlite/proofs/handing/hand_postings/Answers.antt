@@ -1,7 +1,7 @@
 use Rattle.std.proofs.Common.{List, subst, refl, arith}
 use Rattle.std.proofs.lemmas.List.{take_all}
-use Rattle.thes_rows.specs.declared.rows.PostingRow.{PostingRow}
-use Rattle.thes_rows.specs.Cells.{posting_cells}
+use Rattle.thes_tables.specs.declared.rows.PostingRow.{PostingRow}
+use Rattle.thes_tables.specs.Cells.{posting_cells}
 use Rattle.thes_store.specs.Handing.{Takes}
 use Rattle.thes_store.proofs.Handed.{part_taken, part_refused}
 use Rattle.thes_sqlite.proofs.LookedUp.{row_at, same_length}

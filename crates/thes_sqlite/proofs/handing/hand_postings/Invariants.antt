@@ -1,6 +1,6 @@
 use Rattle.std.proofs.Common.{◌≡◌, List, take, map}
-use Rattle.thes_rows.specs.declared.rows.PostingRow.{PostingRow}
-use Rattle.thes_rows.specs.Cells.{posting_cells}
+use Rattle.thes_tables.specs.declared.rows.PostingRow.{PostingRow}
+use Rattle.thes_tables.specs.Cells.{posting_cells}
 use Rattle.thes_sql.specs.Stored.{values}
 use Rattle.thes_store.specs.Handing.{Takes}
 use Rattle.thes_sqlite.proofs.handing.hand_postings.Given as goal

@@ -1,6 +1,6 @@
 use Rattle.std.proofs.Common.{◌∙◌, [], ◌∷◌, List, subst}
 use Rattle.std.specs.Prelude.{Some}
-use Rattle.thes_rows.specs.declared.cells.Cell.{Cell}
+use Rattle.thes_tables.specs.declared.cells.Cell.{Cell}
 use Rattle.thes_store.specs.Handing.{Hands}
 use Rattle.thes_store.proofs.Handed.{one_handed}
 use Rattle.thes_sqlite.proofs.handing.hand_row.Goals as goal

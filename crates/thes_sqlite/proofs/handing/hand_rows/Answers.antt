@@ -5,7 +5,7 @@ use Rattle.std.proofs.lemmas.Simd.{map-map}
 use Rattle.sqlite.specs.Order.{Row}
 use Rattle.thes_base.specs.declared.fault.Fault.{Fault}
 use Rattle.thes_base.specs.declared.fault.Table.{Table}
-use Rattle.thes_rows.specs.declared.cells.Cell.{Cell}
+use Rattle.thes_tables.specs.declared.cells.Cell.{Cell}
 use Rattle.thes_store.specs.Handing.{Takes, TakesSome, Hands}
 use Rattle.thes_store.proofs.Handed.{takes_next, some_next}
 use Rattle.thes_sqlite.specs.ValueCells.{cell_of}

@@ -1,7 +1,7 @@
 use Rattle.std.proofs.Common.{◌∙◌, map, ap, arith}
 use Rattle.std.proofs.lemmas.List.{take_all}
-use Rattle.thes_rows.specs.Cells.{move_cells}
-use Rattle.thes_rows.specs.Tables.{step_of}
+use Rattle.thes_tables.specs.Cells.{move_cells}
+use Rattle.thes_tables.specs.Tables.{step_of}
 use Rattle.thes_sqlite.proofs.LookedUp.{one_step, same_length}
 use Rattle.thes_sqlite.proofs.rows.read_moves.Goals as goal
 

@@ -1,7 +1,7 @@
 use Rattle.std.proofs.Common.{◌≡◌, List, take, map}
-use Rattle.thes_rows.specs.declared.rows.MoveRow.{MoveRow}
-use Rattle.thes_rows.specs.Cells.{move_cells}
-use Rattle.thes_rows.specs.Tables.{step_of}
+use Rattle.thes_tables.specs.declared.rows.MoveRow.{MoveRow}
+use Rattle.thes_tables.specs.Cells.{move_cells}
+use Rattle.thes_tables.specs.Tables.{step_of}
 use Rattle.thes_sql.specs.Stored.{values}
 use Rattle.thes_sqlite.proofs.rows.read_moves.Given as goal
 

@@ -1,8 +1,8 @@
 use Rattle.std.proofs.Common.{List, subst}
 use Rattle.std.specs.Prelude.{Option}
 use Rattle.thes_base.specs.declared.fault.Table.{Table}
-use Rattle.thes_rows.specs.declared.cells.Cell.{Cell}
-use Rattle.thes_rows.specs.Cells.{listed}
+use Rattle.thes_tables.specs.declared.cells.Cell.{Cell}
+use Rattle.thes_tables.specs.Cells.{listed}
 use Rattle.thes_store.specs.Handing.{Hands}
 use Rattle.thes_store.specs.Room.{tables_of}
 use Rattle.thes_store.proofs.Handed.{all_tables}

@@ -2,7 +2,7 @@ use Rattle.std.proofs.Common.{◌≡◌, ◌+◌, [], ◌∷◌, ◌∙◌, ap, 
 use Rattle.std.specs.Prelude.{Some, Result}
 use Rattle.thes_base.specs.declared.fault.Fault.{Fault}
 use Rattle.thes_base.specs.declared.fault.Table.TheVariants as table
-use Rattle.thes_rows.specs.Cells.{number_cell, resource_cells}
+use Rattle.thes_tables.specs.Cells.{number_cell, resource_cells}
 use Rattle.thes_store.specs.Handing.{Hands}
 use Rattle.thes_store.proofs.Handed.{resource_taken, resource_refused}
 use Rattle.thes_store.proofs.handing.hand_resources.Goals as goal

@@ -1,7 +1,7 @@
 use Rattle.std.proofs.Common.{take, map}
 use Rattle.std.specs.Prelude.{Some}
 use Rattle.thes_base.specs.declared.fault.Table.TheVariants as table
-use Rattle.thes_rows.specs.Cells.{resource_rows}
+use Rattle.thes_tables.specs.Cells.{resource_rows}
 use Rattle.thes_store.specs.Handing.{Takes}
 use Rattle.thes_store.proofs.handing.hand_resources.Given as goal
 

@@ -1,5 +1,5 @@
 use Rattle.std.proofs.Common.{take}
-use Rattle.thes_rows.specs.Cells.{listed}
+use Rattle.thes_tables.specs.Cells.{listed}
 use Rattle.thes_store.specs.Handing.{Takes}
 use Rattle.thes_store.specs.Loading.{handed_tables}
 use Rattle.thes_store.specs.Room.{tables_of}

@@ -1,6 +1,6 @@
 use Rattle.std.proofs.Common.{◌≡◌, ◌≤◌, ◌+◌, length}
-use Rattle.thes_rows.specs.Tables.{Tables}
-use Rattle.thes_rows.specs.Rows.{FitAll}
+use Rattle.thes_tables.specs.Tables.{Tables}
+use Rattle.thes_tables.specs.Rows.{FitAll}
 use Rattle.thes_store.specs.Covers.{Covers}
 use Rattle.thes_store.proofs.Covering.{SoFar}
 use Rattle.thes_store.proofs.indexes.cover_all.Given as goal

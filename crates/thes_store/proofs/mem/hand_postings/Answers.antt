@@ -4,7 +4,7 @@ use Rattle.thes_store.specs.Picked.{passing, picked}
 use Rattle.thes_store.proofs.Places.{picked_append, picked_cons}
 use Rattle.thes_store.proofs.Handed.{part_taken, part_refused}
 use Rattle.thes_store.proofs.mem.hand_postings.Goals as goal
-use Rattle.thes_rows.specs.Tables.{is_standing}
+use Rattle.thes_tables.specs.Tables.{is_standing}
 
 pub loop-place-preserved : goal.loop-place-preserved
 loop-place-preserved g c =

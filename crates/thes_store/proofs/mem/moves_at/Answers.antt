@@ -3,8 +3,8 @@ use Rattle.std.specs.Prelude.{Option, slice_get}
 use Rattle.std.specs.Option.{option_copied}
 use Rattle.std.proofs.lemmas.List.{map-append}
 use Rattle.thes_base.specs.declared.data.Move.{Move}
-use Rattle.thes_rows.specs.declared.rows.MoveRow.{MoveRow}
-use Rattle.thes_rows.specs.Tables.{step_of}
+use Rattle.thes_tables.specs.declared.rows.MoveRow.{MoveRow}
+use Rattle.thes_tables.specs.Tables.{step_of}
 use Rattle.thes_store.specs.Picked.{is_move_of, passing, picked}
 use Rattle.thes_store.proofs.Places.{take_one, picked_append, picked_cons}
 use Rattle.thes_store.proofs.mem.moves_at.Goals as goal

@@ -1,5 +1,5 @@
 use Rattle.std.proofs.Common.{◌≡◌, take, map}
-use Rattle.thes_rows.specs.Tables.{step_of}
+use Rattle.thes_tables.specs.Tables.{step_of}
 use Rattle.thes_store.specs.Picked.{is_move_of, picked}
 use Rattle.thes_store.proofs.mem.moves_at.Given as goal
 

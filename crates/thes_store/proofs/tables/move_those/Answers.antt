@@ -1,6 +1,6 @@
 use Rattle.std.proofs.Common.{◌∙◌, ◌∷◌, [], ℕ, List, map, ap, sym}
 use Rattle.std.proofs.lemmas.List.{map-append}
-use Rattle.thes_rows.specs.Rows.{moved_row}
+use Rattle.thes_tables.specs.Rows.{moved_row}
 use Rattle.thes_store.specs.Picked.{with_row, changed_at}
 use Rattle.thes_store.proofs.Moving.{changed_append}
 use Rattle.thes_store.proofs.tables.move_those.Goals as goal

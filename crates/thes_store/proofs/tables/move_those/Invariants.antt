@@ -1,7 +1,7 @@
 use Rattle.std.proofs.Common.{◌≡◌, map}
 use Rattle.std.specs.Prelude.{vec_len}
 use Rattle.std.specs.Vec.{vec_capacity}
-use Rattle.thes_rows.specs.Rows.{moved_row}
+use Rattle.thes_tables.specs.Rows.{moved_row}
 use Rattle.thes_store.specs.Picked.{changed_at}
 use Rattle.thes_store.proofs.tables.move_those.Given as goal
 

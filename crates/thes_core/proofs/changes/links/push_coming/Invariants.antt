@@ -1,5 +1,5 @@
 use Rattle.std.proofs.Common.{◌≡◌, ◌++◌, drop, map}
-use Rattle.thes_rows.specs.Changes.{add_link}
+use Rattle.thes_tables.specs.Changes.{add_link}
 use Rattle.thes_core.proofs.changes.links.push_coming.Given as goal
 
 -- the changes so far, and then those of the rest

@@ -1,5 +1,5 @@
 use Rattle.std.proofs.Common.{◌≡◌, ◌+◌, ◌++◌, drop, map}
-use Rattle.thes_rows.specs.declared.change.Change.TheVariants as change
+use Rattle.thes_tables.specs.declared.change.Change.TheVariants as change
 use Rattle.thes_core.specs.Deltas.{moves_from}
 use Rattle.thes_core.proofs.changes.moves.push_moves.Given as goal
 

@@ -1,7 +1,7 @@
 use Rattle.std.proofs.Common.{◌≡◌, ◌+◌, ◌++◌, drop, map}
 use Rattle.thes_base.specs.Postings.{moves_along}
-use Rattle.thes_rows.specs.Changes.{move_row}
-use Rattle.thes_rows.specs.declared.change.Change.TheVariants as change
+use Rattle.thes_tables.specs.Changes.{move_row}
+use Rattle.thes_tables.specs.declared.change.Change.TheVariants as change
 use Rattle.thes_core.proofs.changes.moves.push_way.Given as goal
 
 -- the changes so far, and then the moves of the rest of the way

@@ -3,7 +3,7 @@ use Rattle.std.specs.Prelude.{Some}
 use Rattle.std.specs.BTreeSet.{contains}
 use Rattle.thes_base.specs.declared.data.Link.{Link}
 use Rattle.thes_base.specs.Links.{link_cmp}
-use Rattle.thes_rows.specs.Tables.{IsIn, Lists}
+use Rattle.thes_tables.specs.Tables.{IsIn, Lists}
 use Rattle.thes_core.specs.Deltas.{joined_link}
 use Rattle.thes_core.proofs.thesaurus.Thesaurus.all_joined.Given as goal
 

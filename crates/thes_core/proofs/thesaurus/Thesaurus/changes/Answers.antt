@@ -4,8 +4,8 @@ use Rattle.thes_base.specs.declared.data.Resource.{Resource}
 use Rattle.thes_base.specs.Data.{LabelData}
 use Rattle.thes_base.specs.declared.request.Command.TheVariants as request
 use Rattle.thes_base.specs.Machine.{owned}
-use Rattle.thes_rows.specs.declared.change.Change.TheVariants as change
-use Rattle.thes_rows.specs.Changes.{add_link, drop_link, changes_made}
+use Rattle.thes_tables.specs.declared.change.Change.TheVariants as change
+use Rattle.thes_tables.specs.Changes.{add_link, drop_link, changes_made}
 use Rattle.thes_core.specs.View.{state_of}
 use Rattle.thes_core.proofs.DeltaLemmas.{by_law_at, leads_at}
 use Rattle.thes_core.proofs.thesaurus.Thesaurus.changes.Goals as goal

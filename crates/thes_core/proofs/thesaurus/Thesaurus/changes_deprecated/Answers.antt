@@ -1,7 +1,7 @@
 use Rattle.std.proofs.Common.{◌++◌, sym, ◌∙◌, subst, map}
 use Rattle.thes_base.specs.Changes.{deprecated}
-use Rattle.thes_rows.specs.Changes.{drop_link}
-use Rattle.thes_rows.specs.Leads.{Leads}
+use Rattle.thes_tables.specs.Changes.{drop_link}
+use Rattle.thes_tables.specs.Leads.{Leads}
 use Rattle.thes_core.specs.View.{state_of}
 use Rattle.thes_core.proofs.DeltaLemmas.{deprecated_leads}
 use Rattle.thes_core.proofs.thesaurus.Thesaurus.changes_deprecated.Goals as goal

@@ -2,10 +2,10 @@ use Rattle.std.proofs.Common.{◌≡◌, ◌+◌, ◌++◌, ◌∷◌, [], ap, s
 use Rattle.std.specs.Prelude.{Some}
 use Rattle.thes_base.specs.declared.data.Link.{Link}
 use Rattle.thes_base.specs.Changes.{merged}
-use Rattle.thes_rows.specs.declared.change.Change.TheVariants as change
-use Rattle.thes_rows.specs.Changes.{add_link, drop_link}
-use Rattle.thes_rows.specs.Leads.{Leads}
-use Rattle.thes_rows.specs.Tables.{IsIn, Lists}
+use Rattle.thes_tables.specs.declared.change.Change.TheVariants as change
+use Rattle.thes_tables.specs.Changes.{add_link, drop_link}
+use Rattle.thes_tables.specs.Leads.{Leads}
+use Rattle.thes_tables.specs.Tables.{IsIn, Lists}
 use Rattle.thes_core.specs.Deltas.{joined_link, moves_from, taken_rows}
 use Rattle.thes_core.specs.View.{state_of}
 use Rattle.thes_core.proofs.ApplyLemmas.{merge_fits}

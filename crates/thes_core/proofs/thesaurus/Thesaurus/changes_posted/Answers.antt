@@ -1,8 +1,8 @@
 use Rattle.std.proofs.Common.{◌≡◌, ◌+◌, ◌++◌, ◌∷◌, [], ap, ◌∙◌, arith, length, List, map, ℕ, false}
 use Rattle.thes_base.specs.Postings.{moves_along}
-use Rattle.thes_rows.specs.Changes.{move_row}
-use Rattle.thes_rows.specs.declared.change.Change.{Change}
-use Rattle.thes_rows.specs.declared.change.Change.TheVariants as change
+use Rattle.thes_tables.specs.Changes.{move_row}
+use Rattle.thes_tables.specs.declared.change.Change.{Change}
+use Rattle.thes_tables.specs.declared.change.Change.TheVariants as change
 use Rattle.thes_core.proofs.ApplyLemmas.{post_fits, post_more}
 use Rattle.thes_core.proofs.DeltaLemmas.{posted_changes}
 use Rattle.thes_core.proofs.thesaurus.Thesaurus.changes_posted.Goals as goal

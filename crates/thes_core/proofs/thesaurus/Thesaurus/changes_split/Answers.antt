@@ -2,8 +2,8 @@ use Rattle.std.proofs.Common.{◌+◌, ◌++◌, ap, sym, ◌∙◌, arith, leng
 use Rattle.std.proofs.lemmas.List.Sorted.{length_permutation}
 use Rattle.thes_base.specs.Changes.{concept_resource, next_number}
 use Rattle.thes_base.specs.Postings.{move_count}
-use Rattle.thes_rows.specs.Changes.{changes_made}
-use Rattle.thes_rows.specs.declared.change.Change.TheVariants as change
+use Rattle.thes_tables.specs.Changes.{changes_made}
+use Rattle.thes_tables.specs.declared.change.Change.TheVariants as change
 use Rattle.thes_core.specs.Deltas.{moves_from, placed_at}
 use Rattle.thes_core.specs.View.{state_of}
 use Rattle.thes_core.proofs.ApplyLemmas.{split_fits}

@@ -1,5 +1,5 @@
 use Rattle.std.proofs.Common.{◌≡◌, ◌++◌, drop, map}
-use Rattle.thes_rows.specs.declared.change.Change.TheVariants as change
+use Rattle.thes_tables.specs.declared.change.Change.TheVariants as change
 use Rattle.thes_core.specs.Deltas.{taken_rows}
 use Rattle.thes_core.proofs.thesaurus.Thesaurus.push_taken.Given as goal
 

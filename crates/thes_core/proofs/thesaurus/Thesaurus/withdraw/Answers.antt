@@ -6,7 +6,7 @@ use Rattle.thes_base.specs.Postings.{place, standing_count}
 use Rattle.thes_post.specs.Sums.{OneLess, GivesOne}
 use Rattle.thes_post.proofs.JudgeLemmas.{passed_standing}
 use Rattle.thes_post.proofs.SumLemmas.{one_stands, one_stays, sums_withdrawn}
-use Rattle.thes_rows.specs.declared.rows.PostingRow.{PostingRow}
+use Rattle.thes_tables.specs.declared.rows.PostingRow.{PostingRow}
 use Rattle.thes_core.proofs.ApplyLemmas.{becomes}
 use Rattle.thes_core.proofs.FactLemmas.{row_of_one}
 use Rattle.thes_core.proofs.thesaurus.Thesaurus.withdraw.Goals as goal

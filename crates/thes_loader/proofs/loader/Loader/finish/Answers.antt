@@ -1,11 +1,11 @@
 use Rattle.std.proofs.Common.{sym, subst, inr}
 use Rattle.std.specs.Prelude.{Result}
 use Rattle.thes_base.specs.declared.fault.Fault.{Fault}
-use Rattle.thes_load.specs.declared.handed.LoadedParts.{LoadedParts}
-use Rattle.thes_load.specs.declared.stage.Stage.{Stage}
-use Rattle.thes_load.specs.Ending.{Ends}
-use Rattle.thes_load.specs.Progress.{HasRead}
-use Rattle.thes_load.proofs.EndSteps.{stopped_end}
+use Rattle.thes_load_rows.specs.declared.handed.LoadedParts.{LoadedParts}
+use Rattle.thes_load_rows.specs.declared.stage.Stage.{Stage}
+use Rattle.thes_load_rows.specs.Ending.{Ends}
+use Rattle.thes_load_rows.specs.Progress.{HasRead}
+use Rattle.thes_load_rows.proofs.EndSteps.{stopped_end}
 use Rattle.thes_loader.specs.Reading.{Reading}
 use Rattle.thes_loader.proofs.Making.{made, parts_legal}
 use Rattle.thes_loader.proofs.Turns.{not_stopped}

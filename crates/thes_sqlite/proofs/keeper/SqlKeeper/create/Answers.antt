@@ -1,7 +1,7 @@
 use Rattle.std.proofs.Common.{◌≡◌, subst, sym}
 use Rattle.sqlite.specs.Held.{state}
-use Rattle.thes_rows.specs.Tables.{no_rows}
-use Rattle.thes_rows.specs.Cells.{listed}
+use Rattle.thes_tables.specs.Tables.{no_rows}
+use Rattle.thes_tables.specs.Cells.{listed}
 use Rattle.thes_sqlite.specs.Kept.{Kept, IsUp, raw_of_keeper}
 use Rattle.thes_sqlite.proofs.Keeping.{raw_of}
 use Rattle.thes_sqlite.proofs.keeper.SqlKeeper.create.Goals as goal

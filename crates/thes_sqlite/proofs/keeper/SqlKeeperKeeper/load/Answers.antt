@@ -1,7 +1,7 @@
 use Rattle.std.proofs.Common.{List, subst}
 use Rattle.std.specs.Prelude.{Option}
 use Rattle.thes_base.specs.declared.fault.Table.{Table}
-use Rattle.thes_rows.specs.declared.cells.Cell.{Cell}
+use Rattle.thes_tables.specs.declared.cells.Cell.{Cell}
 use Rattle.thes_store.specs.Handing.{Hands}
 use Rattle.thes_store.proofs.Handed.{all_tables}
 use Rattle.thes_sqlite.specs.Kept.{raw_of_keeper}

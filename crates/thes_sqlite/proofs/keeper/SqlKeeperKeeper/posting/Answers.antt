@@ -1,6 +1,6 @@
 use Rattle.std.proofs.Common.{ap}
 use Rattle.sqlite.specs.Held.{state}
-use Rattle.thes_rows.specs.Tables.{Tables}
+use Rattle.thes_tables.specs.Tables.{Tables}
 use Rattle.thes_store.specs.Reading.{IsTold}
 use Rattle.thes_sqlite.specs.Kept.{Kept}
 use Rattle.thes_sqlite.proofs.Keeping.{told}

@@ -2,7 +2,7 @@ use Rattle.std.proofs.Common.{◌∙◌, ap, sym, subst}
 use Rattle.std.specs.Prelude.{Result, Err}
 use Rattle.sqlite.specs.Held.{state}
 use Rattle.thes_base.specs.declared.fault.Fault.{Fault}
-use Rattle.thes_rows.specs.Tables.{Tables}
+use Rattle.thes_tables.specs.Tables.{Tables}
 use Rattle.thes_store.specs.Handing.{Takes, TakesSome, Hands}
 use Rattle.thes_store.specs.Reading.{standing_rows}
 use Rattle.thes_store.proofs.Handed.{none_taken}

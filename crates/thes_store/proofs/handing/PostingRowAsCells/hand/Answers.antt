@@ -1,8 +1,8 @@
 use Rattle.std.proofs.Common.{◌≡◌, ◌∷◌, [], List, rules, subst}
 use Rattle.std.specs.Prelude.{Some}
-use Rattle.thes_rows.specs.declared.cells.Cell.{Cell}
-use Rattle.thes_rows.specs.declared.cells.Cell.TheVariants.{Text}
-use Rattle.thes_rows.specs.Cells.{number_cell, flag_cell}
+use Rattle.thes_tables.specs.declared.cells.Cell.{Cell}
+use Rattle.thes_tables.specs.declared.cells.Cell.TheVariants.{Text}
+use Rattle.thes_tables.specs.Cells.{number_cell, flag_cell}
 use Rattle.thes_store.specs.Handing.{Hands}
 use Rattle.thes_store.proofs.handing.PostingRowAsCells.hand.Goals as goal
 

@@ -1,5 +1,5 @@
 use Rattle.std.proofs.Common.{ℕ, take}
-use Rattle.thes_rows.specs.Tables.{IsIn}
+use Rattle.thes_tables.specs.Tables.{IsIn}
 use Rattle.thes_store.specs.Index.{IsAt, KeepsPlaces}
 use Rattle.thes_store.proofs.index.Index.insert_all.Given as goal
 

@@ -1,7 +1,7 @@
 use Rattle.std.proofs.Common.{◌∙◌, sym, subst}
-use Rattle.thes_rows.specs.declared.change.Change.{Change}
-use Rattle.thes_rows.specs.Tables.{Tables, IsIn}
-use Rattle.thes_rows.specs.Rows.{Fits}
+use Rattle.thes_tables.specs.declared.change.Change.{Change}
+use Rattle.thes_tables.specs.Tables.{Tables, IsIn}
+use Rattle.thes_tables.specs.Rows.{Fits}
 use Rattle.thes_store.specs.declared.indexes.Indexes.{Indexes}
 use Rattle.thes_store.specs.Index.{IsAt}
 use Rattle.thes_store.specs.Covers.{Covers, GrowsBy, IsOtherKey, Reaches}

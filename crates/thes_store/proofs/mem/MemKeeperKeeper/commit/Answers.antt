@@ -1,9 +1,9 @@
 use Rattle.std.proofs.Common.{◌≡◌, ◌∙◌, List, refl, ap, sym, subst, rules}
 use Rattle.std.specs.Prelude.{Ok}
-use Rattle.thes_rows.specs.declared.change.Change.{Change}
-use Rattle.thes_rows.specs.Rows.{all_changed}
-use Rattle.thes_rows.specs.Cells.{listed}
-use Rattle.thes_rows.proofs.Listing.{listed_one}
+use Rattle.thes_tables.specs.declared.change.Change.{Change}
+use Rattle.thes_tables.specs.Rows.{all_changed}
+use Rattle.thes_tables.specs.Cells.{listed}
+use Rattle.thes_tables.proofs.Listing.{listed_one}
 use Rattle.thes_store.specs.Covers.{Covers, StandThroughout}
 use Rattle.thes_store.specs.Room.{tables_of}
 use Rattle.thes_store.proofs.Covering.{covers_both}

@@ -1,7 +1,7 @@
 use Rattle.std.proofs.Common.{◌≡◌, ◌∙◌, ap, sym, subst}
 use Rattle.std.specs.Prelude.{slice_get, option_copied}
-use Rattle.thes_rows.specs.Tables.{Tables}
-use Rattle.thes_rows.proofs.Listing.{listed_one}
+use Rattle.thes_tables.specs.Tables.{Tables}
+use Rattle.thes_tables.proofs.Listing.{listed_one}
 use Rattle.thes_store.specs.Covers.{Covers}
 use Rattle.thes_store.specs.Reading.{IsFound}
 use Rattle.thes_store.proofs.mem.MemKeeperKeeper.find.Goals as goal

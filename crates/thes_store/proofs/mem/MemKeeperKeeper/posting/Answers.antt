@@ -2,8 +2,8 @@ use Rattle.std.proofs.Common.{◌≡◌, ◌∙◌, ◌-◌, ◌≤◌, ap, subs
 use Rattle.std.specs.Prelude.{Some, slice_get}
 use Rattle.thes_base.specs.Resources.{numbered}
 use Rattle.thes_base.proofs.NumberedLemmas.{numbered_at}
-use Rattle.thes_rows.specs.Tables.{Tables, step_of}
-use Rattle.thes_rows.proofs.Listing.{listed_one}
+use Rattle.thes_tables.specs.Tables.{Tables, step_of}
+use Rattle.thes_tables.proofs.Listing.{listed_one}
 use Rattle.thes_store.specs.Index.{ArePlaces}
 use Rattle.thes_store.specs.Covers.{Covers}
 use Rattle.thes_store.specs.Picked.{is_move_of, picked}

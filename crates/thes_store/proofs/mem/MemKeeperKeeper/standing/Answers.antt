@@ -1,7 +1,7 @@
 use Rattle.std.proofs.Common.{◌≡◌, ◌∙◌, ap, subst, List}
-use Rattle.thes_rows.specs.declared.rows.PostingRow.{PostingRow}
-use Rattle.thes_rows.specs.Tables.{Tables, is_standing}
-use Rattle.thes_rows.proofs.Listing.{listed_one}
+use Rattle.thes_tables.specs.declared.rows.PostingRow.{PostingRow}
+use Rattle.thes_tables.specs.Tables.{Tables, is_standing}
+use Rattle.thes_tables.proofs.Listing.{listed_one}
 use Rattle.thes_store.specs.Index.{ArePlaces}
 use Rattle.thes_store.specs.Covers.{Covers}
 use Rattle.thes_store.specs.Handing.{Hands}

@@ -2,8 +2,8 @@ use Rattle.std.proofs.Common.{◌≡◌, ◌∙◌, ◌∷◌, [], false, inl, i
 use Rattle.std.specs.Prelude.{slice_get}
 use Rattle.std.proofs.lemmas.Iterator.Consumers.{YieldsList-end, YieldsList-from_rest}
 use Rattle.std.proofs.lemmas.List.{map-append}
-use Rattle.thes_rows.specs.Tables.{IsIn}
-use Rattle.thes_rows.proofs.Sets.{in_append}
+use Rattle.thes_tables.specs.Tables.{IsIn}
+use Rattle.thes_tables.proofs.Sets.{in_append}
 use Rattle.thes_store.specs.Slots.{is_same_row}
 use Rattle.thes_store.proofs.Slotted.{none_same, none_there}
 use Rattle.thes_store.proofs.slots.Slots.place_of.Goals as goal

@@ -1,6 +1,6 @@
 use Rattle.std.proofs.Common.{◌≡◌, ℕ, map, false}
 use Rattle.std.specs.Prelude.{slice_get}
-use Rattle.thes_rows.specs.Tables.{IsIn}
+use Rattle.thes_tables.specs.Tables.{IsIn}
 use Rattle.thes_store.specs.Slots.{is_same_row}
 use Rattle.thes_store.proofs.slots.Slots.place_of.Given as goal
 

@@ -2,10 +2,10 @@ use Rattle.std.proofs.Common.{List, ◌≡◌, ◌∙◌, ◌+◌, ap, sym, subs
 use Rattle.std.proofs.lemmas.Iterator.Adapters.{YieldsList-from_vec}
 use Rattle.std.proofs.lemmas.Iterator.Consumers.{YieldsList-turn, YieldsList-so_far}
 use Rattle.std.proofs.lemmas.List.{map-id}
-use Rattle.thes_rows.specs.declared.change.Change.{Change}
-use Rattle.thes_rows.specs.Tables.{Tables}
-use Rattle.thes_rows.specs.Rows.{changed, all_changed}
-use Rattle.thes_rows.proofs.Steps.{all_append}
+use Rattle.thes_tables.specs.declared.change.Change.{Change}
+use Rattle.thes_tables.specs.Tables.{Tables}
+use Rattle.thes_tables.specs.Rows.{changed, all_changed}
+use Rattle.thes_tables.proofs.Steps.{all_append}
 use Rattle.thes_store.specs.Covers.{AreStanding}
 use Rattle.thes_store.specs.Room.{tables_of, HasRoom}
 use Rattle.thes_store.proofs.Rooms.{drop_none, drop_next, room_first}

@@ -1,5 +1,5 @@
 use Rattle.std.proofs.Common.{◌≡◌, length, drop}
-use Rattle.thes_rows.specs.Rows.{all_changed}
+use Rattle.thes_tables.specs.Rows.{all_changed}
 use Rattle.thes_store.specs.Room.{tables_of, AllFound, HasRoom}
 use Rattle.thes_store.proofs.tables.MemTables.make_all.Given as goal
 

@@ -1,0 +1,125 @@
+//! Judges related links and merges in a hierarchy of twelve levels, where each concept has two broader ones in the level above.
+ghost use Rattle.std.specs.Prelude.{◌≡◌};
+ghost use Rattle.thes_base.specs.Links.{HeldIn};
+ghost use Rattle.thes_graph.specs.Local.{BreakNone};
+
+use std::alloc::{AllocError, Global};
+use test_devices::numbers::Numbers;
+use thes_base::data::{Link, LinkKind};
+use thes_base::fault::Refusal;
+use thes_base::number::ResNo;
+use thes_graph::graph::{Graph, Walk};
+use thes_graph::judge::{judge_add, judge_contract};
+
+fn link(kind: LinkKind, a: u32, b: u32) -> Link {
+    Link {
+        kind,
+        a: ResNo::new(a.max(1)),
+        b: ResNo::new(b.max(1)),
+    }
+}
+
+// Links the node to one of those in the level above.
+fn climb(
+    graph: &mut Graph,
+    numbers: &mut Numbers,
+    node: u32,
+    width: u32,
+) -> Result<(), AllocError> {
+    let level = node / width.max(1);
+    let above = level.saturating_sub(1).wrapping_mul(width);
+    let broader = above.wrapping_add(numbers.below(width));
+    let new = link(
+        LinkKind::Broader,
+        node.wrapping_add(1),
+        broader.wrapping_add(1),
+    );
+    if new.a != new.b {
+        graph.add(&new)?;
+    }
+    Ok(())
+}
+
+// Each node below the first level with two broader ones.
+fn levels(alloc: Global, numbers: &mut Numbers, width: u32) -> Result<Graph, AllocError> {
+    let mut graph = Graph::new(alloc);
+    for node in width..width.saturating_mul(12) {
+        climb(&mut graph, numbers, node, width)?;
+        climb(&mut graph, numbers, node, width)?;
+    }
+    Ok(graph)
+}
+
+// Whether the link, or the merge of its second end into its first, is refused.
+fn is_refused(
+    alloc: Global,
+    walk: &mut Walk<'_>,
+    new: &Link,
+    merges: bool,
+) -> Result<bool, AllocError>
+    requires { BreakNone (HeldIn walk.old.net.links) }
+    ensures { walk.new.net.links ≡ walk.old.net.links }
+{
+    if new.a == new.b {
+        return Ok(true);
+    }
+    if merges {
+        let answer = judge_contract(alloc, walk, new.b, new.a)?;
+        return Ok(answer.is_some());
+    }
+    let answer = judge_add(alloc, walk, new)?;
+    Ok(answer.is_some())
+}
+
+// A pair of nodes, on one level, or for a merge one of them on the level below the other.
+fn pair(numbers: &mut Numbers, width: u32, merges: bool) -> Link {
+    let level = numbers.below(11);
+    let a = level
+        .wrapping_mul(width)
+        .wrapping_add(numbers.below(width))
+        .wrapping_add(1);
+    let b = level
+        .wrapping_mul(width)
+        .wrapping_add(numbers.below(width))
+        .wrapping_add(1);
+    link(
+        LinkKind::Related,
+        a,
+        if merges { a.wrapping_add(width) } else { b },
+    )
+}
+
+// Judges so many links or merges, and answers how many were refused.
+fn judge_all(
+    alloc: Global,
+    walk: &mut Walk<'_>,
+    numbers: &mut Numbers,
+    width: u32,
+    count: u32,
+    merges: bool,
+) -> Result<u32, AllocError>
+    requires { BreakNone (HeldIn walk.old.net.links) }
+{
+    let mut refused = 0u32;
+    for _ in 0..count {
+        let new = pair(numbers, width, merges);
+        if is_refused(alloc, walk, &new, merges)? {
+            refused = refused.wrapping_add(1);
+        }
+    }
+    Ok(refused)
+}
+
+/// Counts those of so many related links, or merges, that are refused in such a hierarchy.
+pub fn refused(alloc: Global, nodes: u32, count: u32, merges: bool) -> Result<u32, AllocError> {
+    let mut numbers = Numbers(1);
+    let width = nodes / 12;
+    let graph = levels(alloc, &mut numbers, width)?;
+    match graph.check_whole(alloc)? {
+        None => {
+            let mut walk = graph.walk();
+            judge_all(alloc, &mut walk, &mut numbers, width, count, merges)
+        }
+        Some(_) => Ok(0),
+    }
+}

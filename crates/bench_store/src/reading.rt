@@ -1,0 +1,78 @@
+//! What is timed of any keeper beside its posts and merges.
+
+use crate::failure::Failure;
+use std::alloc::Global;
+use test_keeper::keeping::named;
+use thes_base::fault::{Fault, Table};
+use thes_base::number::PostNo;
+use thes_base::text::Key;
+use thes_store::keeper::Keeper;
+use thes_store::sink::RowSink;
+use thes_tables::cells::Cell;
+
+// Looks up the key of a posting.
+fn is_found<K: Keeper>(alloc: Global, keeper: &mut K, number: u32) -> Result<bool, Failure> {
+    let key = Key::read(alloc, named(alloc, "k", number)?.as_str())?;
+    Ok(keeper.find(&key)?.is_some())
+}
+
+/// Looks up so many keys of postings, and counts those that are found.
+pub fn find_all<K: Keeper>(
+    alloc: Global,
+    keeper: &mut K,
+    posts: u32,
+    count: u32,
+) -> Result<u32, Failure> {
+    let mut found = 0u32;
+    for i in 0..count {
+        let number = i.wrapping_mul(7919) % posts.max(1);
+        if is_found(alloc, keeper, number.wrapping_add(1))? {
+            found = found.wrapping_add(1);
+        }
+    }
+    Ok(found)
+}
+
+// Looks up a posting, and counts its moves.
+fn count_moves<K: Keeper>(keeper: &mut K, number: PostNo) -> Result<usize, Failure> {
+    match keeper.posting(number)? {
+        Some(posting) => Ok(posting.moves.as_slice().len()),
+        None => Ok(0),
+    }
+}
+
+/// Looks up so many numbers of postings, and counts the moves of those that are found.
+pub fn tell_all<K: Keeper>(keeper: &mut K, posts: u32, count: u32) -> Result<usize, Failure> {
+    let mut moves = 0usize;
+    for i in 0..count {
+        let number = i.wrapping_mul(7919) % posts.max(1);
+        moves = moves.wrapping_add(count_moves(keeper, PostNo::new(number.max(1)))?);
+    }
+    Ok(moves)
+}
+
+/// Counts the rows that are handed to it.
+#[derive(Drop)]
+pub struct Counter {
+    pub rows: u64,
+}
+
+impl RowSink for Counter {
+    ghost gives = { λ old row result new. Unit {0} };
+
+    fn row(&mut self, _table: Table, _row: &[Cell]) -> Result<(), Fault> {
+        self.rows = self.rows.wrapping_add(1);
+        Ok(())
+    }
+
+    fn unqueried(&mut self, _table: Table) -> Result<(), Fault> {
+        Ok(())
+    }
+}
+
+/// Loads all rows, and counts them.
+pub fn load_all<K: Keeper>(keeper: &mut K) -> Result<u64, Failure> {
+    let mut counter = Counter { rows: 0 };
+    keeper.load(&mut counter)?;
+    Ok(counter.rows)
+}

@@ -1,0 +1,643 @@
+//! The worked examples on links, and the answers for graphs from a fixed list of numbers beside those of a plain program, which is the
+//! definitions read off a list.
+use Fact::{BroaderOf, CollectionsOf, Has, Mapped, NarrowerOf, RelatedTo, Size};
+use std::alloc::{AllocError, Global};
+use std::collections::BTreeSet;
+use std::process::Abort;
+use std::test::Fail;
+use test_devices::numbers::Numbers;
+use thes_base::data::{Link, LinkKind};
+use thes_base::fault::Refusal;
+use thes_base::number::ResNo;
+use thes_graph::graph::Graph;
+use thes_graph::judge::{check_at, judge_add, judge_contract};
+use thes_graph::links::Links;
+
+fn no(n: u32) -> ResNo {
+    ResNo::new(n.max(1))
+}
+
+fn link(kind: LinkKind, a: u32, b: u32) -> Link {
+    Link {
+        kind,
+        a: no(a),
+        b: no(b),
+    }
+}
+
+// Marks an outside concept, which has no links yet.
+fn mark(graph: &mut Graph, n: u32) -> Result<(), AllocError> {
+    let n = no(n);
+    graph.drop_all(n);
+    graph.mark_outside(n)
+}
+
+// What speaks against the link, where the graph keeps the rules.
+fn judge(alloc: Global, graph: &Graph, link: &Link) -> Result<Option<Refusal>, AllocError> {
+    if link.a == link.b {
+        return Ok(Some(Refusal::SameResource));
+    }
+    match graph.check_whole(alloc)? {
+        None => {
+            let mut walk = graph.walk();
+            judge_add(alloc, &mut walk, link)
+        }
+        Some(refusal) => Ok(Some(refusal)),
+    }
+}
+
+// Adds the link, unless something speaks against it.
+fn try_add(alloc: Global, graph: &mut Graph, link: &Link) -> Result<Option<Refusal>, AllocError> {
+    let answer = judge(alloc, graph, link)?;
+    if answer.is_none() && link.a != link.b {
+        graph.add(link)?;
+    }
+    Ok(answer)
+}
+
+// What speaks against the merge, where the graph keeps the rules.
+fn judge_merge(
+    alloc: Global,
+    graph: &Graph,
+    source: u32,
+    target: u32,
+) -> Result<Option<Refusal>, AllocError> {
+    let (source, target) = (no(source), no(target));
+    if source == target {
+        return Ok(Some(Refusal::SameResource));
+    }
+    match graph.check_whole(alloc)? {
+        None => {
+            let mut walk = graph.walk();
+            judge_contract(alloc, &mut walk, source, target)
+        }
+        Some(refusal) => Ok(Some(refusal)),
+    }
+}
+
+type Step = (LinkKind, u32, u32, Option<Refusal>);
+
+// Tries the links in turn, each with the answer that is wanted.
+fn run(rt: &impl Abort, alloc: Global, graph: &mut Graph, steps: &[Step]) -> Result<(), Fail> {
+    for (i, (kind, a, b, wanted)) in steps.iter().enumerate() {
+        let answer = try_add(alloc, graph, &link(*kind, *a, *b))?;
+        assert_eq!(rt; answer, *wanted, "at step {i}");
+    }
+    Ok(())
+}
+
+use LinkKind::{
+    Broad, Broader, BroaderGeneric, BroaderInstantial, BroaderPartitive, Close, Exact, Member,
+    Narrow, RelMatch, Related,
+};
+
+#[test]
+fn worked_links(rt: HostRuntime) -> Result<(), Fail> {
+    let alloc = rt.alloc();
+    let tables: [&[Step]; 8] = [
+        &[
+            (Broader, 2, 3, None),
+            (Broader, 3, 4, None),
+            (Broader, 4, 2, Some(Refusal::Cycle)),
+            (Broader, 2, 3, Some(Refusal::LinkThere)),
+        ],
+        &[
+            (Broader, 2, 3, None),
+            (Broader, 3, 4, None),
+            (Related, 4, 2, Some(Refusal::S27)),
+        ],
+        &[
+            (Related, 4, 2, None),
+            (Broader, 2, 3, None),
+            (Broader, 3, 4, Some(Refusal::S27)),
+        ],
+        &[
+            (Broad, 2, 9, None),
+            (Narrow, 4, 9, None),
+            (Related, 2, 4, Some(Refusal::S27)),
+            (Narrow, 2, 9, Some(Refusal::Cycle)),
+        ],
+        &[
+            (Exact, 2, 9, None),
+            (Exact, 7, 9, None),
+            (Broad, 2, 7, Some(Refusal::S46)),
+        ],
+        &[
+            (Related, 2, 4, None),
+            (Broad, 2, 9, None),
+            (Narrow, 4, 9, Some(Refusal::S27)),
+            (Exact, 6, 2, None),
+            (Exact, 2, 6, Some(Refusal::LinkThere)),
+            (Broad, 2, 7, None),
+            (Broad, 7, 2, Some(Refusal::Cycle)),
+            (RelMatch, 7, 2, Some(Refusal::S27)),
+        ],
+        &[
+            (BroaderGeneric, 2, 3, None),
+            (BroaderPartitive, 2, 3, None),
+            (BroaderGeneric, 2, 3, Some(Refusal::LinkThere)),
+            (Related, 2, 3, Some(Refusal::S27)),
+            (Broader, 3, 2, Some(Refusal::Cycle)),
+            (BroaderInstantial, 3, 9, None),
+            (Narrow, 4, 9, None),
+            (RelMatch, 2, 4, Some(Refusal::S27)),
+        ],
+        &[
+            (Exact, 2, 9, None),
+            (RelMatch, 9, 4, None),
+            (Exact, 3, 4, None),
+            (Exact, 2, 3, Some(Refusal::S46)),
+            (RelMatch, 9, 2, Some(Refusal::S46)),
+            (Narrow, 9, 2, Some(Refusal::S46)),
+        ],
+    ];
+    for steps in tables {
+        let mut graph = Graph::new(alloc);
+        mark(&mut graph, 9)?;
+        run(&rt, alloc, &mut graph, steps)?;
+    }
+    Ok(())
+}
+
+// The merge of the first node into the second after these links, and the answer that is wanted.
+type Merge<'a> = (&'a [Step], u32, u32, Option<Refusal>);
+
+#[test]
+fn worked_merges(rt: HostRuntime) -> Result<(), Fail> {
+    let alloc = rt.alloc();
+    let tables: [Merge; 3] = [
+        (&[(Broader, 2, 3, None)], 2, 3, None),
+        (
+            &[
+                (Broader, 2, 3, None),
+                (Broader, 2, 4, None),
+                (Broader, 4, 3, None),
+            ],
+            2,
+            3,
+            Some(Refusal::Cycle),
+        ),
+        (
+            &[(Broader, 3, 4, None), (Related, 2, 4, None)],
+            2,
+            3,
+            Some(Refusal::S27),
+        ),
+    ];
+    for (steps, source, target, wanted) in tables {
+        let mut graph = Graph::new(alloc);
+        run(&rt, alloc, &mut graph, steps)?;
+        assert_eq!(rt; judge_merge(alloc, &graph, source, target)?, wanted);
+    }
+    Ok(())
+}
+
+// What a graph shows.
+#[derive(Clone, Copy)]
+enum Fact {
+    Size(u64),
+    Has(LinkKind, u32, u32, bool),
+    BroaderOf(u32, &'static [u32]),
+    NarrowerOf(u32, &'static [u32]),
+    RelatedTo(u32, &'static [u32]),
+    CollectionsOf(u32, &'static [u32]),
+    Mapped(u32, &'static [(LinkKind, u32)]),
+}
+
+// Whether these are the numbers, in their order.
+fn are(found: Result<Vec<ResNo>, AllocError>, wanted: &[u32]) -> Result<bool, AllocError> {
+    let found = found?;
+    Ok(found.len() == wanted.len() && found.iter().zip(wanted.iter()).all(|(n, m)| n.get() == *m))
+}
+
+// Whether these are the mappings, in their order.
+fn are_mapped(
+    found: Result<Vec<(LinkKind, ResNo)>, AllocError>,
+    wanted: &[(LinkKind, u32)],
+) -> Result<bool, AllocError> {
+    let found = found?;
+    Ok(
+        found.len() == wanted.len()
+            && found
+                .iter()
+                .zip(wanted.iter())
+                .all(|((kind, n), (other, m))| *kind == *other && n.get() == *m),
+    )
+}
+
+fn holds(alloc: Global, graph: &Graph, fact: Fact) -> Result<bool, AllocError> {
+    match fact {
+        Size(size) => Ok(graph.size() == size),
+        Has(kind, a, b, wanted) => Ok(graph.has(&link(kind, a, b)) == wanted),
+        BroaderOf(n, wanted) => are(graph.broader_of(alloc, no(n)), wanted),
+        NarrowerOf(n, wanted) => are(graph.narrower_of(alloc, no(n)), wanted),
+        RelatedTo(n, wanted) => are(graph.related_of(alloc, no(n)), wanted),
+        CollectionsOf(n, wanted) => are(graph.collections_of(alloc, no(n)), wanted),
+        Mapped(n, wanted) => are_mapped(graph.mapped(alloc, no(n)), wanted),
+    }
+}
+
+// Compares what a graph shows with each of these facts.
+fn expect(rt: &impl Abort, alloc: Global, graph: &Graph, facts: &[Fact]) -> Result<(), Fail> {
+    for (i, fact) in facts.iter().enumerate() {
+        assert!(rt; holds(alloc, graph, *fact)?, "fact {i}");
+    }
+    Ok(())
+}
+
+static BEFORE_THE_MERGE: [Step; 5] = [
+    (Broader, 2, 3, None),
+    (Related, 2, 4, None),
+    (Related, 3, 4, None),
+    (Exact, 2, 5, None),
+    (Member, 8, 2, None),
+];
+
+static MERGED: [Fact; 7] = [
+    Size(3),
+    Has(Exact, 3, 5, true),
+    Has(Exact, 2, 5, false),
+    BroaderOf(3, &[]),
+    NarrowerOf(3, &[]),
+    RelatedTo(3, &[4]),
+    CollectionsOf(3, &[8]),
+];
+
+fn merge(graph: &mut Graph, source: u32, target: u32) -> Result<(), AllocError> {
+    let (source, target) = (no(source), no(target));
+    if source != target {
+        graph.contract(source, target)?;
+    }
+    Ok(())
+}
+
+// A merge takes the links along, without those from the target to itself, and equal ones once.
+fn expect_merged(rt: &impl Abort, alloc: Global, graph: &mut Graph) -> Result<(), Fail> {
+    mark(graph, 5)?;
+    run(rt, alloc, graph, &BEFORE_THE_MERGE)?;
+    merge(graph, 2, 3)?;
+    expect(rt, alloc, graph, &MERGED)?;
+    graph.remove(&link(Related, 4, 3));
+    graph.drop_all(no(5));
+    assert_eq!(rt; graph.size(), 1);
+    Ok(())
+}
+
+#[test]
+fn merged_links(rt: HostRuntime) -> Result<(), Fail> {
+    expect_merged(&rt, rt.alloc(), &mut Graph::new(rt.alloc()))
+}
+
+static LINKED: [Step; 11] = [
+    (Broader, 4, 2, None),
+    (Broader, 3, 2, None),
+    (Related, 8, 4, None),
+    (Related, 1, 4, None),
+    (RelMatch, 4, 9, None),
+    (Narrow, 7, 4, None),
+    (Broad, 4, 6, None),
+    (Close, 4, 5, None),
+    (Close, 10, 4, None),
+    (Narrow, 4, 12, None),
+    (Exact, 4, 11, None),
+];
+
+static SHOWN: [Fact; 4] = [
+    BroaderOf(4, &[2]),
+    NarrowerOf(2, &[3, 4]),
+    RelatedTo(4, &[1, 8]),
+    Mapped(
+        4,
+        &[
+            (Broad, 6),
+            (Broad, 7),
+            (Close, 5),
+            (Close, 10),
+            (Exact, 11),
+            (Narrow, 12),
+            (RelMatch, 9),
+        ],
+    ),
+];
+
+fn expect_in_order(rt: &impl Abort, alloc: Global, graph: &mut Graph) -> Result<(), Fail> {
+    mark(graph, 9)?;
+    run(rt, alloc, graph, &LINKED)?;
+    expect(rt, alloc, graph, &SHOWN)
+}
+
+#[test]
+fn readers_in_order(rt: HostRuntime) -> Result<(), Fail> {
+    expect_in_order(&rt, rt.alloc(), &mut Graph::new(rt.alloc()))
+}
+
+// How many visits it takes to judge the link, where nothing speaks against it.
+fn visits(alloc: Global, graph: &Graph, link: &Link) -> Result<Option<u64>, AllocError> {
+    if link.a == link.b {
+        return Ok(None);
+    }
+    match graph.check_whole(alloc)? {
+        None => {
+            let mut walk = graph.walk();
+            let answer = judge_add(alloc, &mut walk, link)?;
+            Ok(answer.is_none().then_some(walk.visits()))
+        }
+        Some(_) => Ok(None),
+    }
+}
+
+// Links that are far from an edit aren't visited.
+#[test]
+fn visits_near_the_edit(rt: HostRuntime) -> Result<(), Fail> {
+    let alloc = rt.alloc();
+    let mut graph = Graph::new(alloc);
+    run(&rt, alloc, &mut graph, &[(Broader, 2, 3, None)])?;
+    for n in 5..505u32 {
+        run(&rt, alloc, &mut graph, &[(Broader, n, n + 1, None)])?;
+    }
+    // the link is looked up, and neither a walk up nor one down leads to 4
+    assert_eq!(rt; visits(alloc, &graph, &link(Related, 2, 4))?, Some(1));
+    Ok(())
+}
+
+// A walk up reads nothing of what else lies below a broad concept.
+#[test]
+fn visits_on_one_side(rt: HostRuntime) -> Result<(), Fail> {
+    let alloc = rt.alloc();
+    let mut graph = Graph::new(alloc);
+    run(&rt, alloc, &mut graph, &[(Broader, 601, 600, None)])?;
+    for n in 2..503u32 {
+        run(&rt, alloc, &mut graph, &[(Broader, n, 1, None)])?;
+    }
+    // the link is looked up, and the one link up from 2 is read
+    assert_eq!(rt; visits(alloc, &graph, &link(Broader, 600, 2))?, Some(2));
+    Ok(())
+}
+
+// How many visits it takes to judge the merge, where nothing speaks against it.
+fn visits_of_merge(
+    alloc: Global,
+    graph: &Graph,
+    source: u32,
+    target: u32,
+) -> Result<Option<u64>, AllocError> {
+    let (source, target) = (no(source), no(target));
+    if source == target {
+        return Ok(None);
+    }
+    match graph.check_whole(alloc)? {
+        None => {
+            let mut walk = graph.walk();
+            let answer = judge_contract(alloc, &mut walk, source, target)?;
+            Ok(answer.is_none().then_some(walk.visits()))
+        }
+        Some(_) => Ok(None),
+    }
+}
+
+// Where the way up is short, nothing of what lies below a broad concept is read, though it is the one that the edit is about.
+#[test]
+fn visits_above_a_broad_concept(rt: HostRuntime) -> Result<(), Fail> {
+    let alloc = rt.alloc();
+    let mut graph = Graph::new(alloc);
+    run(&rt, alloc, &mut graph, &[(Broader, 600, 601, None)])?;
+    for n in 2..503u32 {
+        run(&rt, alloc, &mut graph, &[(Broader, n, 1, None)])?;
+    }
+    // the link is looked up, and the one link up from 600 is read
+    assert_eq!(rt; visits(alloc, &graph, &link(Broader, 1, 600))?, Some(2));
+    run(&rt, alloc, &mut graph, &[(Broader, 1, 600, None)])?;
+    // the links up from the target are read: from 1, and from 600
+    assert_eq!(rt; visits_of_merge(alloc, &graph, 700, 1)?, Some(2));
+    Ok(())
+}
+
+// The plain program. A link says that its second node is broader than its first, or with `exact` that they are exact matches.
+fn next(link: &Link, exact: bool, x: ResNo) -> Option<ResNo> {
+    match link.kind {
+        Exact if exact && link.a == x => Some(link.b),
+        Exact if exact && link.b == x => Some(link.a),
+        Broader | BroaderGeneric | BroaderPartitive | BroaderInstantial | Broad
+            if !exact && link.a == x => { Some(link.b) }
+        Narrow if !exact && link.b == x => Some(link.a),
+        _ => None,
+    }
+}
+
+// All that one or more steps lead to.
+fn chains(
+    alloc: Global,
+    links: &[Link],
+    exact: bool,
+    start: ResNo,
+) -> Result<BTreeSet<ResNo>, AllocError> {
+    let mut met = BTreeSet::new(alloc);
+    let mut list = vec![in alloc; start]?;
+    for i in 0..usize::MAX {
+        if i >= list.len() {
+            break;
+        }
+        let x = list[i];
+        for link in links {
+            if let Some(y) = next(link, exact, x)
+                && met.insert(y)?
+            {
+                list.push(y)?;
+            }
+        }
+    }
+    Ok(met)
+}
+
+fn plain(alloc: Global, links: &[Link]) -> Result<Option<Refusal>, AllocError> {
+    for link in links {
+        if chains(alloc, links, false, link.a)?.contains(&link.a)
+            || chains(alloc, links, false, link.b)?.contains(&link.b)
+        {
+            return Ok(Some(Refusal::Cycle));
+        }
+    }
+    for link in links {
+        if matches!(link.kind, Related | RelMatch)
+            && (chains(alloc, links, false, link.a)?.contains(&link.b)
+                || chains(alloc, links, false, link.b)?.contains(&link.a))
+        {
+            return Ok(Some(Refusal::S27));
+        }
+    }
+    for link in links {
+        if matches!(link.kind, Broad | Narrow | RelMatch)
+            && chains(alloc, links, true, link.a)?.contains(&link.b)
+        {
+            return Ok(Some(Refusal::S46));
+        }
+    }
+    Ok(None)
+}
+
+// The links after a merge, as a list that may hold one twice.
+fn plain_merge(
+    alloc: Global,
+    links: &[Link],
+    source: ResNo,
+    target: ResNo,
+) -> Result<Vec<Link>, AllocError> {
+    let mut merged = Vec::new(alloc);
+    for link in links {
+        let a = if link.a == source { target } else { link.a };
+        let b = if link.b == source { target } else { link.b };
+        if a != b {
+            merged.push(Link {
+                kind: link.kind,
+                a,
+                b,
+            })?;
+        }
+    }
+    Ok(merged)
+}
+
+// A link of any kind between two of so many nodes.
+fn any_link(numbers: &mut Numbers, nodes: u32) -> Link {
+    let kind = match numbers.below(13) {
+        0 | 1 => Broader,
+        2 => BroaderGeneric,
+        3 => BroaderPartitive,
+        4 => BroaderInstantial,
+        5 | 6 => Related,
+        7 => Exact,
+        8 => Close,
+        9 => Broad,
+        10 => Narrow,
+        11 => RelMatch,
+        _ => Member,
+    };
+    let a = numbers.below(nodes);
+    let b = numbers.below(nodes);
+    link(kind, a.saturating_add(1), b.saturating_add(1))
+}
+
+// What the check at the pivot finds once the link, which has an end there, is added to a graph that keeps the rules.
+fn check_added(
+    alloc: Global,
+    graph: &mut Graph,
+    link: &Link,
+) -> Result<Option<Refusal>, AllocError> {
+    if link.a == link.b {
+        return Ok(Some(Refusal::SameResource));
+    }
+    match graph.check_whole(alloc)? {
+        None => {
+            graph.add(link)?;
+            let mut walk = graph.walk();
+            check_at(alloc, &mut walk, link.a)
+        }
+        Some(refusal) => Ok(Some(refusal)),
+    }
+}
+
+// Tries one link on a graph that keeps the rules, and compares each answer.
+fn compare(
+    rt: &impl Abort,
+    alloc: Global,
+    graph: &mut Graph,
+    list: &mut Vec<Link>,
+    new: &Link,
+) -> Result<(), Fail> {
+    let there = graph.has(new);
+    let answer = try_add(alloc, graph, new)?;
+    if there {
+        assert_eq!(rt; answer, Some(Refusal::LinkThere));
+        return Ok(());
+    }
+    list.push(*new)?;
+    assert_eq!(rt; answer, plain(alloc, list.as_slice())?);
+    if answer.is_some() {
+        assert_eq!(rt; check_added(alloc, graph, new)?, answer);
+        assert_eq!(rt; graph.check_whole(alloc)?, answer);
+        graph.remove(new);
+        list.pop();
+    }
+    Ok(())
+}
+
+// How many different links there are, where those of these kinds may be turned unless an end is an outside concept.
+fn count_different(alloc: Global, graph: &Graph, links: &[Link]) -> Result<usize, AllocError> {
+    let mut met = BTreeSet::new(alloc);
+    for link in links {
+        let turns = match link.kind {
+            Related => true,
+            Exact | Close | RelMatch => !graph.is_outside(link.a) && !graph.is_outside(link.b),
+            _ => false,
+        };
+        let (a, b) = if turns && link.b < link.a {
+            (link.b, link.a)
+        } else {
+            (link.a, link.b)
+        };
+        met.insert(Link {
+            kind: link.kind,
+            a,
+            b,
+        })?;
+    }
+    Ok(met.len())
+}
+
+// Tries one merge on a graph that keeps the rules, and compares the answer and the links after it.
+fn compare_merge(
+    rt: &impl Abort,
+    alloc: Global,
+    graph: &mut Graph,
+    list: &mut Vec<Link>,
+    source: u32,
+    target: u32,
+) -> Result<(), Fail> {
+    let (from, to) = (no(source), no(target));
+    if from == to {
+        return Ok(());
+    }
+    let merged = plain_merge(alloc, list.as_slice(), from, to)?;
+    let answer = judge_merge(alloc, graph, source, target)?;
+    assert_eq!(rt;
+        answer,
+        plain(alloc, merged.as_slice())?,
+        "{source} into {target}"
+    );
+    if answer.is_none() {
+        graph.contract(from, to)?;
+        assert_eq!(rt;
+            graph.size(),
+            count_different(alloc, graph, merged.as_slice())? as u64
+        );
+        for link in merged.as_slice() {
+            assert!(rt; graph.has(link));
+        }
+        *list = merged;
+    }
+    Ok(())
+}
+
+#[test]
+fn as_the_plain_program(rt: HostRuntime) -> Result<(), Fail> {
+    let alloc = rt.alloc();
+    let mut numbers = Numbers(1);
+    for round in 0..200u32 {
+        let nodes = 3 + round % 28;
+        let mut graph = Graph::new(alloc);
+        let mut list = Vec::new(alloc);
+        mark(&mut graph, 1)?;
+        mark(&mut graph, 2)?;
+        for _ in 0..nodes {
+            let new = any_link(&mut numbers, nodes);
+            if new.a != new.b {
+                compare(&rt, alloc, &mut graph, &mut list, &new)?;
+            }
+        }
+        for source in 3..nodes {
+            let target = numbers.below(nodes.saturating_sub(2)).saturating_add(3);
+            compare_merge(&rt, alloc, &mut graph, &mut list, source, target)?;
+        }
+    }
+    Ok(())
+}

@@ -1,0 +1,248 @@
+//! Readers and writers that break at each of their calls, in pairs: what was written is a front of the answer, and the
+//! service has done what the whole answer tells, or nothing where the request didn't come whole.
+use crate::shelf::{PAGE, Shelf};
+use std::alloc::{AllocError, Global};
+use std::process::Abort;
+use test_devices::{Filling, Halting};
+use thes_base::pipe::Pipe;
+use thes_http::Status;
+use thes_http::serve::{Served, serve_one};
+
+// A request, the status of its answer, how much is performed, and the answer.
+type Row = (&'static [u8], Status, u32, &'static str);
+
+// How a connection ends, how much was performed, and what was written.
+type End = (Served, u32, Vec<u8>);
+
+// Serves a request through a reader and a writer that break after so many calls.
+fn served(alloc: Global, request: &[u8], reads: u32, writes: u32, is_full: bool) -> End {
+    let mut reader = Pipe::new(Halting {
+        bytes: request,
+        calls: reads,
+    });
+    let mut writer = Pipe::new(Filling {
+        bytes: Vec::new(alloc),
+        calls: writes,
+        is_full,
+    });
+    let mut shelf = Shelf { performed: 0 };
+    let served = serve_one(alloc, &mut reader, &mut writer, &mut shelf);
+    (served, shelf.performed, writer.into_device().bytes)
+}
+
+// How many bytes a reader gives before it breaks: three at every other call.
+fn given(reads: u32) -> usize {
+    (reads as usize).div_ceil(2) * 3
+}
+
+// How many bytes a writer takes before it breaks: one at every other call.
+fn taken(writes: u32) -> usize {
+    (writes as usize).div_ceil(2)
+}
+
+// How a connection is to end: of a request of so many bytes, which is answered so where nothing breaks.
+fn expected<'a>(
+    len: usize,
+    whole: (Status, u32, &'a [u8]),
+    reads: u32,
+    writes: u32,
+) -> (Served, u32, &'a [u8]) {
+    let (status, performed, answer) = whole;
+    if given(reads) < len {
+        return (Served::ReadFault, 0, b"");
+    }
+    match answer.get(..taken(writes)) {
+        Some(front) if front.len() < answer.len() => (Served::WriteFault, performed, front),
+        _ => (Served::Answered(status), performed, answer),
+    }
+}
+
+fn expect(
+    rt: &impl Abort,
+    alloc: Global,
+    request: &[u8],
+    whole: (Status, u32, &[u8]),
+    reads: u32,
+    writes: u32,
+) {
+    let (end, count, front) = expected(request.len(), whole, reads, writes);
+    let (served, performed, written) = served(alloc, request, reads, writes, writes % 4 < 2);
+    assert_eq!(rt; served, end, "{request:?} {reads} {writes}");
+    assert_eq!(rt; performed, count, "{request:?} {reads} {writes}");
+    assert_eq!(rt; written.as_slice(), front, "{request:?} {reads} {writes}");
+}
+
+// How many writers are tried beside a reader: two where it breaks within the request, many where it gives just all of
+// it, and none where it could give more.
+fn writers(len: usize, reads: u32, most: u32) -> u32 {
+    match given(reads) {
+        part if part < len => 2,
+        all if all - len < 3 => most,
+        _ => 0,
+    }
+}
+
+// Each writer that breaks within so many calls.
+fn expect_writers(
+    rt: &impl Abort,
+    alloc: Global,
+    request: &[u8],
+    whole: (Status, u32, &[u8]),
+    reads: u32,
+    most: u32,
+) {
+    for writes in 0..writers(request.len(), reads, most) {
+        expect(rt, alloc, request, whole, reads, writes);
+    }
+}
+
+// Each reader that breaks within so many calls, with writers that break within so many.
+fn expect_pairs(
+    rt: &impl Abort,
+    alloc: Global,
+    request: &[u8],
+    whole: (Status, u32, &[u8]),
+    most: (u32, u32),
+) {
+    for reads in 0..most.0 {
+        expect_writers(rt, alloc, request, whole, reads, most.1);
+    }
+}
+
+static ROWS: [Row; 17] = [
+    (
+        b"POST /requests HTTP/1.1\r\nContent-Length: 29\r\n\r\n{\"do\":\"withdraw\",\"posting\":1}",
+        Status::Fine,
+        1,
+        "HTTP/1.1 200 OK\r\nContent-Type: application/json\r\nContent-Length: 9\r\nConnection: close\r\n\r\n{\"ok\":1}\n",
+    ),
+    (
+        b"POST /requests HTTP/1.1\r\nContent-Length: 30\r\n\r\n{\"do\":\"deprecate\",\"concept\":1}",
+        Status::Conflict,
+        0,
+        "HTTP/1.1 409 Conflict\r\nContent-Type: application/json\r\nContent-Length: 22\r\nConnection: close\r\n\r\n{\"no\":\"SameResource\"}\n",
+    ),
+    (
+        b"POST /requests HTTP/1.1\r\nContent-Length: 16\r\n\r\n{\"get\":\"totals\"}",
+        Status::BadRequest,
+        0,
+        "HTTP/1.1 400 Bad Request\r\nContent-Type: application/json\r\nContent-Length: 19\r\nConnection: close\r\n\r\n{\"bad\":\"BadShape\"}\n",
+    ),
+    (
+        b"POST /import HTTP/1.1\r\nContent-Length: 4\r\n\r\na,b\n",
+        Status::Fine,
+        1,
+        "HTTP/1.1 200 OK\r\nContent-Type: text/csv; charset=utf-8\r\nContent-Length: 4\r\nConnection: close\r\n\r\na,b\n",
+    ),
+    (
+        b"GET /totals HTTP/1.1\r\n\r\n",
+        Status::Fine,
+        0,
+        "HTTP/1.1 200 OK\r\nContent-Type: application/json\r\nContent-Length: 42\r\nConnection: close\r\n\r\n{\"accepted\":0,\"standing\":0,\"withdrawn\":0}\n",
+    ),
+    (
+        b"GET /concepts/2 HTTP/1.1\r\n\r\n",
+        Status::NotFound,
+        0,
+        "HTTP/1.1 404 Not Found\r\nContent-Type: application/json\r\nContent-Length: 25\r\nConnection: close\r\n\r\n{\"no\":\"UnknownResource\"}\n",
+    ),
+    (
+        b"GET /concepts/2/postings HTTP/1.0\r\n\r\n",
+        Status::NotFound,
+        0,
+        "HTTP/1.1 404 Not Found\r\nContent-Type: application/json\r\nContent-Length: 25\r\nConnection: close\r\n\r\n{\"no\":\"UnknownResource\"}\n",
+    ),
+    (
+        b"GET /postings/0 HTTP/1.1\r\n\r\n",
+        Status::BadRequest,
+        0,
+        "HTTP/1.1 400 Bad Request\r\nContent-Type: application/json\r\nContent-Length: 20\r\nConnection: close\r\n\r\n{\"bad\":\"BadNumber\"}\n",
+    ),
+    (
+        b"GET /export HTTP/1.1\r\n\r\n",
+        Status::Fine,
+        0,
+        "HTTP/1.1 200 OK\r\nContent-Type: application/n-triples\r\nContent-Length: 20\r\nConnection: close\r\n\r\n<a:b> <a:c> <a:d> .\n",
+    ),
+    (
+        b"GET /display/alphabetical?scheme=1&lang=en HTTP/1.1\r\n\r\n",
+        Status::Fine,
+        0,
+        "HTTP/1.1 200 OK\r\nContent-Type: text/plain; charset=utf-8\r\nContent-Length: 2\r\nConnection: close\r\n\r\nen",
+    ),
+    (
+        b"GET /display/hierarchical?scheme=1 HTTP/1.1\r\n\r\n",
+        Status::BadRequest,
+        0,
+        "HTTP/1.1 400 Bad Request\r\nContent-Type: application/json\r\nContent-Length: 19\r\nConnection: close\r\n\r\n{\"bad\":\"BadQuery\"}\n",
+    ),
+    (
+        b"GET /nothing HTTP/1.1\r\n\r\n",
+        Status::NotFound,
+        0,
+        "HTTP/1.1 404 Not Found\r\nContent-Type: application/json\r\nContent-Length: 21\r\nConnection: close\r\n\r\n{\"bad\":\"NoSuchPath\"}\n",
+    ),
+    (
+        b"DELETE /totals HTTP/1.1\r\n\r\n",
+        Status::MethodNotAllowed,
+        0,
+        "HTTP/1.1 405 Method Not Allowed\r\nContent-Type: application/json\r\nContent-Length: 20\r\nConnection: close\r\nAllow: GET\r\n\r\n{\"bad\":\"BadMethod\"}\n",
+    ),
+    (
+        b"POST /requests HTTP/1.1\r\n\r\n",
+        Status::LengthRequired,
+        0,
+        "HTTP/1.1 411 Length Required\r\nContent-Type: application/json\r\nContent-Length: 19\r\nConnection: close\r\n\r\n{\"bad\":\"NoLength\"}\n",
+    ),
+    (
+        b"POST /import HTTP/1.1\r\nContent-Length: +1\r\n\r\n",
+        Status::BadRequest,
+        0,
+        "HTTP/1.1 400 Bad Request\r\nContent-Type: application/json\r\nContent-Length: 18\r\nConnection: close\r\n\r\n{\"bad\":\"BadHead\"}\n",
+    ),
+    (
+        b"POST /import HTTP/1.1\r\nContent-Length: 16777217\r\n\r\n",
+        Status::PayloadTooLarge,
+        0,
+        "HTTP/1.1 413 Payload Too Large\r\nContent-Type: application/json\r\nContent-Length: 18\r\nConnection: close\r\n\r\n{\"bad\":\"TooLong\"}\n",
+    ),
+    (
+        b"POST /import HTTP/1.1\r\nTransfer-Encoding: a\r\n\r\n",
+        Status::NotImplemented,
+        0,
+        "HTTP/1.1 501 Not Implemented\r\nContent-Type: application/json\r\nContent-Length: 25\r\nConnection: close\r\n\r\n{\"bad\":\"TransferCoding\"}\n",
+    ),
+];
+
+// Enough calls for the longest request, of 77 bytes, and the longest answer, of 138.
+static CALLS: (u32, u32) = (54, 284);
+
+#[test]
+fn what_breaks_leaves_a_front_of_the_answer(rt: HostRuntime) {
+    for (request, status, performed, answer) in &ROWS {
+        let whole = (*status, *performed, answer.as_bytes());
+        expect_pairs(&rt, rt.alloc(), request, whole, CALLS);
+    }
+}
+
+static LONG: &[u8] = b"GET /display/hierarchical?scheme=3&lang=en HTTP/1.1\r\n\r\n";
+
+// The answer to it, which is no one write: the head and the body are longer than 512 bytes.
+fn long_answer(alloc: Global) -> Result<Vec<u8>, AllocError> {
+    let head =
+        b"HTTP/1.1 200 OK\r\nContent-Type: text/plain; charset=utf-8\r\nContent-Length: 600\r\nConnection: close\r\n\r\n";
+    let mut answer = Vec::from_slice(alloc, head)?;
+    answer.extend_from_slice(&PAGE)?;
+    Ok(answer)
+}
+
+#[test]
+fn what_breaks_leaves_a_front_of_a_long_answer(rt: HostRuntime) {
+    match long_answer(rt.alloc()) {
+        Ok(answer) => {
+            let whole = (Status::Fine, 0, answer.as_slice());
+            expect_pairs(&rt, rt.alloc(), LONG, whole, (40, 1_420));
+        }
+        Err(_) => assert!(&rt; false),
+    }
+}

@@ -1,0 +1,67 @@
+//! Rows as lines of text.
+use std::alloc::{AllocError, Global};
+use std::fmt::Write;
+use thes_base::fault::{Fault, Table};
+use thes_store::sink::{PostingSink, RowSink};
+use thes_tables::cells::Cell;
+use thes_tables::rows::PostingRow;
+
+/// The rows that are handed to it, each on a line; for a table that can't be queried, a line with its name alone.
+#[derive(Drop)]
+pub struct Rows {
+    pub text: String,
+}
+
+impl Rows {
+    /// Makes a text without lines.
+    pub fn new(alloc: Global) -> Rows {
+        Rows {
+            text: String::new(alloc),
+        }
+    }
+
+    // Adds a cell to the line.
+    fn push_cell(&mut self, cell: &Cell) -> Result<(), AllocError> {
+        match cell {
+            Cell::Int(number) => write!(self.text, " {number}"),
+            Cell::Text(text) => write!(self.text, " '{}'", text.as_str()),
+            Cell::Bytes(_) => self.text.push_str(" bytes"),
+            Cell::Null => self.text.push_str(" null"),
+        }
+    }
+
+    // Adds a line: the name of a table, and the cells of a row.
+    fn push_row(&mut self, table: Table, row: &[Cell]) -> Result<(), AllocError> {
+        self.text.push_str(table.name())?;
+        for cell in row {
+            self.push_cell(cell)?;
+        }
+        self.text.push('\n')
+    }
+
+    // Adds a line: a posting's number and its key.
+    fn push_posting(&mut self, row: &PostingRow) -> Result<(), AllocError> {
+        let number = row.number.get();
+        writeln!(self.text, "{number} {}", row.key.as_str())
+    }
+}
+
+impl RowSink for Rows {
+    ghost gives = { λ old row result new. Unit {0} };
+
+    fn row(&mut self, table: Table, row: &[Cell]) -> Result<(), Fault> {
+        Ok(self.push_row(table, row)?)
+    }
+
+    fn unqueried(&mut self, table: Table) -> Result<(), Fault> {
+        Ok(self.push_row(table, &[])?)
+    }
+}
+
+impl PostingSink for Rows {
+    ghost gives = { λ old row result new. Unit {0} };
+
+    fn posting(&mut self, row: &PostingRow) -> Result<(), Fault> {
+        Ok(self.push_posting(row)?)
+    }
+}

@@ -1,0 +1,201 @@
+//! The store's changes: of each kind one at least.
+
+use sqlite::{Alter, Connection, Error};
+use std::alloc::{AllocError, Global};
+use thes_base::data::{Label, LabelValue, Link, LinkKind, Resource, ResourceKind};
+use thes_base::fault::ReadStop;
+use thes_base::number::{MoveNo, PostNo, ResNo};
+use thes_base::text::{Iri, Key, RecordName, Tag, Text};
+use thes_sql::commit::commit_all;
+use thes_tables::change::Change;
+use thes_tables::delta::Delta;
+use thes_tables::rows::{HierRow, HierType, LabelRow, MoveRow, PostingRow};
+
+/// The reason why the store isn't filled.
+#[derive(Debug, Drop)]
+pub enum Failure {
+    Memory,
+    Form,
+    Store(Error),
+    Busy,
+}
+
+impl From<AllocError> for Failure {
+    fn from(_: AllocError) -> Failure {
+        Failure::Memory
+    }
+}
+
+impl From<Error> for Failure {
+    fn from(error: Error) -> Failure {
+        Failure::Store(error)
+    }
+}
+
+impl From<ReadStop> for Failure {
+    fn from(stop: ReadStop) -> Failure {
+        match stop {
+            ReadStop::OutOfMemory => Failure::Memory,
+            ReadStop::Form(_) => Failure::Form,
+        }
+    }
+}
+
+// A preferred label in English.
+fn label(alloc: Global, owner: ResNo, text: &str) -> Result<LabelRow, Failure> {
+    Ok(LabelRow {
+        owner,
+        label: Label {
+            tag: Tag::read(alloc, "en")?,
+            value: LabelValue::Pref(Text::read(alloc, text)?),
+        },
+    })
+}
+
+// A posting of a record to a concept.
+fn posting(
+    alloc: Global,
+    number: PostNo,
+    key: &str,
+    record: &str,
+    place: ResNo,
+) -> Result<PostingRow, Failure> {
+    Ok(PostingRow {
+        number,
+        key: Key::read(alloc, key)?,
+        rec: RecordName::read(alloc, record)?,
+        first: place,
+        place,
+        withdrawn: false,
+    })
+}
+
+// A resource with its label.
+fn make_named(
+    alloc: Global,
+    delta: &mut Delta,
+    n: ResNo,
+    made: Resource,
+    text: &str,
+) -> Result<(), Failure> {
+    delta.push(Change::AddResource(n, made))?;
+    delta.push(Change::AddLabel(label(alloc, n, text)?))?;
+    Ok(())
+}
+
+// A scheme with three concepts, and an outside concept.
+fn make_resources(alloc: Global, delta: &mut Delta) -> Result<(), Failure> {
+    let scheme = ResNo::new(1);
+    let concept = Resource::new(ResourceKind::Concept, Some(scheme));
+    make_named(
+        alloc,
+        delta,
+        scheme,
+        Resource::new(ResourceKind::Scheme, None),
+        "Animals",
+    )?;
+    make_named(alloc, delta, ResNo::new(2), concept, "Cats")?;
+    make_named(alloc, delta, ResNo::new(3), concept, "Mammals")?;
+    make_named(alloc, delta, ResNo::new(4), concept, "Pets")?;
+    let outside = ResNo::new(5);
+    delta.push(Change::AddResource(outside, Resource::new(ResourceKind::Outside, None)))?;
+    let iri = Iri::read(alloc, "http://example.org/x")?;
+    delta.push(Change::AddOutside(outside, iri))?;
+    Ok(())
+}
+
+// A link that concepts 2 and 4 are related.
+fn related() -> Link {
+    Link {
+        kind: LinkKind::Related,
+        a: ResNo::new(2),
+        b: ResNo::new(4),
+    }
+}
+
+// A link that concept 3 is broader than concept 2, of this type.
+fn broader(typ: HierType) -> HierRow {
+    HierRow {
+        a: ResNo::new(2),
+        b: ResNo::new(3),
+        typ,
+    }
+}
+
+// Links of both tables, of which one each goes again.
+fn make_links(delta: &mut Delta) -> Result<(), Failure> {
+    delta.push(Change::AddLink(related()))?;
+    delta.push(Change::AddLink(Link {
+        kind: LinkKind::Exact,
+        a: ResNo::new(3),
+        b: ResNo::new(5),
+    }))?;
+    delta.push(Change::AddHier(broader(HierType::Untyped)))?;
+    delta.push(Change::AddHier(broader(HierType::Partitive)))?;
+    delta.push(Change::DropLink(related()))?;
+    delta.push(Change::DropHier(broader(HierType::Untyped)))?;
+    Ok(())
+}
+
+// Three postings, of which one is withdrawn, and a move.
+fn make_postings(alloc: Global, delta: &mut Delta) -> Result<(), Failure> {
+    let (two, four) = (ResNo::new(2), ResNo::new(4));
+    let (first, second, third) = (PostNo::new(1), PostNo::new(2), PostNo::new(3));
+    delta.push(Change::AddPosting(posting(alloc, first, "k1", "r1", two)?))?;
+    delta.push(Change::AddPosting(posting(alloc, second, "k2", "r2", two)?))?;
+    delta.push(Change::AddPosting(posting(alloc, third, "k3", "r3", four)?))?;
+    delta.push(Change::Withdraw(second))?;
+    delta.push(Change::SetPlace(third, two))?;
+    delta.push(Change::AddMove(MoveRow {
+        number: MoveNo::new(1),
+        posting: third,
+        source: four,
+        target: two,
+    }))?;
+    Ok(())
+}
+
+// What stands at concept 2 goes to concept 3, which replaces it; concept 4 goes, with its label.
+fn merge(alloc: Global, delta: &mut Delta) -> Result<(), Failure> {
+    let (two, three, four) = (ResNo::new(2), ResNo::new(3), ResNo::new(4));
+    delta.push(Change::Replace(two, three))?;
+    delta.push(Change::MoveAll(two, three))?;
+    delta.push(Change::AddMove(MoveRow {
+        number: MoveNo::new(2),
+        posting: PostNo::new(1),
+        source: two,
+        target: three,
+    }))?;
+    delta.push(Change::AddMove(MoveRow {
+        number: MoveNo::new(3),
+        posting: PostNo::new(3),
+        source: two,
+        target: three,
+    }))?;
+    delta.push(Change::Retire(four))?;
+    delta.push(Change::DropLabel(label(alloc, four, "Pets")?))?;
+    Ok(())
+}
+
+// Commits the changes.
+fn commit<S: Alter>(conn: &mut Connection<S>, delta: &Delta) -> Result<(), Failure> {
+    if commit_all(conn, delta.as_slice())? {
+        Ok(())
+    } else {
+        Err(Failure::Busy)
+    }
+}
+
+/// Makes in three commits changes of each kind.
+pub fn fill<S: Alter>(alloc: Global, conn: &mut Connection<S>) -> Result<(), Failure> {
+    let mut made = Delta::new(alloc);
+    make_resources(alloc, &mut made)?;
+    make_links(&mut made)?;
+    commit(conn, &made)?;
+    let mut posted = Delta::new(alloc);
+    make_postings(alloc, &mut posted)?;
+    commit(conn, &posted)?;
+    let mut merged = Delta::new(alloc);
+    merge(alloc, &mut merged)?;
+    commit(conn, &merged)
+}

@@ -1,0 +1,116 @@
+//! A keeper in memory of which a few calls fail.
+ghost use Rattle.std.specs.Prelude.{◌≡◌};
+ghost use Rattle.thes_base.specs.declared.fault.Fault.{Fault};
+ghost use Rattle.thes_store.specs.Causes.{IsCounted};
+
+use thes_base::fault::Fault;
+use thes_base::number::{PostNo, ResNo};
+use thes_base::text::Key;
+use thes_store::fail_once::Next;
+use thes_store::keeper::{Keeper, Posting};
+use thes_store::mem::MemKeeper;
+use thes_store::sink::{PostingSink, RowSink};
+use thes_tables::delta::Delta;
+use thes_tables::rows::PostingRow;
+
+/// A keeper in memory that makes so many calls, fails at so many behind them, and then makes each.
+#[derive(Drop)]
+pub struct Faltering {
+    pub keeper: MemKeeper,
+    before: u32,
+    times: u32,
+    pub failures: u64,
+    /// The call that failed first.
+    pub first: Next,
+}
+
+impl Faltering {
+    /// Makes a keeper of these tables that makes so many calls, and fails at so many behind them.
+    pub fn new(keeper: MemKeeper, before: u32, times: u32) -> Faltering {
+        Faltering {
+            keeper,
+            before,
+            times,
+            failures: 0,
+            first: Next::Nothing,
+        }
+    }
+
+    // Counts a call of this kind, and tells whether it is to fail.
+    fn is_due(&mut self, call: Next) -> bool
+        ensures same { self.new.keeper ≡ self.old.keeper }
+        ensures failures { self.new.failures ≡ self.old.failures }
+    {
+        if self.before > 0 {
+            self.before -= 1;
+            return false;
+        }
+        if self.times == 0 {
+            return false;
+        }
+        self.times -= 1;
+        if self.first == Next::Nothing {
+            self.first = call;
+        }
+        true
+    }
+
+    // Counts a failure.
+    fn fail(&mut self) -> Fault
+        ensures fault { result ≡ Fault.Store }
+        ensures same { self.new.keeper ≡ self.old.keeper }
+        ensures counted { IsCounted self.old.failures self.new.failures result }
+    {
+        self.failures = self.failures.saturating_add(1);
+        Fault::Store
+    }
+}
+
+impl Keeper for Faltering {
+    ghost use Rattle.thes_tables.specs.Cells.{listed};
+
+    ghost rows = { λ k. listed k.keeper };
+
+    ghost is_up = { λ k. Unit {0} };
+
+    ghost failed = { λ k. k.failures };
+
+    fn failures(&self) -> u64 {
+        self.failures
+    }
+
+    fn load<S: RowSink>(&mut self, sink: &mut S) -> Result<(), Fault> {
+        if self.is_due(Next::Load) {
+            return Err(self.fail());
+        }
+        self.keeper.load(sink)
+    }
+
+    fn commit(&mut self, delta: Delta) -> Result<(), Fault> {
+        if self.is_due(Next::Commit) {
+            return Err(self.fail());
+        }
+        self.keeper.commit(delta)
+    }
+
+    fn find(&mut self, key: &Key) -> Result<Option<PostingRow>, Fault> {
+        if self.is_due(Next::Find) {
+            return Err(self.fail());
+        }
+        self.keeper.find(key)
+    }
+
+    fn posting(&mut self, number: PostNo) -> Result<Option<Posting>, Fault> {
+        if self.is_due(Next::Posting) {
+            return Err(self.fail());
+        }
+        self.keeper.posting(number)
+    }
+
+    fn standing<S: PostingSink>(&mut self, concept: ResNo, sink: &mut S) -> Result<(), Fault> {
+        if self.is_due(Next::Standing) {
+            return Err(self.fail());
+        }
+        self.keeper.standing(concept, sink)
+    }
+}

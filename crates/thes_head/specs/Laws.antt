@@ -1,7 +1,0 @@
--- Laws of the definitions.
-use Rattle.std.specs.Prelude.{ℕ, List}
-use Rattle.thes_head.specs.Heads.{IsCutHead, IsBadHead}
-
--- no bytes are both cut within a head and a bad head
-abbrev pub CutIsNotBad : Type 0
-CutIsNotBad = (bytes : List ℕ) → IsCutHead bytes → IsBadHead bytes → ⊥

@@ -1,0 +1,38 @@
+-- From spans in a head to its parts.
+use Rattle.std.proofs.Common.{◌≡◌, ◌∙◌, sym, ap, refl, ℕ, ◌≤◌, List, length, take, drop, map, Result, Ok, Err, IfOk, arith}
+use Rattle.httparse.specs.Spans.{header_bytes, span_bytes}
+use Rattle.httparse.specs.declared.spans.HeaderSpan.{HeaderSpan}
+use Rattle.httparse.specs.declared.spans.RequestSpans.{RequestSpans}
+use Rattle.thes_http_request.specs.declared.problem.Problem.{Problem}
+use Rattle.thes_http_request.specs.Heads.{head_limit, Parts, parts_of}
+use Rattle.thes_http_request.specs.Inbox.{IsHeadAt, Asks}
+use Rattle.thes_http_request.specs.Wants.{Wants, wants_of}
+
+-- what the spans show of a head
+abbrev pub parts_at : List ℕ → List HeaderSpan → RequestSpans → Parts
+parts_at bytes headers spans = record {
+  method = span_bytes bytes spans.method;
+  target = span_bytes bytes spans.path;
+  fields = map (header_bytes bytes) (take spans.headers headers);
+}
+
+asks_from : (bytes : List ℕ) (headers : List HeaderSpan) (spans : RequestSpans) (p : Parts) (outcome : Result Wants Problem)
+    → IsHeadAt bytes headers spans → length bytes ≤ head_limit → p ≡ parts_at bytes headers spans → wants_of p ≡ outcome → Asks bytes (drop spans.len bytes) outcome
+asks_from bytes headers spans p outcome a l e w =
+    let is : parts_at bytes headers spans ≡ parts_of a.head = rw (a.at.method, a.at.path, a.at.fields) refl in
+    let fits = a.within.section.len_fits in
+    let len = a.at.len in
+    record {
+      head = a.head;
+      has = record { reads = a.at.reads; short = omega (arith, fits, len, l); few = a.few };
+      wants = ap wants_of (sym (e ∙ is)) ∙ w;
+    }
+
+pub asks_ok : {A E : Type 0} (r : Result A E) (f : A → Wants) (bytes : List ℕ) (headers : List HeaderSpan) (spans : RequestSpans) (p : Parts)
+    → IsHeadAt bytes headers spans → length bytes ≤ head_limit → p ≡ parts_at bytes headers spans → IfOk r (λ w. wants_of p ≡ Ok (f w)) → IfOk r (λ w. Asks bytes (drop spans.len bytes) (Ok (f w)))
+asks_ok (Ok x) f bytes headers spans p a l e w = asks_from bytes headers spans p (Ok (f x)) a l e w
+asks_ok (Err x) f bytes headers spans p a l e w = tt
+
+pub asks_err : (bytes : List ℕ) (headers : List HeaderSpan) (spans : RequestSpans) (p : Parts) (problem : Problem)
+    → IsHeadAt bytes headers spans → length bytes ≤ head_limit → p ≡ parts_at bytes headers spans → wants_of p ≡ Err problem → Asks bytes (drop spans.len bytes) (Err problem)
+asks_err bytes headers spans p problem a l e w = asks_from bytes headers spans p (Err problem) a l e w

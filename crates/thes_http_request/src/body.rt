@@ -1,0 +1,134 @@
+//! The body of a request, as it comes.
+ghost use Rattle.std.specs.Prelude.{◌≡◌, ◌≤◌, ◌<◌, ◌+◌, ◌++◌, [], length, true, false, vec_len, vec_capacity, IfOk, OnOk, IsErrOf};
+ghost use Rattle.thes_base.specs.Pipe.{ended_of, IsFresh, PaysCalls, unread};
+ghost use Rattle.thes_http_request.specs.Inbox.{ReadsBody, CutsBody, Takes, Grows, GrowsAsItCame, HasStopped, HasEnded};
+
+use crate::inbox::Gone;
+use std::alloc::AllocError;
+use std::io::Read;
+use thes_base::pipe::{Budget, Pipe};
+
+/// The reason why there is no body.
+#[derive(Clone, Copy, Debug, PartialEq, Eq)]
+pub enum BodyStop {
+    Gone(Gone),
+    OutOfMemory,
+}
+
+impl From<AllocError> for BodyStop {
+    ghost use Rattle.thes_http_request.specs.declared.body.BodyStop.TheVariants.{OutOfMemory};
+
+    ghost from_gives = { λ e stop. stop ≡ OutOfMemory };
+
+    fn from(_: AllocError) -> BodyStop {
+        BodyStop::OutOfMemory
+    }
+}
+
+impl From<Gone> for BodyStop {
+    ghost use Rattle.thes_http_request.specs.declared.body.BodyStop.TheVariants as stop;
+
+    ghost from_gives = { λ gone s. s ≡ stop.Gone gone };
+
+    fn from(gone: Gone) -> BodyStop {
+        BodyStop::Gone(gone)
+    }
+}
+
+// Makes room for a byte or more of those that are still to come.
+fn make_room(body: &mut Vec<u8>, count: usize) -> Result<(), AllocError>
+    requires short { vec_len body.old < count }
+    requires room { GrowsAsItCame count (vec_len body.old) (vec_capacity body.old) }
+    ensures items { body.new.items ≡ body.old.items }
+    ensures len { vec_len body.new ≡ vec_len body.old }
+    ensures some { OnOk result (vec_len body.new < vec_capacity body.new) }
+    ensures room { GrowsAsItCame count (vec_len body.new) (vec_capacity body.new) }
+{
+    let len = body.len();
+    if body.capacity() > len {
+        return Ok(());
+    }
+    body.reserve_exact(len.saturating_add(4096).min(count - len))
+}
+
+// Adds bytes for which there is room.
+fn add(body: &mut Vec<u8>, bytes: &[u8])
+    requires { vec_len body.old + length bytes.now ≤ vec_capacity body.old }
+    ensures items { body.new.items ≡ body.old.items ++ bytes.now }
+    ensures len { vec_len body.new ≡ vec_len body.old + length bytes.now }
+    ensures capacity { vec_capacity body.new ≡ vec_capacity body.old }
+{
+    for byte in bytes {
+        body.push_reserved(*byte);
+    }
+}
+
+// Reads into the chunk, and adds what came to the body, which has room for a whole chunk.
+fn read_more<R: Read>(
+    reader: &mut Pipe<R>,
+    budget: &mut Budget,
+    chunk: &mut [u8],
+    body: &mut Vec<u8>,
+) -> Result<bool, Gone>
+    requires fresh { IsFresh reader.old }
+    requires some { 0 < length chunk.old }
+    requires room { vec_len body.old + length chunk.old ≤ vec_capacity body.old }
+    ensures taken { Takes (unread R.remaining reader.old) (unread R.remaining reader.new) }
+    ensures more { OnOk result (Grows (unread R.remaining reader.old)
+        (unread R.remaining reader.new) body.old.items body.new.items) }
+    ensures going { IfOk result (λ more. more ≡ true →
+        (vec_len body.old < vec_len body.new)
+        × (vec_len body.new ≤ vec_len body.old + length chunk.old)
+        × IsFresh reader.new) }
+    ensures end { IfOk result (λ more. more ≡ false →
+        (body.new.items ≡ body.old.items) × HasEnded R.remaining reader.new) }
+    ensures fault { IsErrOf result Gone.ReadFault → HasStopped reader.new }
+    ensures not_cut { ¬ IsErrOf result Gone.Cut }
+    ensures len { vec_len body.old ≤ vec_len body.new }
+    ensures capacity { vec_capacity body.new ≡ vec_capacity body.old }
+    ensures paid { PaysCalls reader.old reader.new budget.old budget.new }
+{
+    match reader.read(budget, chunk) {
+        Ok(count) => {
+            add(body, &chunk[..count]);
+            Ok(count > 0)
+        }
+        Err(_) => Err(Gone::ReadFault),
+    }
+}
+
+/// Reads a body of that many bytes into an empty buffer; the first of them may be here already.
+///
+/// The buffer grows with what comes, whatever length was announced, and whether or not the body is whole.
+pub fn read_body<R: Read>(
+    reader: &mut Pipe<R>,
+    budget: &mut Budget,
+    start: &[u8],
+    count: usize,
+    body: &mut Vec<u8>,
+) -> Result<(), BodyStop>
+    requires fresh { IsFresh reader.old }
+    requires empty { (body.old.items ≡ []) × (vec_capacity body.old ≡ 0) }
+    ensures taken { Takes (unread R.remaining reader.old) (unread R.remaining reader.new) }
+    ensures whole { OnOk result (ReadsBody (unread R.remaining reader.old)
+        (unread R.remaining reader.new) start.now count body.new.items) }
+    ensures cut { IsErrOf result (BodyStop.Gone Gone.Cut) →
+        CutsBody (unread R.remaining reader.old) (unread R.remaining reader.new) start.now count
+        × (ended_of reader.new ≡ true) }
+    ensures fault { IsErrOf result (BodyStop.Gone Gone.ReadFault) → HasStopped reader.new }
+    ensures room { GrowsAsItCame count (vec_len body.new) (vec_capacity body.new) }
+    ensures paid { PaysCalls reader.old reader.new budget.old budget.new }
+{
+    let here = count.min(start.len());
+    body.reserve_exact(here)?;
+    add(body, &start[..here]);
+    let mut chunk = [0u8; 4096];
+    while body.len() < count {
+        make_room(body, count)?;
+        let room = (body.capacity() - body.len()).min(4096);
+        if !read_more(reader, budget, &mut chunk[..room], body)? {
+            return Err(BodyStop::Gone(Gone::Cut));
+        }
+    }
+    Ok(())
+}

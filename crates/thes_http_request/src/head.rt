@@ -1,0 +1,101 @@
+//! Whether bytes begin with a head.
+ghost use Rattle.std.specs.Prelude.{◌≡◌, ◌⊎◌, true, false, length, MatchOption};
+ghost use Rattle.std.specs.List.{list_any, list_all, before_first, after_first};
+ghost use Rattle.httparse.specs.Grammar.{is_uri_byte};
+ghost use Rattle.thes_http_request.specs.Heads.{without_blank_lines, is_space, whole_lines, ends_in_target, IsUnfinished, IsNoHead, HasTooManyLines};
+ghost use Rattle.thes_http_request.specs.Inbox.{IsHeadAt};
+
+use httparse::spans::{HeaderSpan, RequestSpans, parse_request};
+use httparse::{Error, Status, is_token, is_uri_token};
+
+// The request line, and 64 header lines.
+const LINES_LIMIT: usize = 65;
+
+/// The verdict on the bytes so far.
+#[derive(Clone, Copy, Drop)]
+pub enum Head {
+    /// They begin with a head, whose parts stand there.
+    Whole(RequestSpans),
+    /// There is no head yet, and one may come.
+    More,
+    /// No head can come, or one with too many lines.
+    Bad,
+}
+
+/// Tells whether a head is there, may come, or never comes.
+pub fn head_of(bytes: &[u8], headers: &mut [HeaderSpan]) -> Head
+    requires { length headers.old ≡ 64 }
+    ensures whole { (spans : _) → result ≡ Head.Whole spans → IsHeadAt bytes.now headers.new spans }
+    ensures more { result ≡ Head.More → IsUnfinished bytes.now }
+    ensures bad { result ≡ Head.Bad → IsNoHead bytes.now ⊎ HasTooManyLines bytes.now }
+{
+    let may_come = match parse_request(bytes, headers) {
+        Ok(Status::Complete(spans)) => return Head::Whole(spans),
+        Ok(Status::Partial) => true,
+        Err(Error::TooManyHeaders) => return Head::Bad,
+        Err(_) => ends_in_target(bytes),
+    };
+    if may_come && whole_lines(bytes) <= LINES_LIMIT {
+        Head::More
+    } else {
+        Head::Bad
+    }
+}
+
+// The bytes after the empty lines before a request line.
+fn without_blank_lines(bytes: &[u8]) -> &[u8]
+    ensures { result.now ≡ without_blank_lines bytes.now }
+{
+    let mut rest = bytes;
+    loop {
+        if let Some(more) = rest.strip_prefix(b"\n") {
+            rest = more;
+        } else if let Some(more) = rest.strip_prefix(b"\r\n") {
+            rest = more;
+        } else {
+            return rest;
+        }
+    }
+}
+
+// How many lines of a head are whole, the request line among them.
+fn whole_lines(bytes: &[u8]) -> usize
+    ensures { result ≡ whole_lines bytes.now }
+{
+    let head = without_blank_lines(bytes);
+    let mut lines = 0;
+    for byte in head {
+        if *byte == b'\n' {
+            lines += 1;
+        }
+    }
+    lines
+}
+
+// Whether the bytes end within the target of a request line.
+fn ends_in_target(bytes: &[u8]) -> bool
+    ensures { result ≡ ends_in_target bytes.now }
+{
+    match split_at_space(without_blank_lines(bytes)) {
+        None => false,
+        Some((method, target)) => is_token(method) && is_target(target),
+    }
+}
+
+// What stands before the first space of a line, and what stands after it.
+fn split_at_space(line: &[u8]) -> Option<(&[u8], &[u8])>
+    ensures { MatchOption result (list_any is_space line.now ≡ false)
+        (λ parts. (list_any is_space line.now ≡ true)
+        × (parts.0.now ≡ before_first is_space line.now)
+        × (parts.1.now ≡ after_first is_space line.now)) }
+{
+    let at = line.iter().position(|byte| *byte == b' ')?;
+    Some((&line[..at], &line[at + 1..]))
+}
+
+// Whether a target may have each of the bytes.
+fn is_target(bytes: &[u8]) -> bool
+    ensures { result ≡ list_all is_uri_byte bytes.now }
+{
+    bytes.iter().all(|byte| is_uri_token(*byte))
+}

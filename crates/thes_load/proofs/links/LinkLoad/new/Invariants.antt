@@ -1,6 +1,0 @@
-use Rattle.thes_load.specs.Linking.{MarksFirst}
-use Rattle.thes_load.proofs.links.LinkLoad.new.Given as goal
-
--- the outside concepts so far are marked
-abbrev pub invariant-loop-i : goal.invariant-loop-i
-invariant-loop-i l = MarksFirst l.resources l.i l.graph

@@ -1,7 +1,0 @@
-use Rattle.std.proofs.Common.{List, ℕ, [], subst, sym}
-use Rattle.thes_load.specs.Taken.{HasMoves}
-use Rattle.thes_load.proofs.MoveTaking.{moves_none}
-use Rattle.thes_load.proofs.postings.PostingLoad.close.Goals as goal
-
-pub returns : goal.returns
-returns c = λ rs rows has. (subst (λ (l : List ℕ). HasMoves rs rows 0 l []) (sym has.firsts_are) (moves_none rs rows has.rule.few has.rule.numbers), (has.ats_are, has.sums_are))

@@ -1,8 +1,0 @@
-use Rattle.std.proofs.Common.{◌≡◌}
-use Rattle.thes_rows.specs.Cells.{Raw}
-use Rattle.thes_load.specs.Progress.{stage_table, table_no, HasRead}
-use Rattle.thes_load.proofs.stage.Stage.reach.Given as goal
-
--- the table of this number is reached
-abbrev pub invariant-loop-i : goal.invariant-loop-i
-invariant-loop-i l = (table_no (stage_table l.stage) ≡ l.i) × ((raw : Raw) → HasRead l.fn.self raw → HasRead l.stage raw)

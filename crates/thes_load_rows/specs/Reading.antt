@@ -1,0 +1,12 @@
+-- Rows of cells, read one by one.
+use Rattle.std.specs.Prelude.{◌≡◌, List, [], ◌∷◌, ◌++◌, Bool, true, false}
+use Rattle.thes_tables.specs.declared.cells.Cell.{Cell}
+
+-- no rows whose cells begin with these meet the rule
+abbrev pub IsFaulty : {A : Type 0} → (List A → List (List Cell)) → (List A → Type 0) → List (List Cell) → Type 0
+IsFaulty {A} cells_of Rule begun = (more : List (List Cell)) (rows : List A) → cells_of rows ≡ begun ++ more → Rule rows → ⊥
+
+-- The next cells are those of a row, and it is taken; or no rows whose cells begin so meet the rule.
+abbrev pub Reads : {A : Type 0} → (List A → List (List Cell)) → (List A → Type 0) → (List A → Type 0) → List A → List Cell → Bool → Type 0
+Reads {A} cells_of Has Rule rows cells true = (x : A) × (cells_of (rows ++ x ∷ []) ≡ cells_of rows ++ cells ∷ []) × Has (rows ++ x ∷ [])
+Reads cells_of Has Rule rows cells false = IsFaulty cells_of Rule (cells_of rows ++ cells ∷ [])

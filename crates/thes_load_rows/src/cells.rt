@@ -1,0 +1,153 @@
+//! What single cells spell.
+ghost use Rattle.std.specs.Prelude.{◌≡◌, IfOk, None};
+ghost use Rattle.thes_base.specs.Forms.{IsNumber, HasKeptForm};
+ghost use Rattle.thes_base.specs.Labels.{label_kind_no};
+ghost use Rattle.thes_base.specs.Links.{link_kind_no};
+ghost use Rattle.thes_tables.specs.declared.cells.Cell.TheVariants.{Text};
+ghost use Rattle.thes_tables.specs.Cells.{number_cell, flag_cell, optional_cell, resource_kind_no, hier_type_no};
+ghost use Rattle.thes_tables.specs.Tables.{hier_type};
+ghost use Rattle.thes_load_rows.specs.Forms.{IsNumberOrNone};
+ghost use Rattle.thes_load_rows.specs.Spelled.{Spells, SpellsValue};
+
+use std::alloc::{AllocError, Global};
+use thes_base::data::{LabelKind, LabelValue, LinkKind, ResourceKind};
+use thes_base::fault::ReadStop;
+use thes_base::form::{Form, NoteForm, TextForm};
+use thes_base::number::ResNo;
+use thes_base::text::Formed;
+use thes_tables::cells::Cell;
+use thes_tables::rows::HierType;
+
+/// Reads the number of a resource, a posting or a move.
+pub fn number_in(cell: &Cell) -> Option<u32>
+    ensures { Spells number_cell IsNumber cell.now result }
+{
+    match cell {
+        Cell::Int(value) if 1 <= *value && *value <= 4_294_967_295 => Some(*value as u32),
+        _ => None,
+    }
+}
+
+/// Reads the number of a resource, or null.
+pub fn optional_in(cell: &Cell) -> Option<Option<ResNo>>
+    ensures { Spells optional_cell IsNumberOrNone cell.now result }
+{
+    match cell {
+        Cell::Null => Some(None),
+        _ => Some(Some(ResNo::new(number_in(cell)?))),
+    }
+}
+
+/// Reads a truth value: 0 or 1.
+pub fn flag_in(cell: &Cell) -> Option<bool>
+    ensures { Spells flag_cell (λ _. Unit {0}) cell.now result }
+{
+    match cell {
+        Cell::Int(0) => Some(false),
+        Cell::Int(1) => Some(true),
+        _ => None,
+    }
+}
+
+/// Reads the kind of a resource.
+pub fn resource_kind_in(cell: &Cell) -> Option<ResourceKind>
+    ensures { Spells (λ kind. number_cell (resource_kind_no kind)) (λ _. Unit {0}) cell.now result }
+{
+    match cell {
+        Cell::Int(1) => Some(ResourceKind::Scheme),
+        Cell::Int(2) => Some(ResourceKind::Concept),
+        Cell::Int(3) => Some(ResourceKind::Collection),
+        Cell::Int(4) => Some(ResourceKind::Outside),
+        _ => None,
+    }
+}
+
+/// Reads the kind of a label.
+pub fn label_kind_in(cell: &Cell) -> Option<LabelKind>
+    ensures { Spells (λ kind. number_cell (label_kind_no kind)) (λ _. Unit {0}) cell.now result }
+{
+    match cell {
+        Cell::Int(1) => Some(LabelKind::Pref),
+        Cell::Int(2) => Some(LabelKind::Alt),
+        Cell::Int(3) => Some(LabelKind::Hidden),
+        Cell::Int(4) => Some(LabelKind::Scope),
+        _ => None,
+    }
+}
+
+/// Reads the kind of a link that isn't hierarchical.
+pub fn link_kind_in(cell: &Cell) -> Option<LinkKind>
+    ensures { Spells (λ kind. number_cell (link_kind_no kind)) (λ kind. hier_type kind ≡ None) cell.now result }
+{
+    match cell {
+        Cell::Int(2) => Some(LinkKind::Related),
+        Cell::Int(3) => Some(LinkKind::Exact),
+        Cell::Int(4) => Some(LinkKind::Close),
+        Cell::Int(5) => Some(LinkKind::Broad),
+        Cell::Int(6) => Some(LinkKind::Narrow),
+        Cell::Int(7) => Some(LinkKind::RelMatch),
+        Cell::Int(8) => Some(LinkKind::Member),
+        _ => None,
+    }
+}
+
+/// Reads the type of a hierarchical link.
+pub fn hier_type_in(cell: &Cell) -> Option<HierType>
+    ensures { Spells (λ typ. number_cell (hier_type_no typ)) (λ _. Unit {0}) cell.now result }
+{
+    match cell {
+        Cell::Int(0) => Some(HierType::Untyped),
+        Cell::Int(1) => Some(HierType::Generic),
+        Cell::Int(2) => Some(HierType::Partitive),
+        Cell::Int(3) => Some(HierType::Instantial),
+        _ => None,
+    }
+}
+
+/// Reads a text of the form `F`, if it stands as it is kept.
+pub fn text_in<F: Form>(alloc: Global, cell: &Cell) -> Result<Option<Formed<F>>, AllocError>
+    ensures { IfOk result (Spells Text (HasKeptForm F.is_form F.LOWERED) cell.now) }
+{
+    match cell {
+        Cell::Text(text) => match Formed::<F>::read(alloc, text.as_str()) {
+            Ok(value) => {
+                if value.as_str() == text.as_str() {
+                    Ok(Some(value))
+                } else {
+                    Ok(None)
+                }
+            }
+            Err(ReadStop::Form(_)) => Ok(None),
+            Err(ReadStop::OutOfMemory) => Err(AllocError),
+        },
+        _ => Ok(None),
+    }
+}
+
+/// Reads what a label of this kind says.
+pub fn value_in(
+    alloc: Global,
+    kind: LabelKind,
+    cell: &Cell,
+) -> Result<Option<LabelValue>, AllocError>
+    ensures { IfOk result (SpellsValue kind cell.now) }
+{
+    match kind {
+        LabelKind::Pref => match text_in::<TextForm>(alloc, cell)? {
+            Some(text) => Ok(Some(LabelValue::Pref(text))),
+            None => Ok(None),
+        },
+        LabelKind::Alt => match text_in::<TextForm>(alloc, cell)? {
+            Some(text) => Ok(Some(LabelValue::Alt(text))),
+            None => Ok(None),
+        },
+        LabelKind::Hidden => match text_in::<TextForm>(alloc, cell)? {
+            Some(text) => Ok(Some(LabelValue::Hidden(text))),
+            None => Ok(None),
+        },
+        LabelKind::Scope => match text_in::<NoteForm>(alloc, cell)? {
+            Some(note) => Ok(Some(LabelValue::Scope(note))),
+            None => Ok(None),
+        },
+    }
+}

@@ -1,0 +1,165 @@
+//! The rows of link and of hier.
+ghost use Rattle.std.specs.Prelude.{◌≡◌, ◌↔◌, ◌<◌, ◌^◌, [], List, IsTrue, IfOk, length, map};
+ghost use Rattle.thes_base.specs.declared.data.Resource.{Resource};
+ghost use Rattle.thes_base.specs.declared.data.Link.{Link};
+ghost use Rattle.thes_base.specs.Links.{norm};
+ghost use Rattle.thes_tables.specs.declared.rows.HierRow.{HierRow};
+ghost use Rattle.thes_tables.specs.Tables.{hier_kind, hier_link};
+ghost use Rattle.thes_graph.specs.Net.{is_marked};
+ghost use Rattle.thes_load_rules.specs.Rules.{LinkRule, HierRule};
+ghost use Rattle.thes_load_rows.specs.Forms.{HasLinkForm};
+ghost use Rattle.thes_tables.specs.Cells.{link_cells, hier_cells};
+ghost use Rattle.thes_load_rows.specs.Reading.{Reads};
+ghost use Rattle.thes_load_rows.specs.Taken.{Takes};
+ghost use Rattle.thes_load_rows.specs.Linking.{AreMarked, IsAdded, HasLinks};
+
+use crate::ends::{is_fit, is_outside};
+use crate::rows::{hier_in, link_in};
+use std::alloc::{AllocError, Global};
+use thes_base::data::{Link, LinkKind, Resource};
+use thes_base::number::ResNo;
+use thes_graph::graph::Graph;
+use thes_graph::judge::in_order;
+use thes_tables::cells::Cell;
+use thes_tables::rows::{HierRow, HierType};
+
+/// Keeps of the rows of link and of hier their links.
+#[derive(Drop)]
+pub struct LinkLoad {
+    pub graph: Graph,
+}
+
+impl LinkLoad {
+    /// Starts with no row of either table.
+    pub fn new(alloc: Global, resources: &[Resource]) -> Result<LinkLoad, AllocError>
+        requires { length resources.now < 2 ^ 32 }
+        ensures { IfOk result (λ load. HasLinks resources.now load.graph [] []) }
+    {
+        let mut graph = Graph::new(alloc);
+        for i in 0..resources.len() {
+            let n = ResNo::new(i as u32 + 1);
+            if is_outside(resources, n) {
+                graph.mark_outside(n)?;
+            }
+        }
+        Ok(LinkLoad { graph })
+    }
+
+    /// Takes the next row of link, or answers false if it breaks the rule.
+    pub fn take(&mut self, resources: &[Resource], link: &Link) -> Result<bool, AllocError>
+        requires { HasLinkForm link.now }
+        ensures same { self.new.graph.outside ≡ self.old.graph.outside }
+        ensures takes { IfOk result (λ good. (rows : List Link) → HasLinks resources.now self.old.graph rows []
+            → Takes (λ more. HasLinks resources.now self.new.graph more []) (LinkRule resources.now) rows link.now good) }
+    {
+        let good = add_legal(&mut self.graph, resources, link)?;
+        Ok(good)
+    }
+
+    /// Takes the next row of hier, or answers false if it breaks the rule.
+    pub fn take_hier(&mut self, resources: &[Resource], row: &HierRow) -> Result<bool, AllocError>
+        ensures same { self.new.graph.outside ≡ self.old.graph.outside }
+        ensures takes { IfOk result (λ good. (links : List Link) (rows : List HierRow) → HasLinks resources.now self.old.graph links rows
+            → Takes (HasLinks resources.now self.new.graph links) (HierRule resources.now links) rows row.now good) }
+    {
+        let good = add_legal(&mut self.graph, resources, &link_of(row))?;
+        Ok(good)
+    }
+
+    /// Reads the next row of link, or answers false if it breaks the rule or is none.
+    pub fn read(&mut self, resources: &[Resource], cells: &[Cell]) -> Result<bool, AllocError>
+        requires { length resources.now < 2 ^ 32 }
+        ensures same { self.new.graph.outside ≡ self.old.graph.outside }
+        ensures reads { IfOk result (λ good. (rows : List Link) → HasLinks resources.now self.old.graph rows []
+            → Reads (map link_cells) (λ more. HasLinks resources.now self.new.graph more [])
+            (LinkRule resources.now) rows cells.now good) }
+    {
+        match link_in(cells) {
+            Some(link) => {
+                let good = self.take(resources, &link)?;
+                Ok(good)
+            }
+            None => Ok(false),
+        }
+    }
+
+    /// Reads the next row of hier, or answers false if it breaks the rule or is none.
+    pub fn read_hier(&mut self, resources: &[Resource], cells: &[Cell]) -> Result<bool, AllocError>
+        requires { length resources.now < 2 ^ 32 }
+        ensures same { self.new.graph.outside ≡ self.old.graph.outside }
+        ensures reads { IfOk result (λ good. (links : List Link) (rows : List HierRow) → HasLinks resources.now self.old.graph links rows
+            → Reads (map hier_cells) (HasLinks resources.now self.new.graph links)
+            (HierRule resources.now links) rows cells.now good) }
+    {
+        match hier_in(cells) {
+            Some(row) => {
+                let good = self.take_hier(resources, &row)?;
+                Ok(good)
+            }
+            None => Ok(false),
+        }
+    }
+
+    /// Checks whether no rule is broken by the links of both tables together.
+    pub fn close(&self, alloc: Global) -> Result<bool, AllocError>
+        ensures { IfOk result (λ good. (resources : List Resource) (links : List Link) (rows : List HierRow)
+            → HasLinks resources self.now.graph links rows → IsTrue good ↔ HierRule resources links rows) }
+    {
+        match self.graph.check_whole(alloc)? {
+            None => Ok(true),
+            Some(_) => Ok(false),
+        }
+    }
+}
+
+// Adds a link that is legal and not held yet, or answers false.
+fn add_legal(graph: &mut Graph, resources: &[Resource], link: &Link) -> Result<bool, AllocError>
+    ensures same { graph.new.outside ≡ graph.old.outside }
+    ensures adds { IfOk result (λ good. AreMarked resources.now graph.old
+        → IsAdded resources.now graph.old graph.new link.now good) }
+{
+    if is_fit(resources, link) {
+        if is_in_order(graph, link) {
+            if graph.has(link) {
+                Ok(false)
+            } else {
+                graph.add(link)?;
+                Ok(true)
+            }
+        } else {
+            Ok(false)
+        }
+    } else {
+        Ok(false)
+    }
+}
+
+// Whether the link is handed in as it is kept.
+fn is_in_order(graph: &Graph, link: &Link) -> bool
+    ensures { IsTrue result ↔ (norm (is_marked graph.now) link.now ≡ link.now) }
+{
+    let outside = graph.is_outside(link.a) || graph.is_outside(link.b);
+    in_order(link, outside) == *link
+}
+
+fn kind_of(typ: HierType) -> LinkKind
+    ensures { result ≡ hier_kind typ }
+{
+    match typ {
+        HierType::Untyped => LinkKind::Broader,
+        HierType::Generic => LinkKind::BroaderGeneric,
+        HierType::Partitive => LinkKind::BroaderPartitive,
+        HierType::Instantial => LinkKind::BroaderInstantial,
+    }
+}
+
+// The link that a row of hier tells.
+fn link_of(row: &HierRow) -> Link
+    ensures { result ≡ hier_link row.now }
+{
+    Link {
+        kind: kind_of(row.typ),
+        a: row.a,
+        b: row.b,
+    }
+}

@@ -1,0 +1,140 @@
+//! The rows of posting.
+ghost use Rattle.std.specs.Prelude.{◌≤◌, ◌<◌, ◌↔◌, List, IsTrue, IfOk, length, map, ◌^◌, ◌≡◌, []};
+ghost use Rattle.thes_base.specs.declared.data.Resource.{Resource};
+ghost use Rattle.thes_tables.specs.declared.rows.PostingRow.{PostingRow};
+ghost use Rattle.thes_load_rules.specs.Rules.{PostingRule};
+ghost use Rattle.thes_load_rows.specs.Forms.{HasPostingForm};
+ghost use Rattle.thes_tables.specs.Cells.{posting_cells};
+ghost use Rattle.thes_load_rows.specs.Reading.{Reads};
+ghost use Rattle.thes_load_rows.specs.Placed.{ArePlaced};
+ghost use Rattle.thes_load_rows.specs.Taken.{Takes, HasPostings, HasMoves, IsNextPosting, KeyIsTaken};
+
+use crate::ends::{is_concept, is_live};
+use crate::moves::MoveLoad;
+use crate::rows::posting_in;
+use std::alloc::{AllocError, Global};
+use std::collections::BTreeSet;
+use thes_base::data::Resource;
+use thes_base::number::ResNo;
+use thes_base::text::Key;
+use thes_post::tally::Tally;
+use thes_tables::cells::Cell;
+use thes_tables::rows::PostingRow;
+
+/// Keeps of the rows of posting their keys, their first concepts, their places and their sums.
+#[derive(Drop)]
+pub struct PostingLoad {
+    pub keys: BTreeSet<Key>,
+    pub firsts: Vec<ResNo>,
+    pub ats: Vec<ResNo>,
+    pub tally: Tally,
+    ghost few: { length firsts.items < 2 ^ 32 },
+    ghost told: { tally.accepted ≤ length firsts.items },
+}
+
+/// Where the rows of posting have the postings, and the sums of these.
+#[derive(Drop)]
+pub struct PlacedPostings {
+    pub ats: Vec<ResNo>,
+    pub tally: Tally,
+}
+
+// Whether a row is the next one, but for its key.
+fn is_next(resources: &[Resource], taken: usize, row: &PostingRow) -> bool
+    requires { taken < usize.MAX }
+    ensures { IsTrue result ↔ IsNextPosting resources.now taken row.now }
+{
+    row.number.get() as usize == taken + 1
+        && is_concept(resources, row.first)
+        && is_concept(resources, row.place)
+        && (row.withdrawn || is_live(resources, row.place))
+}
+
+// Adds a key, and answers whether it is new.
+fn take_key(keys: &mut BTreeSet<Key>, key: Key) -> Result<bool, AllocError>
+    ensures { IfOk result (KeyIsTaken keys.old.keys keys.new.keys key) }
+{
+    let fresh = keys.insert(key)?;
+    Ok(fresh)
+}
+
+impl PostingLoad {
+    /// Starts with no row.
+    pub fn new(alloc: Global) -> PostingLoad
+        ensures { (resources : List Resource)
+            → HasPostings resources result.keys.keys result.firsts.items result.ats.items result.tally [] }
+    {
+        PostingLoad {
+            keys: BTreeSet::new(alloc),
+            firsts: Vec::new(alloc),
+            ats: Vec::new(alloc),
+            tally: Tally::new(alloc),
+        }
+    }
+
+    /// Takes the next row, or answers false if it breaks the rule.
+    pub fn take(&mut self, resources: &[Resource], row: PostingRow) -> Result<bool, AllocError>
+        requires { HasPostingForm row }
+        ensures { IfOk result (λ good. (rows : List PostingRow)
+            → HasPostings resources.now self.old.keys.keys self.old.firsts.items self.old.ats.items self.old.tally rows
+            → Takes (HasPostings resources.now self.new.keys.keys self.new.firsts.items self.new.ats.items self.new.tally)
+            (PostingRule resources.now) rows row good) }
+    {
+        if is_next(resources, self.firsts.len(), &row) {
+            let first = row.first;
+            let place = row.place;
+            let withdrawn = row.withdrawn;
+            if take_key(&mut self.keys, row.key)? {
+                self.firsts.push(first)?;
+                self.ats.push(place)?;
+                self.tally.tell(place, withdrawn)?;
+                Ok(true)
+            } else {
+                Ok(false)
+            }
+        } else {
+            Ok(false)
+        }
+    }
+
+    /// Reads the next row, or answers false if it breaks the rule or is none.
+    pub fn read(
+        &mut self,
+        alloc: Global,
+        resources: &[Resource],
+        cells: &[Cell],
+    ) -> Result<bool, AllocError>
+        requires { length resources.now < 2 ^ 32 }
+        ensures { IfOk result (λ good. (rows : List PostingRow)
+            → HasPostings resources.now self.old.keys.keys self.old.firsts.items self.old.ats.items self.old.tally rows
+            → Reads (map posting_cells)
+            (HasPostings resources.now self.new.keys.keys self.new.firsts.items self.new.ats.items self.new.tally)
+            (PostingRule resources.now) rows cells.now good) }
+    {
+        match posting_in(alloc, cells)? {
+            Some(row) => {
+                let good = self.take(resources, row)?;
+                Ok(good)
+            }
+            None => Ok(false),
+        }
+    }
+
+    /// Answers what the rows of move go on from: where each posting stood first, and where its row has it.
+    pub fn close(self) -> (MoveLoad, PlacedPostings)
+        ensures { (resources : List Resource) (rows : List PostingRow)
+            → HasPostings resources self.keys.keys self.firsts.items self.ats.items self.tally rows
+            → HasMoves resources rows result.0.taken result.0.places.items []
+            × ArePlaced result.1 rows }
+    {
+        let moves = MoveLoad {
+            places: self.firsts,
+            taken: 0,
+        };
+        let placed = PlacedPostings {
+            ats: self.ats,
+            tally: self.tally,
+        };
+        (moves, placed)
+    }
+}

@@ -1,0 +1,155 @@
+//! What is kept while the rows of one table are read.
+ghost use Rattle.std.specs.Prelude.{◌≡◌, ◌↔◌, ◌<◌, ◌≤◌, IsTrue, IfOk};
+ghost use Rattle.thes_load_rows.specs.Progress.{stage_table, is_stopped, next_table, table_no, ReadsRow, Closes, Reaches};
+
+use crate::closing::{
+    close_hier, close_label, close_meta, close_outside, close_posting, close_resource,
+};
+use crate::linked::LinkedVocab;
+use crate::meta::{MetaRow, meta_in};
+use crate::moves::MoveLoad;
+use crate::names::{OutsideLoad, read_label};
+use crate::postings::{PlacedPostings, PostingLoad};
+use crate::resources::ResourceLoad;
+use std::alloc::{AllocError, Global};
+use thes_base::fault::{Fault, Table};
+use thes_base::text::Base;
+use thes_tables::cells::Cell;
+use thes_vocab::VocabLoad;
+
+/// A stage of a load: what is kept while the rows of one table are read, or the fault that was found, and the table
+/// that is read then.
+#[derive(Drop)]
+pub enum Stage {
+    Meta(Option<MetaRow>),
+    Resource(Base, ResourceLoad),
+    Outside(OutsideLoad),
+    Label(VocabLoad),
+    Link(LinkedVocab),
+    Hier(LinkedVocab),
+    Posting(LinkedVocab, PostingLoad),
+    Move(LinkedVocab, PlacedPostings, MoveLoad),
+    Stopped(Fault, Table),
+}
+
+impl Stage {
+    /// Tells the table that is read.
+    pub fn at(&self) -> Table
+        ensures { result ≡ stage_table self.now }
+    {
+        match self {
+            Stage::Meta(_) => Table::Meta,
+            Stage::Resource(_, _) => Table::Resource,
+            Stage::Outside(_) => Table::Outside,
+            Stage::Label(_) => Table::Label,
+            Stage::Link(_) => Table::Link,
+            Stage::Hier(_) => Table::Hier,
+            Stage::Posting(_, _) => Table::Posting,
+            Stage::Move(_, _, _) => Table::Move,
+            Stage::Stopped(_, at) => *at,
+        }
+    }
+
+    /// Tells whether the rows of this table have ended.
+    pub fn is_past(&self, table: Table) -> bool
+        ensures { IsTrue result ↔ (table_no table < table_no (stage_table self.now)) }
+    {
+        number(table) < number(self.at())
+    }
+
+    /// Tells whether a fault was found.
+    pub(crate) fn is_stopped(&self) -> bool
+        ensures { result ≡ is_stopped self.now }
+    {
+        match self {
+            Stage::Stopped(_, _) => true,
+            _ => false,
+        }
+    }
+
+    /// Reads the next row of the table that is read, or answers false if it breaks the rule or is none.
+    pub(crate) fn read(&mut self, alloc: Global, cells: &[Cell]) -> Result<bool, AllocError>
+        ensures { IfOk result (ReadsRow self.old self.new cells.now) }
+    {
+        match self {
+            Stage::Meta(row) => match row {
+                Some(_) => Ok(false),
+                None => match meta_in(alloc, cells)? {
+                    Some(new) => {
+                        *row = Some(new);
+                        Ok(true)
+                    }
+                    None => Ok(false),
+                },
+            },
+            Stage::Resource(_, load) => load.read(cells),
+            Stage::Outside(load) => load.read(alloc, cells),
+            Stage::Label(vocab) => read_label(vocab, alloc, cells),
+            Stage::Link(linked) => linked.read_link(cells),
+            Stage::Hier(linked) => linked.read_hier(cells),
+            Stage::Posting(linked, load) => load.read(alloc, linked.vocab.resources(), cells),
+            Stage::Move(linked, _, load) => Ok(load.read(linked.vocab.resources(), cells)),
+            Stage::Stopped(_, _) => Ok(true),
+        }
+    }
+
+    // Ends the rows of the table that is read, and goes on to the next one.
+    fn close(self, alloc: Global) -> Result<Stage, AllocError>
+        ensures { IfOk result (Closes self) }
+    {
+        match self {
+            Stage::Meta(row) => Ok(close_meta(alloc, row)),
+            Stage::Resource(base, load) => close_resource(alloc, base, load),
+            Stage::Outside(load) => Ok(close_outside(load)),
+            Stage::Label(vocab) => close_label(alloc, vocab),
+            Stage::Link(linked) => Ok(Stage::Hier(linked)),
+            Stage::Hier(linked) => close_hier(alloc, linked),
+            Stage::Posting(linked, load) => Ok(close_posting(linked, load)),
+            Stage::Move(linked, placed, load) => Ok(Stage::Move(linked, placed, load)),
+            Stage::Stopped(fault, at) => Ok(Stage::Stopped(fault, next(at))),
+        }
+    }
+
+    /// Ends the rows of the tables before this one, so that this one is read.
+    pub(crate) fn reach(self, alloc: Global, table: Table) -> Result<Stage, AllocError>
+        requires { table_no (stage_table self) ≤ table_no table }
+        ensures { IfOk result (λ new. Reaches self new table) }
+    {
+        let mut stage = self;
+        for i in number(stage.at())..number(table) {
+            stage = stage.close(alloc)?;
+        }
+        Ok(stage)
+    }
+}
+
+// The table that is read after this one.
+fn next(at: Table) -> Table
+    ensures { result ≡ next_table at }
+{
+    match at {
+        Table::Meta => Table::Resource,
+        Table::Resource => Table::Outside,
+        Table::Outside => Table::Label,
+        Table::Label => Table::Link,
+        Table::Link => Table::Hier,
+        Table::Hier => Table::Posting,
+        Table::Posting | Table::Move => Table::Move,
+    }
+}
+
+// The place of a table in the order in which they are read.
+fn number(table: Table) -> u32
+    ensures { result ≡ table_no table }
+{
+    match table {
+        Table::Meta => 0,
+        Table::Resource => 1,
+        Table::Outside => 2,
+        Table::Label => 3,
+        Table::Link => 4,
+        Table::Hier => 5,
+        Table::Posting => 6,
+        Table::Move => 7,
+    }
+}

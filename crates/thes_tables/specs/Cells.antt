@@ -1,0 +1,101 @@
+-- The tables as a database holds them: rows of cells.
+use Rattle.std.specs.Prelude.{ℕ, pos, List, [], ◌∷◌, ◌+◌, map, Bool, cond, Option, None, Some}
+use Rattle.thes_base.specs.declared.data.Resource.{Resource}
+use Rattle.thes_base.specs.declared.data.ResourceKind.{ResourceKind}
+use Rattle.thes_base.specs.declared.data.ResourceKind.TheVariants.{Scheme, Concept, Collection, Outside}
+use Rattle.thes_base.specs.declared.data.Link.{Link}
+use Rattle.thes_base.specs.Labels.{Label, label_kind_no}
+use Rattle.thes_base.specs.Links.{link_kind_no}
+use Rattle.thes_tables.specs.declared.cells.Cell.{Cell}
+use Rattle.thes_tables.specs.declared.cells.Cell.TheVariants.{Int, Text, Null}
+use Rattle.thes_tables.specs.declared.rows.HierRow.{HierRow}
+use Rattle.thes_tables.specs.declared.rows.HierType.{HierType}
+use Rattle.thes_tables.specs.declared.rows.HierType.TheVariants as typ
+use Rattle.thes_tables.specs.declared.rows.PostingRow.{PostingRow}
+use Rattle.thes_tables.specs.declared.rows.MoveRow.{MoveRow}
+use Rattle.thes_tables.specs.Tables.{Tables}
+
+-- a table's rows; None where it can't be queried
+abbrev pub RawTable : Type 0
+RawTable = Option (List (List Cell))
+
+-- the eight tables, whatever they hold
+pub record Raw : Type 0 where
+  pub meta : RawTable
+  pub resource : RawTable
+  pub outside : RawTable
+  pub label : RawTable
+  pub link : RawTable
+  pub hier : RawTable
+  pub posting : RawTable
+  pub move : RawTable
+
+abbrev pub number_cell : ℕ → Cell
+number_cell n = Int (pos n)
+
+abbrev pub flag_cell : Bool → Cell
+flag_cell b = number_cell (cond b 1 0)
+
+abbrev pub optional_cell : Option ℕ → Cell
+optional_cell None = Null
+optional_cell (Some n) = number_cell n
+
+abbrev pub resource_kind_no : ResourceKind → ℕ
+resource_kind_no Scheme = 1
+resource_kind_no Concept = 2
+resource_kind_no Collection = 3
+resource_kind_no Outside = 4
+
+-- the version of the schema is 2
+abbrev pub meta_cells : List ℕ → List Cell
+meta_cells base = number_cell 1 ∷ number_cell 2 ∷ Text base ∷ []
+
+abbrev pub resource_cells : ℕ → Resource → List Cell
+resource_cells n r =
+    number_cell n ∷ number_cell (resource_kind_no r.kind) ∷ optional_cell r.scheme ∷ flag_cell r.live
+    ∷ optional_cell r.replaced ∷ []
+
+-- the resources, numbered from this number on
+abbrev pub resource_rows : ℕ → List Resource → List (List Cell)
+resource_rows n [] = []
+resource_rows n (r ∷ rs) = resource_cells n r ∷ resource_rows (n + 1) rs
+
+abbrev pub outside_cells : ℕ × List ℕ → List Cell
+outside_cells row = number_cell row.0 ∷ Text row.1 ∷ []
+
+abbrev pub label_cells : Label → List Cell
+label_cells l = number_cell l.owner ∷ number_cell (label_kind_no l.kind) ∷ Text l.tag ∷ Text l.text ∷ []
+
+abbrev pub link_cells : Link → List Cell
+link_cells l = number_cell (link_kind_no l.kind) ∷ number_cell l.a ∷ number_cell l.b ∷ []
+
+abbrev pub hier_type_no : HierType → ℕ
+hier_type_no typ.Untyped = 0
+hier_type_no typ.Generic = 1
+hier_type_no typ.Partitive = 2
+hier_type_no typ.Instantial = 3
+
+abbrev pub hier_cells : HierRow → List Cell
+hier_cells row = number_cell row.a ∷ number_cell row.b ∷ number_cell (hier_type_no row.typ) ∷ []
+
+abbrev pub posting_cells : PostingRow → List Cell
+posting_cells row =
+    number_cell row.number ∷ Text row.key ∷ Text row.rec ∷ number_cell row.first ∷ number_cell row.place
+    ∷ flag_cell row.withdrawn ∷ []
+
+abbrev pub move_cells : MoveRow → List Cell
+move_cells row = number_cell row.number ∷ number_cell row.posting ∷ number_cell row.source ∷ number_cell row.target ∷ []
+
+-- what the tables hold, row by row
+abbrev pub listed : Tables → Raw
+listed t =
+    record {
+      meta = Some (meta_cells t.base ∷ []);
+      resource = Some (resource_rows 1 t.resource);
+      outside = Some (map outside_cells t.outside);
+      label = Some (map label_cells t.label);
+      link = Some (map link_cells t.link);
+      hier = Some (map hier_cells t.hier);
+      posting = Some (map posting_cells t.posting);
+      move = Some (map move_cells t.move);
+    }
