@@ -1,4 +1,5 @@
-//! Judges related links and merges in a hierarchy of twelve levels, where each concept has two broader ones in the level above.
+//! Checks related links and merges in a hierarchy of twelve levels, in which each concept has two broader ones in the
+//! level above.
 ghost use Rattle.std.specs.Prelude.{◌≡◌};
 ghost use Rattle.thes_base.specs.Links.{HeldIn};
 ghost use Rattle.thes_graph.specs.Local.{BreakNone};
@@ -19,8 +20,8 @@ fn link(kind: LinkKind, a: u32, b: u32) -> Link {
     }
 }
 
-// Links the node to one of those in the level above.
-fn climb(
+// Adds a link from the node up to a random one in the level above.
+fn link_to_level_above(
     graph: &mut Graph,
     numbers: &mut Numbers,
     node: u32,
@@ -40,17 +41,17 @@ fn climb(
     Ok(())
 }
 
-// Each node below the first level with two broader ones.
+// Builds a graph in which each node below the first level has two broader ones.
 fn levels(alloc: Global, numbers: &mut Numbers, width: u32) -> Result<Graph, AllocError> {
     let mut graph = Graph::new(alloc);
     for node in width..width.saturating_mul(12) {
-        climb(&mut graph, numbers, node, width)?;
-        climb(&mut graph, numbers, node, width)?;
+        link_to_level_above(&mut graph, numbers, node, width)?;
+        link_to_level_above(&mut graph, numbers, node, width)?;
     }
     Ok(graph)
 }
 
-// Whether the link, or the merge of its second end into its first, is refused.
+// Checks the link, or the merge of its second end into its first, and returns whether there is a refusal.
 fn is_refused(
     alloc: Global,
     walk: &mut Walk<'_>,
@@ -71,7 +72,7 @@ fn is_refused(
     Ok(answer.is_some())
 }
 
-// A pair of nodes, on one level, or for a merge one of them on the level below the other.
+// Returns a random pair of nodes on one level, or for a merge a node and one in the level below.
 fn pair(numbers: &mut Numbers, width: u32, merges: bool) -> Link {
     let level = numbers.below(11);
     let a = level
@@ -89,8 +90,8 @@ fn pair(numbers: &mut Numbers, width: u32, merges: bool) -> Link {
     )
 }
 
-// Judges so many links or merges, and answers how many were refused.
-fn judge_all(
+// Checks `count` random links or merges, and returns the number of refusals.
+fn check_random_links(
     alloc: Global,
     walk: &mut Walk<'_>,
     numbers: &mut Numbers,
@@ -100,25 +101,30 @@ fn judge_all(
 ) -> Result<u32, AllocError>
     requires { BreakNone (HeldIn walk.old.net.links) }
 {
-    let mut refused = 0u32;
+    let mut count_refused = 0u32;
     for _ in 0..count {
         let new = pair(numbers, width, merges);
         if is_refused(alloc, walk, &new, merges)? {
-            refused = refused.wrapping_add(1);
+            count_refused = count_refused.wrapping_add(1);
         }
     }
-    Ok(refused)
+    Ok(count_refused)
 }
 
-/// Counts those of so many related links, or merges, that are refused in such a hierarchy.
-pub fn refused(alloc: Global, nodes: u32, count: u32, merges: bool) -> Result<u32, AllocError> {
+/// Counts the refusals among `count` random related links, or merges, in such a hierarchy.
+pub fn count_refused(
+    alloc: Global,
+    nodes: u32,
+    count: u32,
+    merges: bool,
+) -> Result<u32, AllocError> {
     let mut numbers = Numbers(1);
     let width = nodes / 12;
     let graph = levels(alloc, &mut numbers, width)?;
     match graph.check_whole(alloc)? {
         None => {
             let mut walk = graph.walk();
-            judge_all(alloc, &mut walk, &mut numbers, width, count, merges)
+            check_random_links(alloc, &mut walk, &mut numbers, width, count, merges)
         }
         Some(_) => Ok(0),
     }

@@ -1,14 +1,14 @@
-//! Makes a graph of broader links and checks it whole, which `bench/graph` times.
-//! Words: `ladder` or `tree`, how many nodes, and how wide; or `levels`, how many nodes, how many links are judged there, and `merges`
-//! if these are merges and not related links. Or, for `tests/count-requests`: `requests`, how many further nodes, and
-//! `judged` if a link is to be judged.
+//! Builds a graph of broader links and checks all of it, for `bench/graph` to time.
+//! Arguments: `ladder` or `tree`, the number of nodes and the width; or `levels`, the number of nodes, the number of
+//! links to check there, and `merges` to check merges in place of related links. For `tests/builds/count-requests`:
+//! `requests`, the number of further nodes, and `judged` to check a link.
 #![tactic(auto)]
 
 mod levels;
 mod requests;
 
-use crate::levels::refused;
-use crate::requests::left_after;
+use crate::levels::count_refused;
+use crate::requests::grants_after_check;
 use std::alloc::{AllocError, Global};
 use std::process::ExitCode;
 use std::rt::Env;
@@ -17,7 +17,7 @@ use thes_base::fault::Refusal;
 use thes_base::number::ResNo;
 use thes_graph::graph::Graph;
 
-// Adds a broader link between two nodes.
+// Adds a link from `a` up to the broader node `b`.
 fn add(graph: &mut Graph, a: u32, b: u32) -> Result<(), AllocError> {
     let link = Link {
         kind: LinkKind::Broader,
@@ -30,8 +30,13 @@ fn add(graph: &mut Graph, a: u32, b: u32) -> Result<(), AllocError> {
     Ok(())
 }
 
-// Links a node to so many that follow it.
-fn climb(graph: &mut Graph, node: u32, nodes: u32, width: u32) -> Result<(), AllocError> {
+// Adds links from a node up to the `width` nodes after it.
+fn link_to_following(
+    graph: &mut Graph,
+    node: u32,
+    nodes: u32,
+    width: u32,
+) -> Result<(), AllocError> {
     for step in 0..width {
         add(
             graph,
@@ -42,15 +47,15 @@ fn climb(graph: &mut Graph, node: u32, nodes: u32, width: u32) -> Result<(), All
     Ok(())
 }
 
-// Links each node to so many that follow it: as deep as it has nodes.
+// Adds links from each node up to the `width` nodes after it, for a graph of the greatest depth.
 fn ladder(graph: &mut Graph, nodes: u32, width: u32) -> Result<(), AllocError> {
     for node in 1..nodes {
-        climb(graph, node, nodes, width)?;
+        link_to_following(graph, node, nodes, width)?;
     }
     Ok(())
 }
 
-// Links each node to the one whose number is this share of its own.
+// Adds a link from each node up to the node whose number is its own divided by `width`.
 fn tree(graph: &mut Graph, nodes: u32, width: u32) -> Result<(), AllocError> {
     for node in 1..nodes {
         add(graph, node, node / width.max(1))?;
@@ -58,7 +63,7 @@ fn tree(graph: &mut Graph, nodes: u32, width: u32) -> Result<(), AllocError> {
     Ok(())
 }
 
-// The number in a word, or 1 where it is none.
+// Returns the number in this argument, or 1 if it isn't a number.
 fn number(words: &[String], place: usize) -> u32 {
     match words.get(place) {
         Some(word) => ResNo::read(word.as_str()).map_or(1, ResNo::get),
@@ -66,8 +71,8 @@ fn number(words: &[String], place: usize) -> u32 {
     }
 }
 
-// The first rule that the graph of these words breaks.
-fn broken(alloc: Global, words: &[String]) -> Result<Option<Refusal>, AllocError> {
+// Returns the first rule that the graph of these arguments breaks.
+fn first_broken_rule(alloc: Global, words: &[String]) -> Result<Option<Refusal>, AllocError> {
     let (nodes, width) = (number(words, 2), number(words, 3));
     let mut graph = Graph::new(alloc);
     match words.get(1) {
@@ -77,17 +82,21 @@ fn broken(alloc: Global, words: &[String]) -> Result<Option<Refusal>, AllocError
     graph.check_whole(alloc)
 }
 
-// Whether this word stands at the place.
-fn has_word(words: &[String], place: usize, wanted: &str) -> bool {
+// Checks whether this argument is the wanted one.
+fn has_argument(words: &[String], place: usize, wanted: &str) -> bool {
     match words.get(place) {
         Some(word) => word.as_str() == wanted,
         None => false,
     }
 }
 
-// Prints how many requests for memory are left, or answers 1 where something speaks against the link.
+// Prints the number of requests for memory that are left, or returns 1 if the graph or the link breaks a rule.
 fn print_left<R: Print + Alloc<A = Global>>(rt: &R, words: &[String]) -> Result<u8, AllocError> {
-    match left_after(rt.alloc(), number(words, 2), has_word(words, 3, "judged"))? {
+    match grants_after_check(
+        rt.alloc(),
+        number(words, 2),
+        has_argument(words, 3, "judged"),
+    )? {
         Some(left) => {
             let _ = println!(rt; "{left}");
             Ok(0)
@@ -96,19 +105,19 @@ fn print_left<R: Print + Alloc<A = Global>>(rt: &R, words: &[String]) -> Result<
     }
 }
 
-// Does what the words ask for, and answers the exit status.
+// Carries out what the arguments ask for, and returns the exit status.
 fn obey<R: Env + Print + Alloc<A = Global>>(rt: &R) -> Result<u8, AllocError> {
     let alloc = rt.alloc();
     let Ok(args) = std::env::args(rt) else {
         return Err(AllocError);
     };
     let words: Vec<String> = args.collect(alloc)?;
-    if has_word(words.as_slice(), 1, "requests") {
+    if has_argument(words.as_slice(), 1, "requests") {
         return print_left(rt, words.as_slice());
     }
-    if has_word(words.as_slice(), 1, "levels") {
-        let merges = has_word(words.as_slice(), 4, "merges");
-        let _ = refused(
+    if has_argument(words.as_slice(), 1, "levels") {
+        let merges = has_argument(words.as_slice(), 4, "merges");
+        let _ = count_refused(
             alloc,
             number(words.as_slice(), 2),
             number(words.as_slice(), 3),
@@ -116,7 +125,7 @@ fn obey<R: Env + Print + Alloc<A = Global>>(rt: &R) -> Result<u8, AllocError> {
         )?;
         return Ok(0);
     }
-    match broken(alloc, words.as_slice())? {
+    match first_broken_rule(alloc, words.as_slice())? {
         None => Ok(0),
         Some(_) => Ok(1),
     }

@@ -1,4 +1,5 @@
-//! How many requests for memory are left until one is refused, which tells `tests/count-requests` how many were made before.
+//! Counts the requests for memory that are granted after a check, for `tests/builds/count-requests`, which derives from
+//! this how many the check has made.
 use std::alloc::{AllocError, Global};
 use thes_base::data::{Link, LinkKind};
 use thes_base::fault::Refusal;
@@ -6,7 +7,7 @@ use thes_base::number::ResNo;
 use thes_graph::graph::Graph;
 use thes_graph::judge::judge_add;
 
-// A link between two nodes.
+// Returns the link of this kind from `a` to `b`.
 fn link(kind: LinkKind, a: u32, b: u32) -> Link {
     Link {
         kind,
@@ -15,7 +16,7 @@ fn link(kind: LinkKind, a: u32, b: u32) -> Link {
     }
 }
 
-// Adds a broader link from the node to the next one.
+// Adds a link from the node up to the next one.
 fn add_step(graph: &mut Graph, node: u32) -> Result<(), AllocError> {
     let step = link(LinkKind::Broader, node, node.saturating_add(1));
     if step.a != step.b {
@@ -24,7 +25,7 @@ fn add_step(graph: &mut Graph, node: u32) -> Result<(), AllocError> {
     Ok(())
 }
 
-// Node 3 broader than node 2, and so many further nodes from 5 on, each broader than the one before.
+// Builds a graph in which node 3 is above node 2, and the nodes from 5 on are a chain of `further` nodes.
 fn chain(alloc: Global, further: u32) -> Result<Graph, AllocError> {
     let mut graph = Graph::new(alloc);
     add_step(&mut graph, 2)?;
@@ -34,8 +35,8 @@ fn chain(alloc: Global, further: u32) -> Result<Graph, AllocError> {
     Ok(graph)
 }
 
-// Judges the link, if that is asked for and the graph keeps the rules.
-fn judge(
+// Checks the graph, and the link if `judged` is true.
+fn check_link(
     alloc: Global,
     graph: &Graph,
     link: &Link,
@@ -53,8 +54,8 @@ fn judge(
     }
 }
 
-// How many requests for memory are granted from here on until one is refused.
-fn left(alloc: Global) -> u32 {
+// Counts the requests for memory that are granted until one fails.
+fn count_grants(alloc: Global) -> u32 {
     for granted in 0..1000000 {
         if Vec::<u32>::with_capacity(alloc, 1).is_err() {
             return granted;
@@ -63,12 +64,16 @@ fn left(alloc: Global) -> u32 {
     1000000
 }
 
-/// Counts the requests for memory that are left once a related link from 2 to 4 was judged, or was not, beside so many
-/// further nodes. None if something speaks against the link.
-pub fn left_after(alloc: Global, further: u32, judged: bool) -> Result<Option<u32>, AllocError> {
+/// Counts the requests for memory that are granted after a related link from 2 to 4 was checked, or was not, in a
+/// graph with `further` nodes that touch neither. Returns None for a graph or a link that breaks a rule.
+pub fn grants_after_check(
+    alloc: Global,
+    further: u32,
+    judged: bool,
+) -> Result<Option<u32>, AllocError> {
     let graph = chain(alloc, further)?;
-    match judge(alloc, &graph, &link(LinkKind::Related, 2, 4), judged)? {
-        None => Ok(Some(left(alloc))),
+    match check_link(alloc, &graph, &link(LinkKind::Related, 2, 4), judged)? {
+        None => Ok(Some(count_grants(alloc))),
         Some(_) => Ok(None),
     }
 }

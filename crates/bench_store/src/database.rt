@@ -1,9 +1,9 @@
-//! The same commits in a database.
+//! The same commits by statements on a database.
 
 use crate::failure::Failure;
 use sqlite::{Alter, Connection};
 use std::alloc::Global;
-use test_keeper::keeping::{CONCEPTS, moving, named};
+use test_keeper::workload::{CONCEPTS, merge_delta, name_with_number};
 use thes_base::number::{PostNo, ResNo};
 use thes_base::text::{Key, RecordName};
 use thes_sql::commit::commit_all;
@@ -11,7 +11,7 @@ use thes_tables::change::Change;
 use thes_tables::delta::Delta;
 use thes_tables::rows::PostingRow;
 
-// Commits changes.
+// Commits the changes.
 fn commit<S: Alter>(conn: &mut Connection<S>, delta: &Delta) -> Result<(), Failure> {
     if commit_all(conn, delta.as_slice())? {
         Ok(())
@@ -20,7 +20,7 @@ fn commit<S: Alter>(conn: &mut Connection<S>, delta: &Delta) -> Result<(), Failu
     }
 }
 
-// Adds a posting of this number.
+// Inserts a posting with this number.
 fn store_posting<S: Alter>(
     alloc: Global,
     conn: &mut Connection<S>,
@@ -30,8 +30,8 @@ fn store_posting<S: Alter>(
     let mut delta = Delta::new(alloc);
     delta.push(Change::AddPosting(PostingRow {
         number: PostNo::new(number.max(1)),
-        key: Key::read(alloc, named(alloc, "k", number)?.as_str())?,
-        rec: RecordName::read(alloc, named(alloc, "r", number)?.as_str())?,
+        key: Key::read(alloc, name_with_number(alloc, "k", number)?.as_str())?,
+        rec: RecordName::read(alloc, name_with_number(alloc, "r", number)?.as_str())?,
         first: concept,
         place: concept,
         withdrawn: false,
@@ -39,7 +39,7 @@ fn store_posting<S: Alter>(
     commit(conn, &delta)
 }
 
-/// Adds so many postings, each in a commit of its own, to the concepts from number 2 on in turn.
+/// Inserts `count` postings, each in a commit of its own, and assigns them in turn to the concepts from number 2 on.
 pub fn store_all<S: Alter>(
     alloc: Global,
     conn: &mut Connection<S>,
@@ -52,7 +52,7 @@ pub fn store_all<S: Alter>(
     Ok(())
 }
 
-/// Moves the postings at a concept, so many of them, to another one in one commit.
+/// Moves all postings from the source to the target in one commit, with `posts` / 10 rows of moves.
 pub fn store_merge<S: Alter>(
     alloc: Global,
     conn: &mut Connection<S>,
@@ -60,6 +60,6 @@ pub fn store_merge<S: Alter>(
     target: ResNo,
     posts: u32,
 ) -> Result<(), Failure> {
-    let delta = moving(alloc, source, target, posts / CONCEPTS)?;
+    let delta = merge_delta(alloc, source, target, posts / CONCEPTS)?;
     commit(conn, &delta)
 }

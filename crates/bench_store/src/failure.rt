@@ -1,41 +1,41 @@
-//! Why something can't be timed.
+//! Failures of a benchmark.
 
 use sqlite::Error;
 use std::alloc::AllocError;
 use std::io;
-use test_keeper::failure::Failure as Unkept;
+use test_keeper::failure::Failure as KeeperFailure;
 use thes_base::fault::{Fault, ReadStop};
 
-/// The reason why something can't be timed.
+/// The reason why a benchmark stopped.
 #[derive(Debug, Drop)]
 pub enum Failure {
-    Keeping(Unkept),
+    Keeping(KeeperFailure),
     Busy,
     Sql(Error),
     Io(io::Error),
 }
 
-impl From<Unkept> for Failure {
-    fn from(failure: Unkept) -> Failure {
+impl From<KeeperFailure> for Failure {
+    fn from(failure: KeeperFailure) -> Failure {
         Failure::Keeping(failure)
     }
 }
 
 impl From<AllocError> for Failure {
     fn from(error: AllocError) -> Failure {
-        Failure::Keeping(Unkept::from(error))
+        Failure::Keeping(KeeperFailure::from(error))
     }
 }
 
 impl From<ReadStop> for Failure {
     fn from(stop: ReadStop) -> Failure {
-        Failure::Keeping(Unkept::from(stop))
+        Failure::Keeping(KeeperFailure::from(stop))
     }
 }
 
 impl From<Fault> for Failure {
     fn from(fault: Fault) -> Failure {
-        Failure::Keeping(Unkept::from(fault))
+        Failure::Keeping(KeeperFailure::from(fault))
     }
 }
 

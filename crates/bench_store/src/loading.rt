@@ -1,22 +1,22 @@
-//! Rows of a store of any size, made one after another and kept by nobody, and the loads of them.
+//! Generates the rows of a store of any size, and loads them.
 
 use crate::failure::Failure;
 use crate::reading::Counter;
 use std::alloc::{AllocError, Global};
-use test_keeper::keeping::named;
+use test_keeper::workload::name_with_number;
 use thes_base::data::{LabelKind, Limits, LinkKind, ResourceKind};
 use thes_base::fault::{Fault, Table};
 use thes_core::Core;
-use thes_loader::Loader;
+use thes_office::Loader;
 use thes_store::sink::RowSink;
 use thes_tables::cells::{Cell, CellText};
 use thes_tables::numbers::resource_number;
 
-/// The number of labels that each resource has.
+/// The number of labels of each resource.
 const LABELS: u32 = 10;
 
-/// The numbers of resources and postings of a store. Each posting has a move; there are as many links as resources, half
-/// of them in a tree.
+/// The numbers of resources and postings of a store. Each posting has a move; there are as many links as resources,
+/// half of them in a tree.
 #[derive(Clone, Copy)]
 pub struct Size {
     pub resources: u32,
@@ -24,30 +24,31 @@ pub struct Size {
 }
 
 impl Size {
-    // A concept for this number, which isn't the last resource.
+    // Returns the concept for a posting of this number; it isn't the last resource.
     fn concept(&self, number: u32) -> u32 {
         let concepts = self.resources.saturating_sub(2).max(1);
         (number % concepts).saturating_add(2)
     }
 }
 
+// Returns a number as a cell.
 fn int(n: u32) -> Cell {
     Cell::Int(i64::from(n))
 }
 
-// A cell with the text of a letter and a number.
+// Returns a letter followed by a number, as a cell.
 fn text(alloc: Global, letter: &str, number: u32) -> Result<Cell, AllocError> {
-    Ok(Cell::Text(CellText::new(alloc, named(alloc, letter, number)?.as_str())?))
+    Ok(Cell::Text(CellText::new(alloc, name_with_number(alloc, letter, number)?.as_str())?))
 }
 
-// Hands out the row of meta.
-fn hand_meta<S: RowSink>(alloc: Global, sink: &mut S) -> Result<(), Fault> {
+// Yields the row of meta.
+fn yield_meta<S: RowSink>(alloc: Global, sink: &mut S) -> Result<(), Fault> {
     let base = Cell::Text(CellText::new(alloc, "http://example.org/")?);
     sink.row(Table::Meta, &[int(1), int(2), base])
 }
 
-// Hands out a scheme, and all others as concepts in it.
-fn hand_resources<S: RowSink>(size: Size, sink: &mut S) -> Result<(), Fault> {
+// Yields a scheme, and all other resources as concepts in it.
+fn yield_resources<S: RowSink>(size: Size, sink: &mut S) -> Result<(), Fault> {
     let scheme = int(resource_number(ResourceKind::Scheme));
     sink.row(
         Table::Resource,
@@ -66,8 +67,8 @@ fn hand_resources<S: RowSink>(size: Size, sink: &mut S) -> Result<(), Fault> {
     Ok(())
 }
 
-// Hands out the labels, the first of each resource a preferred one.
-fn hand_labels<S: RowSink>(alloc: Global, size: Size, sink: &mut S) -> Result<(), Fault> {
+// Yields the labels, of which the first of each resource is preferred.
+fn yield_labels<S: RowSink>(alloc: Global, size: Size, sink: &mut S) -> Result<(), Fault> {
     for made in 0..size.resources.saturating_mul(LABELS) {
         let kind = if made % LABELS == 0 {
             LabelKind::Pref
@@ -82,8 +83,8 @@ fn hand_labels<S: RowSink>(alloc: Global, size: Size, sink: &mut S) -> Result<()
     Ok(())
 }
 
-// Relates each resource of the latter half to the next one.
-fn hand_links<S: RowSink>(size: Size, sink: &mut S) -> Result<(), Fault> {
+// Yields a link of kind Related from each resource of the second half to the next one.
+fn yield_links<S: RowSink>(size: Size, sink: &mut S) -> Result<(), Fault> {
     for number in size.resources / 2..size.resources {
         if 20 < number {
             let next = number.saturating_add(1).min(size.resources);
@@ -96,8 +97,8 @@ fn hand_links<S: RowSink>(size: Size, sink: &mut S) -> Result<(), Fault> {
     Ok(())
 }
 
-// Hangs each concept of the former half below another one, of which each has eight below it.
-fn hand_hier<S: RowSink>(size: Size, sink: &mut S) -> Result<(), Fault> {
+// Yields a hierarchical link for each concept of the first half, in a tree in which each has eight narrower ones.
+fn yield_hier<S: RowSink>(size: Size, sink: &mut S) -> Result<(), Fault> {
     for made in 3..size.resources / 2 {
         let above = (made.saturating_sub(3) / 8).saturating_add(2);
         sink.row(Table::Hier, &[int(made), int(above), int(0)])?;
@@ -105,8 +106,8 @@ fn hand_hier<S: RowSink>(size: Size, sink: &mut S) -> Result<(), Fault> {
     Ok(())
 }
 
-// Hands out the postings, each where its move leads.
-fn hand_postings<S: RowSink>(alloc: Global, size: Size, sink: &mut S) -> Result<(), Fault> {
+// Yields the postings, each assigned to the target of its move.
+fn yield_postings<S: RowSink>(alloc: Global, size: Size, sink: &mut S) -> Result<(), Fault> {
     for made in 0..size.postings {
         let number = made.saturating_add(1);
         let (key, rec) = (text(alloc, "k", number)?, text(alloc, "r", number)?);
@@ -120,8 +121,8 @@ fn hand_postings<S: RowSink>(alloc: Global, size: Size, sink: &mut S) -> Result<
     Ok(())
 }
 
-// Hands out a move of each posting, to the next concept.
-fn hand_moves<S: RowSink>(size: Size, sink: &mut S) -> Result<(), Fault> {
+// Yields a move of each posting to the next concept.
+fn yield_moves<S: RowSink>(size: Size, sink: &mut S) -> Result<(), Fault> {
     for made in 0..size.postings {
         let number = made.saturating_add(1);
         let first = size.concept(number);
@@ -134,21 +135,21 @@ fn hand_moves<S: RowSink>(size: Size, sink: &mut S) -> Result<(), Fault> {
     Ok(())
 }
 
-// Makes the rows of all tables, and hands them out.
-fn hand_all<S: RowSink>(alloc: Global, size: Size, sink: &mut S) -> Result<(), Fault> {
-    hand_meta(alloc, sink)?;
-    hand_resources(size, sink)?;
-    hand_labels(alloc, size, sink)?;
-    hand_links(size, sink)?;
-    hand_hier(size, sink)?;
-    hand_postings(alloc, size, sink)?;
-    hand_moves(size, sink)
+// Yields the rows of all tables.
+fn yield_all<S: RowSink>(alloc: Global, size: Size, sink: &mut S) -> Result<(), Fault> {
+    yield_meta(alloc, sink)?;
+    yield_resources(size, sink)?;
+    yield_labels(alloc, size, sink)?;
+    yield_links(size, sink)?;
+    yield_hier(size, sink)?;
+    yield_postings(alloc, size, sink)?;
+    yield_moves(size, sink)
 }
 
-// Makes a core of the rows.
+// Loads the rows into a core.
 fn load(alloc: Global, size: Size) -> Result<Core, Fault> {
     let mut loader = Loader::new(alloc, Limits::default());
-    match hand_all(alloc, size, &mut loader) {
+    match yield_all(alloc, size, &mut loader) {
         Ok(_) => loader.finish(),
         Err(fault) => {
             drop(loader);
@@ -157,7 +158,7 @@ fn load(alloc: Global, size: Size) -> Result<Core, Fault> {
     }
 }
 
-/// Makes so many cores of the rows, and keeps them until all are made.
+/// Loads the rows into `times` cores, keeps all of them until the end, and returns their number.
 pub fn load_times(alloc: Global, size: Size, times: u32) -> Result<usize, Failure> {
     let mut cores: Vec<Core> = Vec::new(alloc);
     for _ in 0..times {
@@ -166,11 +167,11 @@ pub fn load_times(alloc: Global, size: Size, times: u32) -> Result<usize, Failur
     Ok(cores.len())
 }
 
-/// Makes the rows as often, and counts them.
+/// Generates the rows `times` times, and returns the number of rows.
 pub fn make_times(alloc: Global, size: Size, times: u32) -> Result<u64, Failure> {
     let mut counter = Counter { rows: 0 };
     for _ in 0..times {
-        hand_all(alloc, size, &mut counter)?;
+        yield_all(alloc, size, &mut counter)?;
     }
     Ok(counter.rows)
 }

@@ -1,14 +1,16 @@
-//! Times a keeper, for `bench/store`: so many postings as its first word says, a commit each; a merge that moves a tenth of
-//! them; so many look-ups by key and by number as its second word says; and a load. With a third word the postings and the
-//! merge are made in the new database that it names, where no look-ups are asked for; or the look-ups and the load are made
-//! in the store of so many postings that it names. It prints what it timed, in microseconds.
+//! Benchmarks of storage, for `bench/store` and `bench/load`. It prints times in microseconds.
 //!
-//! For `bench/load`: `load`, how many resources, how many postings, and how often: makes the rows of such a store and as many
-//! cores of them, and prints how many; or `rows` and the same, and it makes the rows alone, and prints how many.
+//! With the arguments POSTS LOOKS: commits POSTS postings, one a commit; merges a tenth of them; looks up LOOKS keys
+//! and LOOKS numbers; and loads all rows, in memory. With POSTS 0 FILE the postings and the merge are made in a new
+//! database in the file; with POSTS LOOKS FILE the look-ups and the load are made in the store of POSTS postings in the
+//! file.
+//!
+//! With `load` RESOURCES POSTINGS TIMES: loads a generated store of this size TIMES times, and prints the number of
+//! cores. With `rows` and the same arguments it only generates the rows, and prints their number.
 #![tactic(auto)]
 
 ghost use Rattle.std.specs.Prelude.{◌≡◌, false};
-ghost use Rattle.test_keeper.specs.Posted.{AwaitsPosting};
+ghost use Rattle.test_keeper.specs.PostedTables.{AwaitsPosting};
 
 mod database;
 mod failure;
@@ -18,13 +20,13 @@ mod reading;
 use crate::database::{store_all, store_merge};
 use crate::failure::Failure;
 use crate::loading::{Size, load_times, make_times};
-use crate::reading::{find_all, load_all, tell_all};
+use crate::reading::{count_all_moves, find_all, load_all};
 use sqlite::{Alter, Connection};
 use std::alloc::Global;
 use std::process::ExitCode;
 use std::rt::{Clock, Env, HostRuntime};
 use std::time::Instant;
-use test_keeper::keeping::{CONCEPTS, merge, post_all};
+use test_keeper::workload::{CONCEPTS, merge, post_all};
 use thes_base::number::ResNo;
 use thes_base::text::Base;
 use thes_sql::create::create_tables;
@@ -32,20 +34,20 @@ use thes_sqlite::keeper::SqlKeeper;
 use thes_store::keeper::Keeper;
 use thes_store::mem::MemKeeper;
 
-// What is made of the rows of a store.
-enum Made {
+// What is made of generated rows.
+enum LoadOutput {
     Cores,
     Rows,
 }
 
-// Prints the time since a moment.
-fn tell<R: Clock + Print>(rt: &R, name: &str, begun: &Instant) -> Result<(), Failure> {
+// Prints the time since an instant.
+fn print_time<R: Clock + Print>(rt: &R, name: &str, begun: &Instant) -> Result<(), Failure> {
     let micros = begun.elapsed(rt)?.as_micros();
     println!(rt; "{name} {micros}")?;
     Ok(())
 }
 
-// The number that a word spells, or 0.
+// Returns the number that an argument spells, or 0.
 fn number_in(word: &str) -> u32 {
     match ResNo::read(word) {
         Ok(number) => number.get(),
@@ -53,7 +55,7 @@ fn number_in(word: &str) -> u32 {
     }
 }
 
-// The number in a word, or 0 where it is none.
+// Returns the number in the argument at a position, or 0 if there is none.
 fn number(words: &[String], place: usize) -> u32 {
     match words.get(place) {
         Some(word) => number_in(word.as_str()),
@@ -61,7 +63,7 @@ fn number(words: &[String], place: usize) -> u32 {
     }
 }
 
-// Times so many posts, and the merge of a tenth of them.
+// Times `posts` posts, and the merge of a tenth of them.
 fn time_commits<R: Clock + Print + Alloc<A = Global>, K: Keeper>(
     rt: &R,
     keeper: &mut K,
@@ -72,13 +74,13 @@ fn time_commits<R: Clock + Print + Alloc<A = Global>, K: Keeper>(
     let (alloc, source, target) = (rt.alloc(), ResNo::new(2), ResNo::new(3));
     let begun = Instant::now(rt)?;
     post_all(alloc, keeper, posts)?;
-    tell(rt, "posts", &begun)?;
+    print_time(rt, "posts", &begun)?;
     let begun = Instant::now(rt)?;
     merge(alloc, keeper, source, target, posts, posts / CONCEPTS)?;
-    tell(rt, "merge", &begun)
+    print_time(rt, "merge", &begun)
 }
 
-// Times so many look-ups of each kind, and a load.
+// Times `looks` look-ups of each kind, and a load.
 fn time_reads<R: Clock + Print + Alloc<A = Global>, K: Keeper>(
     rt: &R,
     keeper: &mut K,
@@ -87,16 +89,16 @@ fn time_reads<R: Clock + Print + Alloc<A = Global>, K: Keeper>(
 ) -> Result<(), Failure> {
     let begun = Instant::now(rt)?;
     let _ = find_all(rt.alloc(), keeper, posts, looks)?;
-    tell(rt, "find", &begun)?;
+    print_time(rt, "find", &begun)?;
     let begun = Instant::now(rt)?;
-    let _ = tell_all(keeper, posts, looks)?;
-    tell(rt, "posting", &begun)?;
+    let _ = count_all_moves(keeper, posts, looks)?;
+    print_time(rt, "posting", &begun)?;
     let begun = Instant::now(rt)?;
     let _ = load_all(keeper)?;
-    tell(rt, "load", &begun)
+    print_time(rt, "load", &begun)
 }
 
-// Times a keeper without postings.
+// Times all calls of a `Keeper` without postings.
 fn time_keeper<R: Clock + Print + Alloc<A = Global>, K: Keeper>(
     rt: &R,
     keeper: &mut K,
@@ -109,7 +111,7 @@ fn time_keeper<R: Clock + Print + Alloc<A = Global>, K: Keeper>(
     time_reads(rt, keeper, posts, looks)
 }
 
-// Times the keeper in memory.
+// Times storage in memory.
 fn time_memory<R: Clock + Print + Alloc<A = Global>>(
     rt: &R,
     posts: u32,
@@ -123,7 +125,7 @@ fn time_memory<R: Clock + Print + Alloc<A = Global>>(
     timed
 }
 
-// Times the same commits in a database.
+// Times the same commits by statements on a database.
 fn time_stores<R: Clock + Print + Alloc<A = Global>, S: Alter>(
     rt: &R,
     conn: &mut Connection<S>,
@@ -133,13 +135,13 @@ fn time_stores<R: Clock + Print + Alloc<A = Global>, S: Alter>(
     create_tables(conn, &Base::read(alloc, "http://example.org/")?)?;
     let begun = Instant::now(rt)?;
     store_all(alloc, conn, posts)?;
-    tell(rt, "stored", &begun)?;
+    print_time(rt, "stored", &begun)?;
     let begun = Instant::now(rt)?;
     store_merge(alloc, conn, ResNo::new(2), ResNo::new(3), posts)?;
-    tell(rt, "stored_merge", &begun)
+    print_time(rt, "stored_merge", &begun)
 }
 
-// Times the look-ups and a load of a store, and hands its connection back.
+// Times the look-ups and a load of a store, and returns its connection.
 fn time_store<R: Clock + Print + Alloc<A = Global>, S: Alter>(
     rt: &R,
     conn: Connection<S>,
@@ -153,7 +155,7 @@ fn time_store<R: Clock + Print + Alloc<A = Global>, S: Alter>(
     (timed, keeper.into_connection())
 }
 
-// Times the look-ups and a load of a store, if no transaction is open.
+// Times the look-ups and a load of a store, unless a transaction is open.
 fn time_idle<R: Clock + Print + Alloc<A = Global>, S: Alter>(
     rt: &R,
     conn: Connection<S>,
@@ -167,7 +169,7 @@ fn time_idle<R: Clock + Print + Alloc<A = Global>, S: Alter>(
     }
 }
 
-// Times commits where no look-ups are asked for, and otherwise these and a load.
+// Times commits if there are no look-ups to make, and else look-ups and a load.
 fn time_conn<R: Clock + Print + Alloc<A = Global>, S: Alter>(
     rt: &R,
     mut conn: Connection<S>,
@@ -189,11 +191,11 @@ fn time_file(rt: &HostRuntime, posts: u32, looks: u32, path: &str) -> Result<(),
     timed
 }
 
-// Makes the rows of a store, and cores of them if they are to be loaded.
+// Generates the rows of a store, and loads them if `made` asks for cores.
 fn make_rows<R: Print + Alloc<A = Global>>(
     rt: &R,
     words: &[String],
-    made: Made,
+    made: LoadOutput,
 ) -> Result<(), Failure> {
     let size = Size {
         resources: number(words, 2),
@@ -201,11 +203,11 @@ fn make_rows<R: Print + Alloc<A = Global>>(
     };
     let (alloc, times) = (rt.alloc(), number(words, 4));
     match made {
-        Made::Cores => {
+        LoadOutput::Cores => {
             let cores = load_times(alloc, size, times)?;
             println!(rt; "cores {cores}")?;
         }
-        Made::Rows => {
+        LoadOutput::Rows => {
             let rows = make_times(alloc, size, times)?;
             println!(rt; "rows {rows}")?;
         }
@@ -213,20 +215,24 @@ fn make_rows<R: Print + Alloc<A = Global>>(
     Ok(())
 }
 
-// Times what the words ask for.
-fn obey(rt: &HostRuntime) -> Result<(), Failure> {
+// Runs the benchmark that the arguments ask for.
+fn run_command(rt: &HostRuntime) -> Result<(), Failure> {
     let words: Vec<String> = std::env::args(rt)?.collect(rt.alloc())?;
     match words.get(1) {
         Some(word) if word.as_str() == "load" => {
-            return make_rows(rt, words.as_slice(), Made::Cores);
+            return make_rows(rt, words.as_slice(), LoadOutput::Cores);
         }
-        Some(word) if word.as_str() == "rows" => return make_rows(rt, words.as_slice(), Made::Rows),
+        Some(word) if word.as_str() == "rows" => return make_rows(
+            rt,
+            words.as_slice(),
+            LoadOutput::Rows,
+        ),
         _ => {}
     }
     time_keepers(rt, words.as_slice())
 }
 
-// Times the keeper that the words ask for.
+// Times the storage that the arguments ask for.
 fn time_keepers(rt: &HostRuntime, words: &[String]) -> Result<(), Failure> {
     let (posts, looks) = (number(words, 1), number(words, 2));
     match words.get(3) {
@@ -236,8 +242,9 @@ fn time_keepers(rt: &HostRuntime, words: &[String]) -> Result<(), Failure> {
     }
 }
 
+// Runs the benchmark, and prints the reason if it stopped.
 fn main(rt: HostRuntime) -> ExitCode {
-    match obey(&rt) {
+    match run_command(&rt) {
         Ok(()) => ExitCode::from(0),
         Err(failure) => {
             let _ = println!(rt; "{failure:?}");

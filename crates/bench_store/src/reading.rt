@@ -1,8 +1,8 @@
-//! What is timed of any keeper beside its posts and merges.
+//! Look-ups and loads of any `Keeper`.
 
 use crate::failure::Failure;
 use std::alloc::Global;
-use test_keeper::keeping::named;
+use test_keeper::workload::name_with_number;
 use thes_base::fault::{Fault, Table};
 use thes_base::number::PostNo;
 use thes_base::text::Key;
@@ -10,13 +10,13 @@ use thes_store::keeper::Keeper;
 use thes_store::sink::RowSink;
 use thes_tables::cells::Cell;
 
-// Looks up the key of a posting.
+// Returns whether the key of a posting has one.
 fn is_found<K: Keeper>(alloc: Global, keeper: &mut K, number: u32) -> Result<bool, Failure> {
-    let key = Key::read(alloc, named(alloc, "k", number)?.as_str())?;
+    let key = Key::read(alloc, name_with_number(alloc, "k", number)?.as_str())?;
     Ok(keeper.find(&key)?.is_some())
 }
 
-/// Looks up so many keys of postings, and counts those that are found.
+/// Looks up `count` keys, and counts those that have a posting.
 pub fn find_all<K: Keeper>(
     alloc: Global,
     keeper: &mut K,
@@ -33,7 +33,7 @@ pub fn find_all<K: Keeper>(
     Ok(found)
 }
 
-// Looks up a posting, and counts its moves.
+// Looks up a posting by its number, and counts its moves.
 fn count_moves<K: Keeper>(keeper: &mut K, number: PostNo) -> Result<usize, Failure> {
     match keeper.posting(number)? {
         Some(posting) => Ok(posting.moves.as_slice().len()),
@@ -41,8 +41,12 @@ fn count_moves<K: Keeper>(keeper: &mut K, number: PostNo) -> Result<usize, Failu
     }
 }
 
-/// Looks up so many numbers of postings, and counts the moves of those that are found.
-pub fn tell_all<K: Keeper>(keeper: &mut K, posts: u32, count: u32) -> Result<usize, Failure> {
+/// Looks up `count` postings by number, and counts their moves.
+pub fn count_all_moves<K: Keeper>(
+    keeper: &mut K,
+    posts: u32,
+    count: u32,
+) -> Result<usize, Failure> {
     let mut moves = 0usize;
     for i in 0..count {
         let number = i.wrapping_mul(7919) % posts.max(1);
@@ -51,7 +55,7 @@ pub fn tell_all<K: Keeper>(keeper: &mut K, posts: u32, count: u32) -> Result<usi
     Ok(moves)
 }
 
-/// Counts the rows that are handed to it.
+/// A sink that counts rows.
 #[derive(Drop)]
 pub struct Counter {
     pub rows: u64,

@@ -1,4 +1,4 @@
-//! Texts at the edges of their forms.
+//! Tests texts at the limits of their forms.
 use Form::{Base, Iri, Key, Note, Record, Tag, Text};
 use std::alloc::{AllocError, Global};
 use std::test::Fail;
@@ -7,7 +7,7 @@ use thes_base::form;
 use thes_base::form::{BaseForm, IriForm, KeyForm, NoteForm, RecordNameForm, TagForm, TextForm};
 use thes_base::text::{self, Formed};
 
-// What a text is read as.
+// The form as which a text is read.
 #[derive(Clone, Copy, Debug, PartialEq, Eq)]
 enum Form {
     Tag,
@@ -31,7 +31,7 @@ impl Form {
     }
 }
 
-// What a text of the form `F` is kept as, which its clone shows. Nothing if they are not equal.
+// Returns the stored form of a text and checks that its clone is equal, or else returns "".
 fn reread<F: form::Form>(alloc: Global, text: &str) -> Result<String, ReadStop> {
     let read: Formed<F> = Formed::read(alloc, text)?;
     let clone = read.try_clone(alloc)?;
@@ -41,7 +41,7 @@ fn reread<F: form::Form>(alloc: Global, text: &str) -> Result<String, ReadStop> 
     Ok(String::from_str(alloc, clone.as_str())?)
 }
 
-// What a text is kept as, if it has the form.
+// Returns the stored form of a text, if it has the form.
 fn kept(alloc: Global, form: Form, given: &str) -> Result<String, ReadStop> {
     match form {
         Tag => reread::<TagForm>(alloc, given),
@@ -153,7 +153,7 @@ fn a_text_of_another_form_is_refused(rt: HostRuntime) -> Result<(), Fail> {
     Ok(())
 }
 
-// A text with so many letters behind its start.
+// Returns a start followed by a letter `count` times.
 fn lengthened(
     alloc: Global,
     start: &str,
@@ -167,7 +167,8 @@ fn lengthened(
     Ok(text)
 }
 
-// The start of a text, the letter that follows it so many times, and whether it is short enough. The limits are on bytes: é has two.
+// The form, a start, the letter repeated after it, how often, and whether the text is short enough.
+// Limits count bytes: é has two.
 static LENGTHS: [(Form, &str, char, usize, bool); 16] = [
     (Text, "", 'é', 128, true),
     (Text, "", 'é', 129, false),

@@ -1,5 +1,5 @@
-//! Tests of thes_base, in a crate of their own, so that a change of a test proves nothing anew. The types are called by functions
-//! without contracts, which prove quickly.
+//! Tests of thes_base. A crate of their own spares thes_base a new proof when a test changes, and
+//! functions without contracts prove quickly.
 #![tactic(auto)]
 
 #[cfg(test)]

@@ -1,4 +1,4 @@
-//! The names and numbers of refusals and faults, how they are printed, and the words for kinds of links.
+//! Tests the names, numbers and printed texts of refusals and faults, and the names of link kinds.
 use std::alloc::{AllocError, Global};
 use std::fmt::Display;
 use std::process::Abort;
@@ -55,7 +55,7 @@ fn refusals_and_faults_have_names_and_numbers(rt: HostRuntime) {
     expect_faults(&rt, &FAULTS);
 }
 
-// Whether a fault is printed as this text.
+// Checks whether a fault is printed as a text.
 fn is_printed(alloc: Global, fault: impl Display + Drop, wanted: &str) -> Result<bool, AllocError> {
     let text = format!(in alloc; "{}", fault)?;
     Ok(text.as_str() == wanted)
@@ -76,6 +76,6 @@ fn refusals_and_faults_are_printed_by_their_names(rt: HostRuntime) -> Result<(),
 
 #[test]
 fn kinds_of_links_have_words(rt: HostRuntime) {
-    assert_eq!(rt; LinkKind::BroaderPartitive.word(), "broaderPartitive");
-    assert_eq!(rt; TypedKind::NarrowerPartitive.word(), "narrowerPartitive");
+    assert_eq!(rt; LinkKind::BroaderPartitive.name(), "broaderPartitive");
+    assert_eq!(rt; TypedKind::NarrowerPartitive.name(), "narrowerPartitive");
 }

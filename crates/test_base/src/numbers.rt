@@ -1,4 +1,4 @@
-//! Numbers as text: decimal digits without a leading zero, from 1 to 4294967295.
+//! Tests numbers as text: decimal digits without a leading zero, from 1 to 4,294,967,295.
 use std::test::Fail;
 use thes_base::fault::FormFault;
 use thes_base::number::{MoveNo, PostNo, ResNo};

@@ -1,4 +1,4 @@
-//! What a pipe notes of its device.
+//! Tests what a pipe records of its device.
 use std::alloc::Global;
 use std::io;
 use std::io::{ErrorKind, Read, Write};
@@ -6,7 +6,7 @@ use std::process::Abort;
 use test_devices::{Filling, Halting};
 use thes_base::pipe::{Budget, Pipe, Stop};
 
-// What a pipe notes.
+// What a pipe has recorded.
 #[derive(Clone, Copy, Debug, PartialEq, Eq)]
 enum Noted {
     Nothing,
@@ -26,7 +26,7 @@ fn notes_of<T>(pipe: &Pipe<T>) -> Noted {
     }
 }
 
-// Reads once into four bytes: the result, the bytes, and what is noted.
+// Reads once into four bytes, and returns the result, the bytes, and what the pipe recorded.
 fn read_from<R: Read + Drop>(
     budget: &mut Budget,
     device: R,
@@ -37,7 +37,7 @@ fn read_from<R: Read + Drop>(
     (result, buffer, notes_of(&pipe))
 }
 
-// Bytes of a reader, after how many calls it breaks, and what reading it gives.
+// The bytes of a reader, the number of calls before it fails, and the outcome of reading it.
 type Reading = (&'static [u8], u32, Result<usize, Stop>, [u8; 4], Noted);
 
 static READINGS: [Reading; 3] = [
@@ -62,7 +62,7 @@ fn what_a_reader_does_is_noted(rt: HostRuntime) {
     expect_readings(&rt, &READINGS);
 }
 
-// Writes texts to a device: the last result, and what is noted.
+// Writes texts to a device, and returns the last result and what the pipe recorded.
 fn write_to<W: Write>(
     budget: &mut Budget,
     pipe: &mut Pipe<W>,
@@ -85,7 +85,7 @@ fn filling(alloc: Global, calls: u32) -> Pipe<Filling> {
     })
 }
 
-// Texts, after how many calls the writer is full, and what it holds and is noted in the end.
+// The texts, the number of calls before the writer is full, its bytes, and the outcome.
 type Writing = (
     &'static [&'static [u8]],
     u32,
@@ -113,7 +113,7 @@ fn what_a_writer_does_is_noted(rt: HostRuntime) {
     expect_writings(&rt, rt.alloc(), &WRITINGS);
 }
 
-// A reader that is interrupted at each call.
+// A reader that reports `Interrupted` at each call.
 #[derive(Drop)]
 struct Interrupted;
 
@@ -123,7 +123,7 @@ impl Read for Interrupted {
     }
 }
 
-// A reader that is interrupted for ever uses the budget up, and a writer then has none left.
+// A reader that is always interrupted uses up the budget, so that none is left for a writer.
 #[test]
 fn a_budget_used_up_is_noted(rt: HostRuntime) {
     let mut budget = Budget::new();

@@ -1,4 +1,4 @@
-//! Labels, histories, requests and lists: that they show what they were made of, and that clones are equal.
+//! Tests that labels, histories, requests and lists return their parts and equal their clones.
 use std::alloc::{AllocError, Global};
 use std::test::Fail;
 use thes_base::data::{History, Label, LabelKind, LabelValue, Limits, Move, Moves, NewResource};
@@ -7,8 +7,8 @@ use thes_base::number::{MoveNo, PostNo, ResNo};
 use thes_base::request::{Command, PostNos};
 use thes_base::text::{Key, Note, RecordName, Tag, Text};
 
-// Whether a value is equal to its clone. Both end here, since a function in which a value of many parts ends takes long to
-// prove.
+// Checks whether a value equals its clone. Both are dropped here, since a function that drops a
+// value of many parts is slow to prove.
 fn is_equal<T: PartialEq + Drop>(value: T, clone: Result<T, AllocError>) -> bool {
     match clone {
         Ok(clone) => value == clone,
@@ -16,7 +16,7 @@ fn is_equal<T: PartialEq + Drop>(value: T, clone: Result<T, AllocError>) -> bool
     }
 }
 
-// A label's value that is no note.
+// Creates the value of a lexical label.
 fn name(kind: LabelKind, text: Text) -> LabelValue {
     match kind {
         LabelKind::Pref => LabelValue::Pref(text),
@@ -41,7 +41,7 @@ fn label(alloc: Global, kind: LabelKind, text: &str) -> Result<Label, ReadStop> 
     })
 }
 
-// Whether a label of this kind shows its kind and its text, and is equal to its clone.
+// Checks whether a label returns its kind and its text, and equals its clone.
 fn is_shown(alloc: Global, kind: LabelKind, text: &str) -> Result<bool, ReadStop> {
     let label = label(alloc, kind, text)?;
     let shows = label.kind() == kind && label.text() == text;
@@ -62,7 +62,7 @@ fn a_label_shows_its_kind_and_its_text(rt: HostRuntime) -> Result<(), Fail> {
     Ok(())
 }
 
-// A history of a posting with these moves.
+// Creates a history with the moves.
 fn history(alloc: Global, moves: Moves) -> Result<History, ReadStop> {
     let key = Key::read(alloc, "k1")?;
     let rec = RecordName::read(alloc, "r1")?;

@@ -1,4 +1,4 @@
-//! Readers and writers for tests: they give or take few bytes a call, are interrupted, and fail. And numbers for tests.
+//! Readers and writers for tests, which move few bytes a call, are interrupted, and fail; and pseudo-random numbers.
 #![tactic(auto)]
 
 pub mod numbers;
@@ -8,7 +8,7 @@ ghost use Rattle.std.specs.Prelude.{Some};
 use std::io;
 use std::io::{ErrorKind, Read, Write};
 
-// Takes one call off. It is an error once none is left, and at every other call before.
+// Counts one call off: an error when none is left, and an interruption at every other call before that.
 fn take_call(calls: &mut u32) -> Result<(), ErrorKind> {
     if *calls == 0 {
         return Err(ErrorKind::BrokenPipe);
@@ -20,8 +20,8 @@ fn take_call(calls: &mut u32) -> Result<(), ErrorKind> {
     Ok(())
 }
 
-/// A reader that gives at most three bytes at every other call, is interrupted at the calls between, and breaks after
-/// so many calls.
+/// A reader that returns at most three bytes at every other call, is interrupted at the calls between, and breaks after
+/// `calls` calls.
 #[derive(Drop)]
 pub struct Halting<'a> {
     pub bytes: &'a [u8],
@@ -40,7 +40,7 @@ impl<'a> Read for Halting<'a> {
     }
 }
 
-/// A writer that takes one byte at every other call and is interrupted at the calls between. After so many calls it
+/// A writer that takes one byte at every other call, and is interrupted at the calls between. After `calls` calls it
 /// breaks, or is full and takes no byte.
 #[derive(Drop)]
 pub struct Filling {

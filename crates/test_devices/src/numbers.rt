@@ -1,11 +1,11 @@
-//! Numbers for tests and benches that look like chance and are the same in each run.
+//! Pseudo-random numbers for tests and benchmarks, the same in each run.
 
-/// A generator, by what it stands at.
+/// A linear congruential generator, by its state.
 #[derive(Drop)]
 pub struct Numbers(pub u64);
 
 impl Numbers {
-    /// The next number, below n.
+    /// Returns the next number, below `n`.
     pub fn below(&mut self, n: u32) -> u32 {
         self.0 = self
             .0

@@ -1,6 +1,5 @@
-//! The worked examples on links, and the answers for graphs from a fixed list of numbers beside those of a plain program, which is the
-//! definitions read off a list.
-use Fact::{BroaderOf, CollectionsOf, Has, Mapped, NarrowerOf, RelatedTo, Size};
+//! The worked examples on links, and random graphs compared with a naive program that follows the definitions.
+use Fact::{BroaderOf, CollectionsOf, Has, Mappings, NarrowerOf, RelatedTo, Size};
 use std::alloc::{AllocError, Global};
 use std::collections::BTreeSet;
 use std::process::Abort;
@@ -25,15 +24,15 @@ fn link(kind: LinkKind, a: u32, b: u32) -> Link {
     }
 }
 
-// Marks an outside concept, which has no links yet.
+// Removes the links of the resource, and marks it as an outside concept.
 fn mark(graph: &mut Graph, n: u32) -> Result<(), AllocError> {
     let n = no(n);
     graph.drop_all(n);
     graph.mark_outside(n)
 }
 
-// What speaks against the link, where the graph keeps the rules.
-fn judge(alloc: Global, graph: &Graph, link: &Link) -> Result<Option<Refusal>, AllocError> {
+// Returns the refusal of the link, if any, or the first rule that the graph breaks.
+fn check_link(alloc: Global, graph: &Graph, link: &Link) -> Result<Option<Refusal>, AllocError> {
     if link.a == link.b {
         return Ok(Some(Refusal::SameResource));
     }
@@ -46,17 +45,17 @@ fn judge(alloc: Global, graph: &Graph, link: &Link) -> Result<Option<Refusal>, A
     }
 }
 
-// Adds the link, unless something speaks against it.
+// Adds the link, unless it is refused, and returns the refusal.
 fn try_add(alloc: Global, graph: &mut Graph, link: &Link) -> Result<Option<Refusal>, AllocError> {
-    let answer = judge(alloc, graph, link)?;
+    let answer = check_link(alloc, graph, link)?;
     if answer.is_none() && link.a != link.b {
         graph.add(link)?;
     }
     Ok(answer)
 }
 
-// What speaks against the merge, where the graph keeps the rules.
-fn judge_merge(
+// Returns the refusal of the merge, if any, or the first rule that the graph breaks.
+fn check_merge(
     alloc: Global,
     graph: &Graph,
     source: u32,
@@ -77,7 +76,7 @@ fn judge_merge(
 
 type Step = (LinkKind, u32, u32, Option<Refusal>);
 
-// Tries the links in turn, each with the answer that is wanted.
+// Tries to add each of the links, and compares the answers.
 fn run(rt: &impl Abort, alloc: Global, graph: &mut Graph, steps: &[Step]) -> Result<(), Fail> {
     for (i, (kind, a, b, wanted)) in steps.iter().enumerate() {
         let answer = try_add(alloc, graph, &link(*kind, *a, *b))?;
@@ -159,7 +158,7 @@ fn worked_links(rt: HostRuntime) -> Result<(), Fail> {
     Ok(())
 }
 
-// The merge of the first node into the second after these links, and the answer that is wanted.
+// Links, a merge of the first node into the second after these, and the expected answer.
 type Merge<'a> = (&'a [Step], u32, u32, Option<Refusal>);
 
 #[test]
@@ -187,12 +186,12 @@ fn worked_merges(rt: HostRuntime) -> Result<(), Fail> {
     for (steps, source, target, wanted) in tables {
         let mut graph = Graph::new(alloc);
         run(&rt, alloc, &mut graph, steps)?;
-        assert_eq!(rt; judge_merge(alloc, &graph, source, target)?, wanted);
+        assert_eq!(rt; check_merge(alloc, &graph, source, target)?, wanted);
     }
     Ok(())
 }
 
-// What a graph shows.
+// What a reader of the graph is expected to return.
 #[derive(Clone, Copy)]
 enum Fact {
     Size(u64),
@@ -201,17 +200,17 @@ enum Fact {
     NarrowerOf(u32, &'static [u32]),
     RelatedTo(u32, &'static [u32]),
     CollectionsOf(u32, &'static [u32]),
-    Mapped(u32, &'static [(LinkKind, u32)]),
+    Mappings(u32, &'static [(LinkKind, u32)]),
 }
 
-// Whether these are the numbers, in their order.
+// Checks that the list has exactly these numbers, in this order.
 fn are(found: Result<Vec<ResNo>, AllocError>, wanted: &[u32]) -> Result<bool, AllocError> {
     let found = found?;
     Ok(found.len() == wanted.len() && found.iter().zip(wanted.iter()).all(|(n, m)| n.get() == *m))
 }
 
-// Whether these are the mappings, in their order.
-fn are_mapped(
+// Checks that the list has exactly these mappings, in this order.
+fn are_mappings(
     found: Result<Vec<(LinkKind, ResNo)>, AllocError>,
     wanted: &[(LinkKind, u32)],
 ) -> Result<bool, AllocError> {
@@ -233,11 +232,11 @@ fn holds(alloc: Global, graph: &Graph, fact: Fact) -> Result<bool, AllocError> {
         NarrowerOf(n, wanted) => are(graph.narrower_of(alloc, no(n)), wanted),
         RelatedTo(n, wanted) => are(graph.related_of(alloc, no(n)), wanted),
         CollectionsOf(n, wanted) => are(graph.collections_of(alloc, no(n)), wanted),
-        Mapped(n, wanted) => are_mapped(graph.mapped(alloc, no(n)), wanted),
+        Mappings(n, wanted) => are_mappings(graph.mappings(alloc, no(n)), wanted),
     }
 }
 
-// Compares what a graph shows with each of these facts.
+// Checks that each of these facts holds in the graph.
 fn expect(rt: &impl Abort, alloc: Global, graph: &Graph, facts: &[Fact]) -> Result<(), Fail> {
     for (i, fact) in facts.iter().enumerate() {
         assert!(rt; holds(alloc, graph, *fact)?, "fact {i}");
@@ -253,7 +252,7 @@ static BEFORE_THE_MERGE: [Step; 5] = [
     (Member, 8, 2, None),
 ];
 
-static MERGED: [Fact; 7] = [
+static FACTS_AFTER_MERGE: [Fact; 7] = [
     Size(3),
     Has(Exact, 3, 5, true),
     Has(Exact, 2, 5, false),
@@ -271,12 +270,12 @@ fn merge(graph: &mut Graph, source: u32, target: u32) -> Result<(), AllocError> 
     Ok(())
 }
 
-// A merge takes the links along, without those from the target to itself, and equal ones once.
-fn expect_merged(rt: &impl Abort, alloc: Global, graph: &mut Graph) -> Result<(), Fail> {
+// Checks that a merge transfers the links to the target, drops those to itself, and joins equal ones.
+fn expect_merge(rt: &impl Abort, alloc: Global, graph: &mut Graph) -> Result<(), Fail> {
     mark(graph, 5)?;
     run(rt, alloc, graph, &BEFORE_THE_MERGE)?;
     merge(graph, 2, 3)?;
-    expect(rt, alloc, graph, &MERGED)?;
+    expect(rt, alloc, graph, &FACTS_AFTER_MERGE)?;
     graph.remove(&link(Related, 4, 3));
     graph.drop_all(no(5));
     assert_eq!(rt; graph.size(), 1);
@@ -285,10 +284,10 @@ fn expect_merged(rt: &impl Abort, alloc: Global, graph: &mut Graph) -> Result<()
 
 #[test]
 fn merged_links(rt: HostRuntime) -> Result<(), Fail> {
-    expect_merged(&rt, rt.alloc(), &mut Graph::new(rt.alloc()))
+    expect_merge(&rt, rt.alloc(), &mut Graph::new(rt.alloc()))
 }
 
-static LINKED: [Step; 11] = [
+static NEIGHBOUR_LINKS: [Step; 11] = [
     (Broader, 4, 2, None),
     (Broader, 3, 2, None),
     (Related, 8, 4, None),
@@ -302,11 +301,11 @@ static LINKED: [Step; 11] = [
     (Exact, 4, 11, None),
 ];
 
-static SHOWN: [Fact; 4] = [
+static NEIGHBOUR_FACTS: [Fact; 4] = [
     BroaderOf(4, &[2]),
     NarrowerOf(2, &[3, 4]),
     RelatedTo(4, &[1, 8]),
-    Mapped(
+    Mappings(
         4,
         &[
             (Broad, 6),
@@ -322,8 +321,8 @@ static SHOWN: [Fact; 4] = [
 
 fn expect_in_order(rt: &impl Abort, alloc: Global, graph: &mut Graph) -> Result<(), Fail> {
     mark(graph, 9)?;
-    run(rt, alloc, graph, &LINKED)?;
-    expect(rt, alloc, graph, &SHOWN)
+    run(rt, alloc, graph, &NEIGHBOUR_LINKS)?;
+    expect(rt, alloc, graph, &NEIGHBOUR_FACTS)
 }
 
 #[test]
@@ -331,7 +330,7 @@ fn readers_in_order(rt: HostRuntime) -> Result<(), Fail> {
     expect_in_order(&rt, rt.alloc(), &mut Graph::new(rt.alloc()))
 }
 
-// How many visits it takes to judge the link, where nothing speaks against it.
+// Returns the number of visits that a check of the link takes, or None if the link is refused.
 fn visits(alloc: Global, graph: &Graph, link: &Link) -> Result<Option<u64>, AllocError> {
     if link.a == link.b {
         return Ok(None);
@@ -355,12 +354,12 @@ fn visits_near_the_edit(rt: HostRuntime) -> Result<(), Fail> {
     for n in 5..505u32 {
         run(&rt, alloc, &mut graph, &[(Broader, n, n + 1, None)])?;
     }
-    // the link is looked up, and neither a walk up nor one down leads to 4
+    // a look-up; neither a search up nor one down leads to 4
     assert_eq!(rt; visits(alloc, &graph, &link(Related, 2, 4))?, Some(1));
     Ok(())
 }
 
-// A walk up reads nothing of what else lies below a broad concept.
+// A search up reads none of the other links below a broad concept.
 #[test]
 fn visits_on_one_side(rt: HostRuntime) -> Result<(), Fail> {
     let alloc = rt.alloc();
@@ -369,12 +368,12 @@ fn visits_on_one_side(rt: HostRuntime) -> Result<(), Fail> {
     for n in 2..503u32 {
         run(&rt, alloc, &mut graph, &[(Broader, n, 1, None)])?;
     }
-    // the link is looked up, and the one link up from 2 is read
+    // a look-up, and a read of the link up from 2
     assert_eq!(rt; visits(alloc, &graph, &link(Broader, 600, 2))?, Some(2));
     Ok(())
 }
 
-// How many visits it takes to judge the merge, where nothing speaks against it.
+// Returns the number of visits that a check of the merge takes, or None if the merge is refused.
 fn visits_of_merge(
     alloc: Global,
     graph: &Graph,
@@ -395,7 +394,7 @@ fn visits_of_merge(
     }
 }
 
-// Where the way up is short, nothing of what lies below a broad concept is read, though it is the one that the edit is about.
+// If the search up is short, no link below a broad concept is read, although the edit is at this concept.
 #[test]
 fn visits_above_a_broad_concept(rt: HostRuntime) -> Result<(), Fail> {
     let alloc = rt.alloc();
@@ -404,15 +403,15 @@ fn visits_above_a_broad_concept(rt: HostRuntime) -> Result<(), Fail> {
     for n in 2..503u32 {
         run(&rt, alloc, &mut graph, &[(Broader, n, 1, None)])?;
     }
-    // the link is looked up, and the one link up from 600 is read
+    // a look-up, and a read of the link up from 600
     assert_eq!(rt; visits(alloc, &graph, &link(Broader, 1, 600))?, Some(2));
     run(&rt, alloc, &mut graph, &[(Broader, 1, 600, None)])?;
-    // the links up from the target are read: from 1, and from 600
+    // reads of the links up from the target and from 600
     assert_eq!(rt; visits_of_merge(alloc, &graph, 700, 1)?, Some(2));
     Ok(())
 }
 
-// The plain program. A link says that its second node is broader than its first, or with `exact` that they are exact matches.
+// The naive program: returns the broader node that the link leads to from `x`, or with `exact` the exact match.
 fn next(link: &Link, exact: bool, x: ResNo) -> Option<ResNo> {
     match link.kind {
         Exact if exact && link.a == x => Some(link.b),
@@ -424,7 +423,7 @@ fn next(link: &Link, exact: bool, x: ResNo) -> Option<ResNo> {
     }
 }
 
-// All that one or more steps lead to.
+// Returns all nodes that one or more steps lead to.
 fn chains(
     alloc: Global,
     links: &[Link],
@@ -475,7 +474,7 @@ fn plain(alloc: Global, links: &[Link]) -> Result<Option<Refusal>, AllocError> {
     Ok(None)
 }
 
-// The links after a merge, as a list that may hold one twice.
+// Returns the links after a merge, in a list that may have duplicates.
 fn plain_merge(
     alloc: Global,
     links: &[Link],
@@ -497,7 +496,7 @@ fn plain_merge(
     Ok(merged)
 }
 
-// A link of any kind between two of so many nodes.
+// Returns a random link of any kind, whose ends are among the first `nodes` nodes.
 fn any_link(numbers: &mut Numbers, nodes: u32) -> Link {
     let kind = match numbers.below(13) {
         0 | 1 => Broader,
@@ -517,7 +516,7 @@ fn any_link(numbers: &mut Numbers, nodes: u32) -> Link {
     link(kind, a.saturating_add(1), b.saturating_add(1))
 }
 
-// What the check at the pivot finds once the link, which has an end there, is added to a graph that keeps the rules.
+// Adds the link to a graph that keeps the rules, and returns what the check at its first end finds.
 fn check_added(
     alloc: Global,
     graph: &mut Graph,
@@ -536,7 +535,7 @@ fn check_added(
     }
 }
 
-// Tries one link on a graph that keeps the rules, and compares each answer.
+// Tries a link on a graph that keeps the rules, and compares each answer with that of the naive program.
 fn compare(
     rt: &impl Abort,
     alloc: Global,
@@ -561,7 +560,8 @@ fn compare(
     Ok(())
 }
 
-// How many different links there are, where those of these kinds may be turned unless an end is an outside concept.
+// Counts the different links. Those of a symmetric kind are equal in either order; a mapping is symmetric unless an
+// end is an outside concept.
 fn count_different(alloc: Global, graph: &Graph, links: &[Link]) -> Result<usize, AllocError> {
     let mut met = BTreeSet::new(alloc);
     for link in links {
@@ -584,7 +584,7 @@ fn count_different(alloc: Global, graph: &Graph, links: &[Link]) -> Result<usize
     Ok(met.len())
 }
 
-// Tries one merge on a graph that keeps the rules, and compares the answer and the links after it.
+// Tries a merge on a graph that keeps the rules, and compares the answer and the links after it.
 fn compare_merge(
     rt: &impl Abort,
     alloc: Global,
@@ -598,7 +598,7 @@ fn compare_merge(
         return Ok(());
     }
     let merged = plain_merge(alloc, list.as_slice(), from, to)?;
-    let answer = judge_merge(alloc, graph, source, target)?;
+    let answer = check_merge(alloc, graph, source, target)?;
     assert_eq!(rt;
         answer,
         plain(alloc, merged.as_slice())?,

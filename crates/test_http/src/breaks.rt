@@ -1,21 +1,28 @@
-//! Readers and writers that break at each of their calls, in pairs: what was written is a front of the answer, and the
-//! service has done what the whole answer tells, or nothing where the request didn't come whole.
-use crate::shelf::{PAGE, Shelf};
+//! Tests with a reader and a writer that fail at each of their calls: the output is a prefix of the
+//! response, and the service has done what the whole response reports, or nothing if the request is
+//! incomplete.
+use crate::counter::{CountingService, PAGE};
 use std::alloc::{AllocError, Global};
 use std::process::Abort;
 use test_devices::{Filling, Halting};
 use thes_base::pipe::Pipe;
 use thes_http::Status;
-use thes_http::serve::{Served, serve_one};
+use thes_http::serve::{ConnectionEnd, serve_one};
 
-// A request, the status of its answer, how much is performed, and the answer.
-type Row = (&'static [u8], Status, u32, &'static str);
+// A request, the status of its response, the number of operations performed, and the response.
+type FaultCase = (&'static [u8], Status, u32, &'static str);
 
-// How a connection ends, how much was performed, and what was written.
-type End = (Served, u32, Vec<u8>);
+// How a connection ended, the number of operations performed, and the bytes written.
+type ObservedEnd = (ConnectionEnd, u32, Vec<u8>);
 
-// Serves a request through a reader and a writer that break after so many calls.
-fn served(alloc: Global, request: &[u8], reads: u32, writes: u32, is_full: bool) -> End {
+// Serves a request with a reader and a writer that fail after `reads` and `writes` calls.
+fn serve_with_faults(
+    alloc: Global,
+    request: &[u8],
+    reads: u32,
+    writes: u32,
+    is_full: bool,
+) -> ObservedEnd {
     let mut reader = Pipe::new(Halting {
         bytes: request,
         calls: reads,
@@ -25,38 +32,40 @@ fn served(alloc: Global, request: &[u8], reads: u32, writes: u32, is_full: bool)
         calls: writes,
         is_full,
     });
-    let mut shelf = Shelf { performed: 0 };
-    let served = serve_one(alloc, &mut reader, &mut writer, &mut shelf);
-    (served, shelf.performed, writer.into_device().bytes)
+    let mut counter = CountingService { performed: 0 };
+    let served = serve_one(alloc, &mut reader, &mut writer, &mut counter);
+    (served, counter.performed, writer.into_device().bytes)
 }
 
-// How many bytes a reader gives before it breaks: three at every other call.
-fn given(reads: u32) -> usize {
+// Returns the number of bytes that a reader yields before it fails: three at every other call.
+fn bytes_before_read_fault(reads: u32) -> usize {
     (reads as usize).div_ceil(2) * 3
 }
 
-// How many bytes a writer takes before it breaks: one at every other call.
-fn taken(writes: u32) -> usize {
+// Returns the number of bytes that a writer accepts before it fails: one at every other call.
+fn bytes_before_write_fault(writes: u32) -> usize {
     (writes as usize).div_ceil(2)
 }
 
-// How a connection is to end: of a request of so many bytes, which is answered so where nothing breaks.
-fn expected<'a>(
+// Returns how a connection should end for a request of `len` bytes, given its response without
+// failures.
+fn expected_end<'a>(
     len: usize,
     whole: (Status, u32, &'a [u8]),
     reads: u32,
     writes: u32,
-) -> (Served, u32, &'a [u8]) {
+) -> (ConnectionEnd, u32, &'a [u8]) {
     let (status, performed, answer) = whole;
-    if given(reads) < len {
-        return (Served::ReadFault, 0, b"");
+    if bytes_before_read_fault(reads) < len {
+        return (ConnectionEnd::ReadFault, 0, b"");
     }
-    match answer.get(..taken(writes)) {
-        Some(front) if front.len() < answer.len() => (Served::WriteFault, performed, front),
-        _ => (Served::Answered(status), performed, answer),
+    match answer.get(..bytes_before_write_fault(writes)) {
+        Some(front) if front.len() < answer.len() => (ConnectionEnd::WriteFault, performed, front),
+        _ => (ConnectionEnd::Answered(status), performed, answer),
     }
 }
 
+// Tests one reader and one writer.
 fn expect(
     rt: &impl Abort,
     alloc: Global,
@@ -65,24 +74,30 @@ fn expect(
     reads: u32,
     writes: u32,
 ) {
-    let (end, count, front) = expected(request.len(), whole, reads, writes);
-    let (served, performed, written) = served(alloc, request, reads, writes, writes % 4 < 2);
+    let (end, count, front) = expected_end(request.len(), whole, reads, writes);
+    let (served, performed, written) = serve_with_faults(
+        alloc,
+        request,
+        reads,
+        writes,
+        writes % 4 < 2,
+    );
     assert_eq!(rt; served, end, "{request:?} {reads} {writes}");
     assert_eq!(rt; performed, count, "{request:?} {reads} {writes}");
     assert_eq!(rt; written.as_slice(), front, "{request:?} {reads} {writes}");
 }
 
-// How many writers are tried beside a reader: two where it breaks within the request, many where it gives just all of
-// it, and none where it could give more.
+// Returns the number of writers to try with a reader: two if it fails within the request, `most` if
+// it yields exactly the request, and none if it could yield more.
 fn writers(len: usize, reads: u32, most: u32) -> u32 {
-    match given(reads) {
+    match bytes_before_read_fault(reads) {
         part if part < len => 2,
         all if all - len < 3 => most,
         _ => 0,
     }
 }
 
-// Each writer that breaks within so many calls.
+// Tests a reader with each writer that fails within `most` calls.
 fn expect_writers(
     rt: &impl Abort,
     alloc: Global,
@@ -96,7 +111,7 @@ fn expect_writers(
     }
 }
 
-// Each reader that breaks within so many calls, with writers that break within so many.
+// Tests each reader that fails within `most.0` calls, with writers that fail within `most.1`.
 fn expect_pairs(
     rt: &impl Abort,
     alloc: Global,
@@ -109,7 +124,7 @@ fn expect_pairs(
     }
 }
 
-static ROWS: [Row; 17] = [
+static ROWS: [FaultCase; 17] = [
     (
         b"POST /requests HTTP/1.1\r\nContent-Length: 29\r\n\r\n{\"do\":\"withdraw\",\"posting\":1}",
         Status::Fine,
@@ -214,7 +229,7 @@ static ROWS: [Row; 17] = [
     ),
 ];
 
-// Enough calls for the longest request, of 77 bytes, and the longest answer, of 138.
+// Enough calls for the longest request, of 77 bytes, and the longest response, of 138.
 static CALLS: (u32, u32) = (54, 284);
 
 #[test]
@@ -227,7 +242,7 @@ fn what_breaks_leaves_a_front_of_the_answer(rt: HostRuntime) {
 
 static LONG: &[u8] = b"GET /display/hierarchical?scheme=3&lang=en HTTP/1.1\r\n\r\n";
 
-// The answer to it, which is no one write: the head and the body are longer than 512 bytes.
+// Returns the response to `LONG`, which takes two writes: head and body exceed 512 bytes.
 fn long_answer(alloc: Global) -> Result<Vec<u8>, AllocError> {
     let head =
         b"HTTP/1.1 200 OK\r\nContent-Type: text/plain; charset=utf-8\r\nContent-Length: 600\r\nConnection: close\r\n\r\n";

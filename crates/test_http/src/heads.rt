@@ -1,19 +1,20 @@
-//! Heads at their bounds.
-use crate::shelf::Shelf;
+//! Tests of heads at the limits.
+use crate::counter::CountingService;
 use std::alloc::{AllocError, Global};
 use std::process::Abort;
 use thes_base::pipe::Pipe;
 use thes_http::Status;
-use thes_http::serve::{Served, serve_one};
+use thes_http::serve::{ConnectionEnd, serve_one};
 
-fn served(alloc: Global, request: &[u8]) -> Served {
+// Serves a request that is a head.
+fn serve_head(alloc: Global, request: &[u8]) -> ConnectionEnd {
     let mut reader = Pipe::new(request);
     let mut writer = Pipe::new(Vec::new(alloc));
-    let mut shelf = Shelf { performed: 0 };
-    serve_one(alloc, &mut reader, &mut writer, &mut shelf)
+    let mut counter = CountingService { performed: 0 };
+    serve_one(alloc, &mut reader, &mut writer, &mut counter)
 }
 
-// A head with a field of so many bytes: 31 more than these.
+// Returns a head of `count + 31` bytes, of which `count` are the value of a field.
 fn long_head(alloc: Global, count: u32) -> Result<Vec<u8>, AllocError> {
     let mut head = Vec::from_slice(alloc, b"GET /totals HTTP/1.1\r\nName: ")?;
     for _ in 0..count {
@@ -23,7 +24,7 @@ fn long_head(alloc: Global, count: u32) -> Result<Vec<u8>, AllocError> {
     Ok(head)
 }
 
-// A head of so many fields, and its end where it is to be whole.
+// Returns a head with `count` fields, and then `end`.
 fn wide_head(alloc: Global, count: u32, end: &[u8]) -> Result<Vec<u8>, AllocError> {
     let mut head = Vec::from_slice(alloc, b"GET /totals HTTP/1.1\r\n")?;
     for _ in 0..count {
@@ -33,9 +34,10 @@ fn wide_head(alloc: Global, count: u32, end: &[u8]) -> Result<Vec<u8>, AllocErro
     Ok(head)
 }
 
-fn expect(rt: &impl Abort, alloc: Global, head: Result<Vec<u8>, AllocError>, end: Served) {
+// Checks how the connection ends for a head.
+fn expect(rt: &impl Abort, alloc: Global, head: Result<Vec<u8>, AllocError>, end: ConnectionEnd) {
     match head {
-        Ok(head) => assert_eq!(rt; served(alloc, &head), end),
+        Ok(head) => assert_eq!(rt; serve_head(alloc, &head), end),
         Err(_) => assert!(rt; false),
     }
 }
@@ -43,8 +45,8 @@ fn expect(rt: &impl Abort, alloc: Global, head: Result<Vec<u8>, AllocError>, end
 #[test]
 fn a_head_of_8192_bytes_is_read(rt: HostRuntime) {
     let alloc = rt.alloc();
-    let fine = Served::Answered(Status::Fine);
-    let bad = Served::Answered(Status::BadRequest);
+    let fine = ConnectionEnd::Answered(Status::Fine);
+    let bad = ConnectionEnd::Answered(Status::BadRequest);
     expect(&rt, alloc, long_head(alloc, 8_159), fine);
     expect(&rt, alloc, long_head(alloc, 8_160), fine);
     expect(&rt, alloc, long_head(alloc, 8_161), bad);
@@ -54,11 +56,16 @@ fn a_head_of_8192_bytes_is_read(rt: HostRuntime) {
 #[test]
 fn a_head_of_64_lines_is_read(rt: HostRuntime) {
     let alloc = rt.alloc();
-    let fine = Served::Answered(Status::Fine);
-    let bad = Served::Answered(Status::BadRequest);
+    let fine = ConnectionEnd::Answered(Status::Fine);
+    let bad = ConnectionEnd::Answered(Status::BadRequest);
     expect(&rt, alloc, wide_head(alloc, 64, b"\r\n"), fine);
     expect(&rt, alloc, wide_head(alloc, 65, b"\r\n"), bad);
-    expect(&rt, alloc, wide_head(alloc, 64, b""), Served::Cut);
-    expect(&rt, alloc, wide_head(alloc, 64, b"Name: val"), Served::Cut);
+    expect(&rt, alloc, wide_head(alloc, 64, b""), ConnectionEnd::Cut);
+    expect(
+        &rt,
+        alloc,
+        wide_head(alloc, 64, b"Name: val"),
+        ConnectionEnd::Cut,
+    );
     expect(&rt, alloc, wide_head(alloc, 65, b""), bad);
 }

@@ -1,11 +1,11 @@
-//! Tests of a connection, over memory and over devices that break. What is asked is a service of its own, which counts
-//! what it performs.
+//! Tests of connections, in memory and over devices that fail, with a service that only counts what
+//! it has performed.
 #![tactic(auto)]
 
 #[cfg(test)]
 mod breaks;
+pub mod counter;
 #[cfg(test)]
 mod heads;
 #[cfg(test)]
 mod rows;
-pub mod shelf;

@@ -1,1 +1,1 @@
-pub mod Posted
+pub mod PostedTables

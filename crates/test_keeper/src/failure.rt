@@ -1,9 +1,9 @@
-//! Why a keeper isn't filled.
+//! Failures to fill a `Keeper`.
 
 use std::alloc::AllocError;
 use thes_base::fault::{Fault, ReadStop};
 
-/// The reason why a keeper isn't filled.
+/// The reason why a `Keeper` can't be filled.
 #[derive(Clone, Copy, Debug, PartialEq, Eq)]
 pub enum Failure {
     Memory,

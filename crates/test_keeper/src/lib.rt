@@ -1,6 +1,6 @@
-//! Posts and merges over any keeper, and its rows as text, for tests and benches.
+//! Posts and merges for any `Keeper`, and its rows as text, for tests and benchmarks.
 #![tactic(auto)]
 
 pub mod failure;
-pub mod keeping;
 pub mod rows;
+pub mod workload;

@@ -6,21 +6,21 @@ use thes_store::sink::{PostingSink, RowSink};
 use thes_tables::cells::Cell;
 use thes_tables::rows::PostingRow;
 
-/// The rows that are handed to it, each on a line; for a table that can't be queried, a line with its name alone.
+/// A sink that writes each row on a line. A table that can't be queried is a line with its name alone.
 #[derive(Drop)]
 pub struct Rows {
     pub text: String,
 }
 
 impl Rows {
-    /// Makes a text without lines.
+    /// Creates an empty text.
     pub fn new(alloc: Global) -> Rows {
         Rows {
             text: String::new(alloc),
         }
     }
 
-    // Adds a cell to the line.
+    // Appends a cell to the line.
     fn push_cell(&mut self, cell: &Cell) -> Result<(), AllocError> {
         match cell {
             Cell::Int(number) => write!(self.text, " {number}"),
@@ -30,7 +30,7 @@ impl Rows {
         }
     }
 
-    // Adds a line: the name of a table, and the cells of a row.
+    // Appends a line with the table's name and the row's cells.
     fn push_row(&mut self, table: Table, row: &[Cell]) -> Result<(), AllocError> {
         self.text.push_str(table.name())?;
         for cell in row {
@@ -39,7 +39,7 @@ impl Rows {
         self.text.push('\n')
     }
 
-    // Adds a line: a posting's number and its key.
+    // Appends a line with the posting's number and key.
     fn push_posting(&mut self, row: &PostingRow) -> Result<(), AllocError> {
         let number = row.number.get();
         writeln!(self.text, "{number} {}", row.key.as_str())

@@ -1,10 +1,10 @@
-//! Devices that fail, at whichever of their calls.
+//! Devices that fail after a number of calls.
 use Failing::{FullWriter, Reader, Writer};
 use std::alloc::Global;
 use test_devices::{Filling, Halting};
 use thes_base::fault::PipeFault;
 
-/// The device that fails: a reader that breaks, a writer that breaks, or one that is full.
+/// The failing device: a reader that breaks, a writer that breaks, or a writer that is full.
 #[derive(Clone, Copy, Debug, PartialEq, Eq)]
 pub enum Failing {
     Reader,
@@ -13,7 +13,7 @@ pub enum Failing {
 }
 
 impl Failing {
-    /// Makes a reader that gives a text, for so many calls if it is the device that fails.
+    /// Creates a reader of a text, which fails after `calls` calls if the reader is the failing device.
     pub fn reader<'a>(self, text: &'a str, calls: u32) -> Halting<'a> {
         Halting {
             bytes: text.as_bytes(),
@@ -21,7 +21,7 @@ impl Failing {
         }
     }
 
-    /// Makes a writer that takes bytes, for so many calls if it is the device that fails.
+    /// Creates a writer, which fails after `calls` calls if a writer is the failing device.
     pub fn writer(self, alloc: Global, calls: u32) -> Filling {
         Filling {
             bytes: Vec::new(alloc),
@@ -30,7 +30,7 @@ impl Failing {
         }
     }
 
-    /// Returns the fault that the device is told by.
+    /// Returns the fault that a script reports for the device.
     pub fn fault(self) -> PipeFault {
         match self {
             Reader => PipeFault::Read,

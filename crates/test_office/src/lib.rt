@@ -1,7 +1,8 @@
-//! Offices for the programs that try the rest: a store in memory, as the program opens one where no file is named, and the ways in
-//! which an office is worked. What an office promises is long, and a proof that meets it takes long: so each call stands here in a
-//! function of its own, which promises nothing of that, and borrows the office. A function in which a store ends is proved once for
-//! each way out of it: so a store is made in a function that lends it to another one, drops it, and returns what that one gave.
+//! Offices for test programs: a store in memory, as the program opens it if no file is named, and the ways to use an office.
+//!
+//! The contracts of an office are long, and slow to prove with. So each call is a function of its own that borrows the office and
+//! has no contract about it. A function that drops a store is proved once for each of its exits. So a function that makes a
+//! store lends it to another one, drops it, and returns that one's result.
 #![tactic(auto)]
 
 pub mod failing;

@@ -8,65 +8,65 @@ use thes_base::fault::{Fault, PipeFault};
 use thes_base::number::{PostNo, ResNo};
 use thes_base::request::{Answer, Command};
 use thes_base::text::Base;
-use thes_exchange::desk::{Desk, Viewed};
+use thes_exchange::handler::{QueryAnswer, RequestHandler};
 use thes_exchange::request::Query;
 use thes_exchange::script::Ended;
 use thes_office::Office;
-use thes_service::FrontDesk;
+use thes_service::OfficeHandler;
 use thes_store::mem::MemKeeper;
 
-// The base of each store.
+// The base IRI of each store.
 const BASE: &str = "https://thesaurus.example/id/";
 
-// The last resource and the last posting of which a store tells what it shows.
+// The last resource and the last posting that `shown` includes.
 const LAST: u32 = 6;
 
 /// A store in memory.
 #[derive(Drop)]
 pub struct Store {
-    pub desk: FrontDesk<MemKeeper>,
+    pub handler: OfficeHandler<MemKeeper>,
 }
 
 // Opens an office over the tables of a keeper.
 fn open(alloc: Global, keeper: MemKeeper, limits: Limits) -> io::Result<Store> {
     match Office::start(alloc, keeper, limits) {
         Ok(office) => Ok(Store {
-            desk: FrontDesk::new(office),
+            handler: OfficeHandler::new(office),
         }),
         Err(_) => Err(invalid()),
     }
 }
 
 impl Store {
-    /// Makes a new store. Its base is `https://thesaurus.example/id/`.
+    /// Creates an empty store with the base IRI `https://thesaurus.example/id/`.
     pub fn new(alloc: Global, limits: Limits) -> io::Result<Store> {
         let base = Base::read(alloc, BASE).map_err(|_| invalid())?;
         open(alloc, MemKeeper::new(alloc, base), limits)
     }
 
     // Closes the store, and opens its tables again.
-    fn reopened(self, alloc: Global, limits: Limits) -> io::Result<Store> {
-        let Store { desk } = self;
-        open(alloc, desk.into_office().into_keeper(), limits)
+    fn reopen(self, alloc: Global, limits: Limits) -> io::Result<Store> {
+        let Store { handler } = self;
+        open(alloc, handler.into_office().into_keeper(), limits)
     }
 
-    /// Lends the store's office.
+    /// Returns the office of the store.
     pub fn office(&mut self) -> &mut Office<MemKeeper> {
-        let desk = &mut self.desk;
-        &mut desk.office
+        let handler = &mut self.handler;
+        &mut handler.office
     }
 
-    /// Serves a script over these devices. Returns the writer, and how the script ended.
+    /// Serves a script, and returns the writer and how the script ended.
     pub fn serve<R: Read + Drop, W: Write>(
         &mut self,
         alloc: Global,
         input: R,
         output: W,
     ) -> (W, Result<Ended, PipeFault>) {
-        serve_in(alloc, &mut self.desk, input, output)
+        serve_in(alloc, &mut self.handler, input, output)
     }
 
-    /// Performs the requests of a list, and adds their answers.
+    /// Performs a list of requests, and appends their answers.
     pub fn perform(
         &mut self,
         commands: &[Command],
@@ -75,20 +75,20 @@ impl Store {
         self.office().run(commands, answers)
     }
 
-    /// Closes the store, opens its tables again, and tells what it shows of the first six resources and postings.
+    /// Closes the store, opens its tables again, and returns its views of the first six resources and postings.
     pub fn shown(self, alloc: Global) -> io::Result<Vec<u8>> {
-        let mut store = self.reopened(alloc, Limits::default())?;
+        let mut store = self.reopen(alloc, Limits::default())?;
         let shown = views(alloc, &mut store);
         drop(store);
         shown
     }
 }
 
-fn view(alloc: Global, store: &mut Store, query: &Query) -> Result<Viewed, Fault> {
-    store.desk.show(alloc, query)
+fn view(alloc: Global, store: &mut Store, query: &Query) -> Result<QueryAnswer, Fault> {
+    store.handler.show(alloc, query)
 }
 
-// Adds what a query is answered with, or by what name it is refused.
+// Appends the answer to a query, or the name of its refusal.
 fn push_view(
     alloc: Global,
     store: &mut Store,
@@ -96,8 +96,8 @@ fn push_view(
     shown: &mut Vec<u8>,
 ) -> io::Result<()> {
     match view(alloc, store, query) {
-        Ok(Viewed::Line(line)) => shown.extend_from_slice(line.as_bytes())?,
-        Ok(Viewed::No(refusal)) => shown.extend_from_slice(refusal.name().as_bytes())?,
+        Ok(QueryAnswer::Line(line)) => shown.extend_from_slice(line.as_bytes())?,
+        Ok(QueryAnswer::No(refusal)) => shown.extend_from_slice(refusal.name().as_bytes())?,
         Err(_) => return Err(invalid()),
     }
     Ok(())
@@ -137,7 +137,7 @@ fn is_performed(ended: &Result<Ended, PipeFault>) -> bool {
     }
 }
 
-// Serves requests, of which none may be refused.
+// Serves requests, none of which may be refused.
 fn serve_all(alloc: Global, store: &mut Store, requests: &str) -> io::Result<()> {
     if requests.is_empty() {
         return Ok(());
@@ -150,7 +150,7 @@ fn serve_all(alloc: Global, store: &mut Store, requests: &str) -> io::Result<()>
     }
 }
 
-/// Makes a store by requests, of which none may be refused.
+/// Makes a store by requests, none of which may be refused.
 pub fn store_after(alloc: Global, requests: &str) -> io::Result<Store> {
     let mut store = Store::new(alloc, Limits::default())?;
     match serve_all(alloc, &mut store, requests) {
@@ -162,7 +162,7 @@ pub fn store_after(alloc: Global, requests: &str) -> io::Result<Store> {
     }
 }
 
-/// Makes the error that stands for a refused request, and for any fault.
+/// Returns the error for a refused request, or for any fault.
 pub fn invalid() -> io::Error {
     io::Error::from(io::ErrorKind::InvalidData)
 }

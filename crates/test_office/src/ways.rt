@@ -1,4 +1,4 @@
-//! The ways in which an office is worked, each over devices of its own.
+//! The ways to use an office: scripts, imports, exports, displays and connections, each with its own reader and writer.
 ghost use Rattle.std.specs.Prelude.{◌≡◌, false};
 ghost use Rattle.thes_base.specs.Pipe.{IsFresh};
 
@@ -9,85 +9,85 @@ use thes_base::number::ResNo;
 use thes_base::pipe::Pipe;
 use thes_base::text::Tag;
 use thes_core::Core;
-use thes_display::shown::{Shown, alphabetical, hierarchical};
+use thes_display::writing::{DisplayOutcome, alphabetical, hierarchical};
 use thes_exchange::script::Ended;
-use thes_export::written::export;
-use thes_http::serve::{Served, serve_one};
+use thes_export::writing::export;
+use thes_http::serve::{ConnectionEnd, serve_one};
 use thes_http::service::Display;
-use thes_importer::import;
-use thes_importer::import::Stopped;
-use thes_service::{FrontDesk, office_script};
+use thes_import::import;
+use thes_import::import::ImportStop;
+use thes_service::{OfficeHandler, office_script};
 use thes_store::keeper::Keeper;
 
 fn serve_pipes<K: Keeper, R: Read, W: Write>(
     alloc: Global,
-    desk: &mut FrontDesk<K>,
+    handler: &mut OfficeHandler<K>,
     reader: &mut Pipe<R>,
     writer: &mut Pipe<W>,
 ) -> Result<Ended, PipeFault>
     requires reader { IsFresh reader.old }
     requires writer { IsFresh writer.old }
 {
-    office_script(alloc, reader, writer, desk)
+    office_script(alloc, reader, writer, handler)
 }
 
-/// Serves a script over these devices. Returns the writer, and how the script ended.
+/// Serves a script, and returns the writer and how the script ended.
 pub fn serve_in<K: Keeper, R: Read + Drop, W: Write>(
     alloc: Global,
-    desk: &mut FrontDesk<K>,
+    handler: &mut OfficeHandler<K>,
     input: R,
     output: W,
 ) -> (W, Result<Ended, PipeFault>) {
     let mut reader = Pipe::new(input);
     let mut writer = Pipe::new(output);
-    let ended = serve_pipes(alloc, desk, &mut reader, &mut writer);
+    let ended = serve_pipes(alloc, handler, &mut reader, &mut writer);
     (writer.into_device(), ended)
 }
 
 fn import_pipes<K: Keeper, R: Read, W: Write>(
     alloc: Global,
-    desk: &mut FrontDesk<K>,
+    handler: &mut OfficeHandler<K>,
     reader: &mut Pipe<R>,
     writer: &mut Pipe<W>,
-) -> Result<import::Ended, Stopped>
+) -> Result<import::ImportEnd, ImportStop>
     requires reader { IsFresh reader.old }
     requires writer { IsFresh writer.old }
 {
-    import::import(alloc, reader, writer, &mut desk.office)
+    import::import(alloc, reader, writer, &mut handler.office)
 }
 
-/// Imports a posting file over these devices. Returns the writer, and how the import ended.
+/// Imports a posting file, and returns the writer and how the import ended.
 pub fn import_in<K: Keeper, R: Read + Drop, W: Write>(
     alloc: Global,
-    desk: &mut FrontDesk<K>,
+    handler: &mut OfficeHandler<K>,
     input: R,
     output: W,
-) -> (W, Result<import::Ended, Stopped>) {
+) -> (W, Result<import::ImportEnd, ImportStop>) {
     let mut reader = Pipe::new(input);
     let mut writer = Pipe::new(output);
-    let ended = import_pipes(alloc, desk, &mut reader, &mut writer);
+    let ended = import_pipes(alloc, handler, &mut reader, &mut writer);
     (writer.into_device(), ended)
 }
 
 fn export_pipe<K: Keeper, W: Write>(
     alloc: Global,
-    desk: &mut FrontDesk<K>,
+    handler: &mut OfficeHandler<K>,
     writer: &mut Pipe<W>,
 ) -> Result<(), PipeFault>
     requires { IsFresh writer.old }
 {
-    let core = desk.office.ready()?;
+    let core = handler.office.ready()?;
     export(alloc, core, writer)
 }
 
-/// Writes the export to this device. Returns it, and whether the export was written.
+/// Writes an export, and returns the writer and whether all of it was written.
 pub fn export_in<K: Keeper, W: Write>(
     alloc: Global,
-    desk: &mut FrontDesk<K>,
+    handler: &mut OfficeHandler<K>,
     output: W,
 ) -> (W, Result<(), PipeFault>) {
     let mut writer = Pipe::new(output);
-    let ended = export_pipe(alloc, desk, &mut writer);
+    let ended = export_pipe(alloc, handler, &mut writer);
     (writer.into_device(), ended)
 }
 
@@ -98,7 +98,7 @@ fn display_core<W: Write>(
     scheme: ResNo,
     tag: &Tag,
     writer: &mut Pipe<W>,
-) -> Result<Shown, PipeFault>
+) -> Result<DisplayOutcome, PipeFault>
     requires unspent { core.now.spent ≡ false }
     requires writer { IsFresh writer.old }
 {
@@ -110,53 +110,53 @@ fn display_core<W: Write>(
 
 fn display_pipe<K: Keeper, W: Write>(
     alloc: Global,
-    desk: &mut FrontDesk<K>,
+    handler: &mut OfficeHandler<K>,
     display: Display,
     scheme: ResNo,
     tag: &Tag,
     writer: &mut Pipe<W>,
-) -> Result<Shown, PipeFault>
+) -> Result<DisplayOutcome, PipeFault>
     requires { IsFresh writer.old }
 {
-    let core = desk.office.ready()?;
+    let core = handler.office.ready()?;
     display_core(alloc, core, display, scheme, tag, writer)
 }
 
-/// Writes a display to this device. Returns it, and what became of the display.
+/// Writes a display, and returns the writer and the outcome.
 pub fn display_in<K: Keeper, W: Write>(
     alloc: Global,
-    desk: &mut FrontDesk<K>,
+    handler: &mut OfficeHandler<K>,
     display: Display,
     scheme: ResNo,
     tag: &Tag,
     output: W,
-) -> (W, Result<Shown, PipeFault>) {
+) -> (W, Result<DisplayOutcome, PipeFault>) {
     let mut writer = Pipe::new(output);
-    let shown = display_pipe(alloc, desk, display, scheme, tag, &mut writer);
+    let shown = display_pipe(alloc, handler, display, scheme, tag, &mut writer);
     (writer.into_device(), shown)
 }
 
 fn connect_pipes<K: Keeper, R: Read, W: Write>(
     alloc: Global,
-    desk: &mut FrontDesk<K>,
+    handler: &mut OfficeHandler<K>,
     reader: &mut Pipe<R>,
     writer: &mut Pipe<W>,
-) -> Served
+) -> ConnectionEnd
     requires reader { IsFresh reader.old }
     requires writer { IsFresh writer.old }
 {
-    serve_one(alloc, reader, writer, desk)
+    serve_one(alloc, reader, writer, handler)
 }
 
-/// Serves a connection over these devices. Returns the writer, and how the connection ended.
+/// Serves a connection, and returns the writer and how the connection ended.
 pub fn connect_in<K: Keeper, R: Read + Drop, W: Write>(
     alloc: Global,
-    desk: &mut FrontDesk<K>,
+    handler: &mut OfficeHandler<K>,
     input: R,
     output: W,
-) -> (W, Served) {
+) -> (W, ConnectionEnd) {
     let mut reader = Pipe::new(input);
     let mut writer = Pipe::new(output);
-    let served = connect_pipes(alloc, desk, &mut reader, &mut writer);
+    let served = connect_pipes(alloc, handler, &mut reader, &mut writer);
     (writer.into_device(), served)
 }

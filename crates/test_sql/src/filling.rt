@@ -1,4 +1,4 @@
-//! The store's changes: of each kind one at least.
+//! Changes for a store, at least one of each kind.
 
 use sqlite::{Alter, Connection, Error};
 use std::alloc::{AllocError, Global};
@@ -11,7 +11,7 @@ use thes_tables::change::Change;
 use thes_tables::delta::Delta;
 use thes_tables::rows::{HierRow, HierType, LabelRow, MoveRow, PostingRow};
 
-/// The reason why the store isn't filled.
+/// The reason why the store can't be filled.
 #[derive(Debug, Drop)]
 pub enum Failure {
     Memory,
@@ -41,7 +41,7 @@ impl From<ReadStop> for Failure {
     }
 }
 
-// A preferred label in English.
+// Returns a preferred label in English.
 fn label(alloc: Global, owner: ResNo, text: &str) -> Result<LabelRow, Failure> {
     Ok(LabelRow {
         owner,
@@ -52,7 +52,7 @@ fn label(alloc: Global, owner: ResNo, text: &str) -> Result<LabelRow, Failure> {
     })
 }
 
-// A posting of a record to a concept.
+// Returns a posting of a record to a concept.
 fn posting(
     alloc: Global,
     number: PostNo,
@@ -70,8 +70,8 @@ fn posting(
     })
 }
 
-// A resource with its label.
-fn make_named(
+// Inserts a resource and its label.
+fn add_named_resource(
     alloc: Global,
     delta: &mut Delta,
     n: ResNo,
@@ -83,20 +83,20 @@ fn make_named(
     Ok(())
 }
 
-// A scheme with three concepts, and an outside concept.
+// Inserts a scheme with three concepts, and an outside concept.
 fn make_resources(alloc: Global, delta: &mut Delta) -> Result<(), Failure> {
     let scheme = ResNo::new(1);
     let concept = Resource::new(ResourceKind::Concept, Some(scheme));
-    make_named(
+    add_named_resource(
         alloc,
         delta,
         scheme,
         Resource::new(ResourceKind::Scheme, None),
         "Animals",
     )?;
-    make_named(alloc, delta, ResNo::new(2), concept, "Cats")?;
-    make_named(alloc, delta, ResNo::new(3), concept, "Mammals")?;
-    make_named(alloc, delta, ResNo::new(4), concept, "Pets")?;
+    add_named_resource(alloc, delta, ResNo::new(2), concept, "Cats")?;
+    add_named_resource(alloc, delta, ResNo::new(3), concept, "Mammals")?;
+    add_named_resource(alloc, delta, ResNo::new(4), concept, "Pets")?;
     let outside = ResNo::new(5);
     delta.push(Change::AddResource(outside, Resource::new(ResourceKind::Outside, None)))?;
     let iri = Iri::read(alloc, "http://example.org/x")?;
@@ -104,8 +104,8 @@ fn make_resources(alloc: Global, delta: &mut Delta) -> Result<(), Failure> {
     Ok(())
 }
 
-// A link that concepts 2 and 4 are related.
-fn related() -> Link {
+// Returns a link between concepts 2 and 4 of kind Related.
+fn related_link() -> Link {
     Link {
         kind: LinkKind::Related,
         a: ResNo::new(2),
@@ -113,8 +113,8 @@ fn related() -> Link {
     }
 }
 
-// A link that concept 3 is broader than concept 2, of this type.
-fn broader(typ: HierType) -> HierRow {
+// Returns a hierarchical link of this type from concept 2 up to concept 3.
+fn broader_row(typ: HierType) -> HierRow {
     HierRow {
         a: ResNo::new(2),
         b: ResNo::new(3),
@@ -122,22 +122,22 @@ fn broader(typ: HierType) -> HierRow {
     }
 }
 
-// Links of both tables, of which one each goes again.
+// Inserts two links into each table of links, and removes one of each again.
 fn make_links(delta: &mut Delta) -> Result<(), Failure> {
-    delta.push(Change::AddLink(related()))?;
+    delta.push(Change::AddLink(related_link()))?;
     delta.push(Change::AddLink(Link {
         kind: LinkKind::Exact,
         a: ResNo::new(3),
         b: ResNo::new(5),
     }))?;
-    delta.push(Change::AddHier(broader(HierType::Untyped)))?;
-    delta.push(Change::AddHier(broader(HierType::Partitive)))?;
-    delta.push(Change::DropLink(related()))?;
-    delta.push(Change::DropHier(broader(HierType::Untyped)))?;
+    delta.push(Change::AddHier(broader_row(HierType::Untyped)))?;
+    delta.push(Change::AddHier(broader_row(HierType::Partitive)))?;
+    delta.push(Change::DropLink(related_link()))?;
+    delta.push(Change::DropHier(broader_row(HierType::Untyped)))?;
     Ok(())
 }
 
-// Three postings, of which one is withdrawn, and a move.
+// Inserts three postings, withdraws one, and moves one.
 fn make_postings(alloc: Global, delta: &mut Delta) -> Result<(), Failure> {
     let (two, four) = (ResNo::new(2), ResNo::new(4));
     let (first, second, third) = (PostNo::new(1), PostNo::new(2), PostNo::new(3));
@@ -155,7 +155,7 @@ fn make_postings(alloc: Global, delta: &mut Delta) -> Result<(), Failure> {
     Ok(())
 }
 
-// What stands at concept 2 goes to concept 3, which replaces it; concept 4 goes, with its label.
+// Moves the postings of concept 2 to concept 3, which replaces it, and retires concept 4.
 fn merge(alloc: Global, delta: &mut Delta) -> Result<(), Failure> {
     let (two, three, four) = (ResNo::new(2), ResNo::new(3), ResNo::new(4));
     delta.push(Change::Replace(two, three))?;
@@ -186,7 +186,7 @@ fn commit<S: Alter>(conn: &mut Connection<S>, delta: &Delta) -> Result<(), Failu
     }
 }
 
-/// Makes in three commits changes of each kind.
+/// Makes changes of each kind, in three commits.
 pub fn fill<S: Alter>(alloc: Global, conn: &mut Connection<S>) -> Result<(), Failure> {
     let mut made = Delta::new(alloc);
     make_resources(alloc, &mut made)?;

@@ -7,7 +7,7 @@ use thes_store::sink::{PostingSink, RowSink};
 use thes_tables::cells::Cell;
 use thes_tables::rows::PostingRow;
 
-/// Writes what a keeper hands out, a row on a line after its table's name.
+/// A sink that writes each row on a line, under the name of its table.
 #[derive(Drop)]
 pub struct Lines {
     text: String,
@@ -15,7 +15,7 @@ pub struct Lines {
 }
 
 impl Lines {
-    /// Makes a text without lines.
+    /// Creates an empty text.
     pub fn new(alloc: Global) -> Lines {
         Lines {
             text: String::new(alloc),
@@ -23,26 +23,26 @@ impl Lines {
         }
     }
 
-    /// Shows the text.
+    /// Returns the text.
     pub fn as_str(&self) -> &str {
         self.text.as_str()
     }
 
-    /// Adds a line.
-    pub fn head(&mut self, line: &str) -> Result<(), AllocError> {
+    /// Appends a line.
+    pub fn push_line(&mut self, line: &str) -> Result<(), AllocError> {
         writeln!(self.text, "{line}")
     }
 
-    // Adds the name of a table, unless its rows came last.
+    // Appends the name of a table, unless it is that of the last row.
     fn name(&mut self, table: Table) -> Result<(), AllocError> {
         if self.last == Some(table) {
             return Ok(());
         }
         self.last = Some(table);
-        self.head(table.name())
+        self.push_line(table.name())
     }
 
-    // Adds a cell to the line.
+    // Appends a cell to the line.
     fn cell(&mut self, cell: &Cell) -> Result<(), AllocError> {
         match cell {
             Cell::Int(n) => write!(self.text, " {n}"),
@@ -52,17 +52,17 @@ impl Lines {
         }
     }
 
-    // Adds a line of cells.
+    // Appends a line of cells.
     fn cells(&mut self, table: Table, row: &[Cell]) -> Result<(), AllocError> {
         self.name(table)?;
         for cell in row {
             self.cell(cell)?;
         }
-        self.head("")
+        self.push_line("")
     }
 
-    /// Adds a posting.
-    pub fn posting_row(&mut self, row: &PostingRow) -> Result<(), AllocError> {
+    /// Appends a line with a posting.
+    pub fn push_posting(&mut self, row: &PostingRow) -> Result<(), AllocError> {
         let (number, place) = (row.number.get(), row.place.get());
         writeln!(
             self.text,
@@ -72,9 +72,9 @@ impl Lines {
         )
     }
 
-    /// Adds a posting with its moves.
+    /// Appends a line with a posting, and a line with each of its moves.
     pub fn told(&mut self, told: &Posting) -> Result<(), AllocError> {
-        self.posting_row(&told.row)?;
+        self.push_posting(&told.row)?;
         for step in told.moves.as_slice() {
             let (number, source) = (step.number.get(), step.source.get());
             writeln!(self.text, " {number} {source} {}", step.target.get())?;
@@ -82,10 +82,10 @@ impl Lines {
         Ok(())
     }
 
-    // Adds the news that a table can't be queried.
+    // Appends a line that the table can't be queried.
     fn none(&mut self, table: Table) -> Result<(), AllocError> {
         self.name(table)?;
-        self.head(" not queried")
+        self.push_line(" not queried")
     }
 }
 
@@ -105,6 +105,6 @@ impl PostingSink for Lines {
     ghost gives = { λ old row result new. Unit {0} };
 
     fn posting(&mut self, row: &PostingRow) -> Result<(), Fault> {
-        Ok(self.posting_row(row)?)
+        Ok(self.push_posting(row)?)
     }
 }

@@ -1,5 +1,5 @@
-//! Makes a store in the file that its word names, makes changes of each kind in it, and prints what a keeper then reads
-//! in it. After the word `show` it prints what a keeper reads in the files that the other words name.
+//! Creates a store in the file that its argument names, makes changes of each kind in it, and prints its rows. After
+//! the argument `show` it prints the rows of the files that the other arguments name.
 #![tactic(auto)]
 
 mod filling;
@@ -16,7 +16,7 @@ use std::{env, io};
 use thes_base::text::Base;
 use thes_sqlite::keeper::SqlKeeper;
 
-// Takes over a database, and tells what is read there; with the look-ups, if they are wanted.
+// Takes over a database and writes its rows, with the look-ups on request.
 fn read<S: Alter>(
     alloc: Global,
     conn: Connection<S>,
@@ -33,8 +33,8 @@ fn read<S: Alter>(
     keeper.into_connection()
 }
 
-// Makes the tables of a new store.
-fn created<S: Alter>(alloc: Global, conn: Connection<S>, base: &Base) -> Connection<S> {
+// Creates the tables of a new store.
+fn create_store<S: Alter>(alloc: Global, conn: Connection<S>, base: &Base) -> Connection<S> {
     if !conn.is_autocommit() {
         return conn;
     }
@@ -44,7 +44,7 @@ fn created<S: Alter>(alloc: Global, conn: Connection<S>, base: &Base) -> Connect
     }
 }
 
-// Makes a store if there is a base for it, with changes of each kind, and tells what is read in it.
+// Creates and fills a store if there is a base for it, and writes the rows of the database.
 fn work<S: Alter>(
     alloc: Global,
     conn: Connection<S>,
@@ -54,12 +54,12 @@ fn work<S: Alter>(
     let Some(base) = base else {
         return (Ok(()), read(alloc, conn, false, lines));
     };
-    let mut conn = created(alloc, conn, base);
+    let mut conn = create_store(alloc, conn, base);
     let filled = fill(alloc, &mut conn);
     (filled, read(alloc, conn, true, lines))
 }
 
-// Works in a file, and prints what is told.
+// Opens a file, works in it, and prints its lines.
 fn work_in(rt: &HostRuntime, path: &str, base: Option<&Base>) -> io::Result<()> {
     let Ok(conn) = Connection::open(rt, path) else {
         return println!(rt; "not opened");
@@ -74,7 +74,7 @@ fn work_in(rt: &HostRuntime, path: &str, base: Option<&Base>) -> io::Result<()> 
     println!(rt; "closed: {closed}")
 }
 
-// Makes a store, and prints what is read in it.
+// Creates a store, and prints its rows.
 fn make(rt: &HostRuntime, path: &str) -> io::Result<()> {
     let Ok(base) = Base::read(rt.alloc(), "https://thesaurus.example/id/") else {
         return println!(rt; "no base");
@@ -82,7 +82,7 @@ fn make(rt: &HostRuntime, path: &str) -> io::Result<()> {
     work_in(rt, path, Some(&base))
 }
 
-// Prints what is read in a file.
+// Prints the rows of a file.
 fn show(rt: &HostRuntime, path: &str) -> io::Result<()> {
     println!(rt; "{path}:")?;
     work_in(rt, path, None)

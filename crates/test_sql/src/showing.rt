@@ -1,4 +1,4 @@
-//! What a keeper reads in a database.
+//! Writes what a `Keeper` reads.
 use crate::lines::Lines;
 use std::alloc::{AllocError, Global};
 use thes_base::fault::Fault;
@@ -6,51 +6,51 @@ use thes_base::number::{PostNo, ResNo};
 use thes_base::text::Key;
 use thes_store::keeper::Keeper;
 
-// Adds a line that tells a fault.
-fn tell(lines: &mut Lines, fault: Fault) -> Result<(), AllocError> {
+// Appends a line that reports a fault.
+fn push_fault(lines: &mut Lines, fault: Fault) -> Result<(), AllocError> {
     match fault {
-        Fault::OutOfMemory => lines.head("out of memory"),
-        _ => lines.head("a fault of the store"),
+        Fault::OutOfMemory => lines.push_line("out of memory"),
+        _ => lines.push_line("a fault of the store"),
     }
 }
 
-/// Loads all tables.
+/// Writes all rows.
 pub fn load<K: Keeper>(keeper: &mut K, lines: &mut Lines) -> Result<(), AllocError> {
     match keeper.load(lines) {
         Ok(_) => Ok(()),
-        Err(fault) => tell(lines, fault),
+        Err(fault) => push_fault(lines, fault),
     }
 }
 
-// Looks up the posting of a key, also in another case of letters.
+// Looks up the posting of a key, and writes it.
 fn find<K: Keeper>(
     alloc: Global,
     keeper: &mut K,
     key: &str,
     lines: &mut Lines,
 ) -> Result<(), AllocError> {
-    lines.head("found")?;
+    lines.push_line("found")?;
     let Ok(key) = Key::read(alloc, key) else {
-        return lines.head("no key");
+        return lines.push_line("no key");
     };
     match keeper.find(&key) {
-        Ok(Some(row)) => lines.posting_row(&row),
-        Ok(None) => lines.head(" none"),
-        Err(fault) => tell(lines, fault),
+        Ok(Some(row)) => lines.push_posting(&row),
+        Ok(None) => lines.push_line(" none"),
+        Err(fault) => push_fault(lines, fault),
     }
 }
 
-// Looks up a posting with its moves.
+// Looks up a posting by its number, and writes it with its moves.
 fn posting<K: Keeper>(keeper: &mut K, number: PostNo, lines: &mut Lines) -> Result<(), AllocError> {
-    lines.head("told")?;
+    lines.push_line("told")?;
     match keeper.posting(number) {
         Ok(Some(told)) => lines.told(&told),
-        Ok(None) => lines.head(" none"),
-        Err(fault) => tell(lines, fault),
+        Ok(None) => lines.push_line(" none"),
+        Err(fault) => push_fault(lines, fault),
     }
 }
 
-/// Looks up postings by key, by number and by place.
+/// Looks up postings by key, by key in other case, by number and by place.
 pub fn look_up<K: Keeper>(
     alloc: Global,
     keeper: &mut K,
@@ -60,9 +60,9 @@ pub fn look_up<K: Keeper>(
     find(alloc, keeper, "K3", lines)?;
     posting(keeper, PostNo::new(3), lines)?;
     posting(keeper, PostNo::new(4), lines)?;
-    lines.head("standing")?;
+    lines.push_line("standing")?;
     match keeper.standing(ResNo::new(3), lines) {
         Ok(_) => Ok(()),
-        Err(fault) => tell(lines, fault),
+        Err(fault) => push_fault(lines, fault),
     }
 }

@@ -1,43 +1,43 @@
-//! What the calls of a keeper answer, as lines of text.
+//! The results of a `Keeper`'s calls, as lines of text.
 use std::alloc::{AllocError, Global};
 use std::fmt::Write;
 use test_keeper::failure::Failure;
-use test_keeper::keeping::commit_one;
 use test_keeper::rows::Rows;
+use test_keeper::workload::commit_one;
 use thes_base::fault::Fault;
 use thes_base::number::{PostNo, ResNo};
 use thes_base::text::Key;
 use thes_store::keeper::{Keeper, Posting};
 use thes_tables::change::Change;
 
-// A line that tells a fault.
-fn fault_told(alloc: Global, call: &str, fault: Fault) -> Result<String, AllocError> {
+// Returns a line that reports a fault of a call.
+fn call_fault_line(alloc: Global, call: &str, fault: Fault) -> Result<String, AllocError> {
     format!(in alloc; "{call}: {fault:?}\n")
 }
 
-/// Tells all rows.
-pub fn loaded<K: Keeper>(alloc: Global, keeper: &mut K) -> Result<String, Failure> {
+/// Loads all rows, and returns them as lines.
+pub fn load_report<K: Keeper>(alloc: Global, keeper: &mut K) -> Result<String, Failure> {
     let mut rows = Rows::new(alloc);
     match keeper.load(&mut rows) {
         Ok(_) => Ok(rows.text),
-        Err(fault) => Ok(fault_told(alloc, "load", fault)?),
+        Err(fault) => Ok(call_fault_line(alloc, "load", fault)?),
     }
 }
 
-/// Tells the number and the record of the posting that a key is found by.
-pub fn found<K: Keeper>(alloc: Global, keeper: &mut K, key: &str) -> Result<String, Failure> {
+/// Looks up a key, and returns a line with the posting's number and record.
+pub fn find_report<K: Keeper>(alloc: Global, keeper: &mut K, key: &str) -> Result<String, Failure> {
     match keeper.find(&Key::read(alloc, key)?) {
         Ok(Some(row)) => {
             let number = row.number.get();
             Ok(format!(in alloc; "find {key}: {number} {}\n", row.rec.as_str())?)
         }
         Ok(None) => Ok(format!(in alloc; "find {key}: none\n")?),
-        Err(fault) => Ok(fault_told(alloc, "find", fault)?),
+        Err(fault) => Ok(call_fault_line(alloc, "find", fault)?),
     }
 }
 
-// Tells where a posting began and where it stands, and each of its moves.
-fn posting_told(alloc: Global, posting: &Posting) -> Result<String, AllocError> {
+// Returns lines with a posting's first concept, its place and each of its moves.
+fn posting_lines(alloc: Global, posting: &Posting) -> Result<String, AllocError> {
     let (first, place) = (posting.row.first.get(), posting.row.place.get());
     let mut text = format!(in alloc; "posting: from {first} at {place}\n")?;
     for step in posting.moves.as_slice() {
@@ -47,16 +47,16 @@ fn posting_told(alloc: Global, posting: &Posting) -> Result<String, AllocError> 
     Ok(text)
 }
 
-/// Tells the posting of a number.
-pub fn told<K: Keeper>(alloc: Global, keeper: &mut K, number: PostNo) -> Result<String, Failure> {
+/// Looks up a posting by its number, and returns its lines.
+pub fn report<K: Keeper>(alloc: Global, keeper: &mut K, number: PostNo) -> Result<String, Failure> {
     match keeper.posting(number) {
-        Ok(Some(posting)) => Ok(posting_told(alloc, &posting)?),
+        Ok(Some(posting)) => Ok(posting_lines(alloc, &posting)?),
         Ok(None) => Ok(String::from_str(alloc, "posting: none\n")?),
-        Err(fault) => Ok(fault_told(alloc, "posting", fault)?),
+        Err(fault) => Ok(call_fault_line(alloc, "posting", fault)?),
     }
 }
 
-/// Tells the postings that stand at a concept.
+/// Returns lines with the postings assigned to a concept.
 pub fn standing<K: Keeper>(
     alloc: Global,
     keeper: &mut K,
@@ -66,37 +66,37 @@ pub fn standing<K: Keeper>(
     rows.text.push_str("standing:\n")?;
     match keeper.standing(concept, &mut rows) {
         Ok(_) => Ok(rows.text),
-        Err(fault) => Ok(fault_told(alloc, "standing", fault)?),
+        Err(fault) => Ok(call_fault_line(alloc, "standing", fault)?),
     }
 }
 
-/// Withdraws a posting, and tells what is answered.
-pub fn withdrawn<K: Keeper>(
+/// Withdraws a posting, and returns a line with the result.
+pub fn withdraw_report<K: Keeper>(
     alloc: Global,
     keeper: &mut K,
     number: PostNo,
 ) -> Result<String, Failure> {
     match commit_one(alloc, keeper, Change::Withdraw(number)) {
         Ok(_) => Ok(String::from_str(alloc, "withdraw: done\n")?),
-        Err(fault) => Ok(fault_told(alloc, "withdraw", fault)?),
+        Err(fault) => Ok(call_fault_line(alloc, "withdraw", fault)?),
     }
 }
 
-// Tells the postings of some keys.
-fn all_found<K: Keeper>(alloc: Global, keeper: &mut K) -> Result<String, Failure> {
+// Looks up three keys, and returns their lines.
+fn find_reports<K: Keeper>(alloc: Global, keeper: &mut K) -> Result<String, Failure> {
     let mut text = String::new(alloc);
     for key in ["k2", "K2", "k11"] {
-        text.push_str(found(alloc, keeper, key)?.as_str())?;
+        text.push_str(find_report(alloc, keeper, key)?.as_str())?;
     }
     Ok(text)
 }
 
-/// Tells what a keeper answers to each call that changes nothing.
+/// Returns the results of all calls that change nothing.
 pub fn answers<K: Keeper>(alloc: Global, keeper: &mut K) -> Result<String, Failure> {
-    let mut text = loaded(alloc, keeper)?;
-    text.push_str(all_found(alloc, keeper)?.as_str())?;
+    let mut text = load_report(alloc, keeper)?;
+    text.push_str(find_reports(alloc, keeper)?.as_str())?;
     for number in [PostNo::new(1), PostNo::new(2), PostNo::new(11)] {
-        text.push_str(told(alloc, keeper, number)?.as_str())?;
+        text.push_str(report(alloc, keeper, number)?.as_str())?;
     }
     for concept in [ResNo::new(2), ResNo::new(3)] {
         text.push_str(standing(alloc, keeper, concept)?.as_str())?;

@@ -1,20 +1,20 @@
-//! Prints what a keeper in memory answers to each of its calls, and what it answers when one call of each kind fails once.
+//! Prints the result of each call to storage in memory, and the results if one call of each kind fails once.
 #![tactic(auto)]
 
 mod answers;
 mod failing;
 
 use crate::answers::answers;
-use crate::failing::{failing_once, filled};
+use crate::failing::{fail_once_report, filled_keeper};
 use std::alloc::Global;
 use std::io;
 use std::rt::HostRuntime;
 use test_keeper::failure::Failure;
 use thes_store::fail_once::Next;
 
-// What is printed.
-fn told(alloc: Global) -> Result<String, Failure> {
-    let mut keeper = filled(alloc)?;
+// Returns the text to print.
+fn full_report(alloc: Global) -> Result<String, Failure> {
+    let mut keeper = filled_keeper(alloc)?;
     let text = answers(alloc, &mut keeper);
     drop(keeper);
     let mut text = text?;
@@ -26,13 +26,14 @@ fn told(alloc: Global) -> Result<String, Failure> {
         Next::Commit,
     ];
     for next in kinds {
-        text.push_str(failing_once(alloc, next)?.as_str())?;
+        text.push_str(fail_once_report(alloc, next)?.as_str())?;
     }
     Ok(text)
 }
 
+// Prints the text, or the reason why there is none.
 fn main(rt: HostRuntime) -> io::Result<()> {
-    match told(rt.alloc()) {
+    match full_report(rt.alloc()) {
         Ok(text) => print!(rt; "{text}"),
         Err(failure) => println!(rt; "{failure:?}"),
     }

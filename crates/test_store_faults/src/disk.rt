@@ -1,7 +1,7 @@
-//! Files in memory, of which one may stand still.
+//! Files in memory, one of which stops working.
 ghost use Rattle.std.specs.Prelude.{IsTrue};
 
-use crate::stop::Stop;
+use crate::stop::TrialStop;
 use sqlite::{Connection, FileStore, Files, Options};
 use sqlite_disk::{Crash, Disk, Fuse, Memory};
 use std::alloc::{AllocError, Global};
@@ -9,10 +9,10 @@ use std::alloc::{AllocError, Global};
 /// The two files of a store.
 pub type Disks = Files<Fuse<Memory>>;
 
-/// A store in two files. What a proof knows of a file in memory is long: so a function that has a store takes any `D`.
+/// A store in two files. Functions take any `D`, since the contract of a file in memory is long and slows their proofs.
 pub type Store<D> = Connection<FileStore<D>>;
 
-/// The file that stands still.
+/// The file that stops working.
 #[derive(Clone, Copy)]
 pub enum Failing {
     Log,
@@ -20,7 +20,7 @@ pub enum Failing {
 }
 
 impl Failing {
-    /// Names the file.
+    /// Returns the file's name.
     pub fn name(self) -> &'static str {
         match self {
             Failing::Log => "the log",
@@ -28,7 +28,7 @@ impl Failing {
         }
     }
 
-    // How many calls the log and the database file pass on, where this one passes so many.
+    // Returns how many calls the log and the database file make, if this one makes `calls`.
     fn calls(self, calls: u64) -> (u64, u64) {
         match self {
             Failing::Log => (calls, u64::MAX),
@@ -37,24 +37,24 @@ impl Failing {
     }
 }
 
-// Writes bytes to a file, whatever happens. Tells whether that is done.
+// Writes bytes to a file, and returns whether that succeeded.
 fn fill<D: Disk>(disk: &mut D, bytes: &[u8]) -> bool
     requires { IsTrue (D.Disk.is_usable disk.old) }
 {
     disk.write_at(0, bytes).is_ok() && disk.sync().is_ok()
 }
 
-// Makes a file that holds these bytes, whatever happens.
-fn memory_of(alloc: Global, bytes: &[u8]) -> Result<Memory, Stop> {
+// Creates a file with these bytes.
+fn memory_of(alloc: Global, bytes: &[u8]) -> Result<Memory, TrialStop> {
     let mut memory = Memory::new(alloc);
     if fill(&mut memory, bytes) {
         Ok(memory)
     } else {
-        Err(Stop)
+        Err(TrialStop)
     }
 }
 
-/// What the two files of a store hold.
+/// The contents of the two files of a store.
 #[derive(Drop)]
 pub struct Image {
     log: Vec<u8>,
@@ -62,7 +62,7 @@ pub struct Image {
 }
 
 impl Image {
-    // Makes an image of empty files.
+    // Creates an image of empty files.
     fn empty(alloc: Global) -> Image {
         Image {
             log: Vec::new(alloc),
@@ -70,7 +70,7 @@ impl Image {
         }
     }
 
-    /// Copies what files hold, synced or not.
+    /// Copies the contents of files, synced or not.
     pub fn of(alloc: Global, files: &Disks) -> Result<Image, AllocError> {
         Ok(Image {
             log: Vec::from_slice(alloc, files.log.inner().bytes())?,
@@ -78,8 +78,8 @@ impl Image {
         })
     }
 
-    /// Makes files of it, of which the one that fails passes so many calls on.
-    pub fn files(&self, alloc: Global, failing: Failing, calls: u64) -> Result<Disks, Stop> {
+    /// Creates files with these contents, where the failing one makes `calls` calls.
+    pub fn files(&self, alloc: Global, failing: Failing, calls: u64) -> Result<Disks, TrialStop> {
         let (log_calls, db_calls) = failing.calls(calls);
         Ok(Files {
             log: Fuse::new(memory_of(alloc, &self.log)?, log_calls),
@@ -87,30 +87,30 @@ impl Image {
         })
     }
 
-    /// Makes files of it that never fail.
-    pub fn sound_files(&self, alloc: Global) -> Result<Disks, Stop> {
+    /// Creates files with these contents that never fail.
+    pub fn sound_files(&self, alloc: Global) -> Result<Disks, TrialStop> {
         self.files(alloc, Failing::Log, u64::MAX)
     }
 }
 
-/// Makes the files of a new store, of which the one that fails passes so many calls on.
-pub fn new_files(alloc: Global, failing: Failing, calls: u64) -> Result<Disks, Stop> {
+/// Creates the files of a new store, where the failing one makes `calls` calls.
+pub fn new_files(alloc: Global, failing: Failing, calls: u64) -> Result<Disks, TrialStop> {
     Image::empty(alloc).files(alloc, failing, calls)
 }
 
-/// Makes the files as the next process finds them where this one is killed: what was written stands.
-pub fn killed(alloc: Global, files: &Disks) -> Result<Disks, Stop> {
+/// Returns the files as the next process sees them after a kill, with all that was written.
+pub fn files_after_kill(alloc: Global, files: &Disks) -> Result<Disks, TrialStop> {
     Image::of(alloc, files)?.sound_files(alloc)
 }
 
-/// Makes the files as they are found where the power was cut: only what was synced stands.
+/// Returns the files as they are after a power cut, with only what was synced.
 pub fn cut(mut files: Disks) -> Disks {
     files.log.crash();
     files.db.crash();
     files
 }
 
-// Opens the store in files that may be used. Its log is copied into the database file when it has so many pages.
+// Opens the store in usable files. A checkpoint copies its log into the database file at 24 pages.
 fn open_usable<D: Disk + Drop>(alloc: Global, files: Files<D>) -> Result<Store<D>, Files<D>>
     requires log { IsTrue (D.Disk.is_usable files.log) }
     requires db { IsTrue (D.Disk.is_usable files.db) }
@@ -124,7 +124,7 @@ fn open_usable<D: Disk + Drop>(alloc: Global, files: Files<D>) -> Result<Store<D
     }
 }
 
-/// Opens the store in files, or gives the files back.
+/// Opens the store in files, or returns the files.
 pub fn open<D: Disk + Drop>(alloc: Global, files: Files<D>) -> Result<Store<D>, Files<D>> {
     if files.may_be_used() {
         open_usable(alloc, files)
@@ -133,12 +133,12 @@ pub fn open<D: Disk + Drop>(alloc: Global, files: Files<D>) -> Result<Store<D>, 
     }
 }
 
-// Ends the work on a store without a call to its files.
+// Closes a store without a call to its files.
 fn abandon<D: Disk + Drop>(conn: Store<D>) -> Files<D> {
     conn.into_store().close()
 }
 
-// Ends the work on a store, and copies its log into the database file. Tells whether no call failed.
+// Closes a store after a checkpoint. Returns whether no call failed.
 fn close<D: Disk + Drop>(conn: Store<D>) -> (Files<D>, bool) {
     match conn.close_files() {
         Ok(files) => (files, true),
@@ -146,7 +146,7 @@ fn close<D: Disk + Drop>(conn: Store<D>) -> (Files<D>, bool) {
     }
 }
 
-/// Closes a store in which all is done, and abandons another. Tells whether it is closed, and no call failed.
+/// Closes a store if its work is done, and else abandons it. Returns whether it was closed and no call failed.
 pub fn end<D: Disk + Drop>(conn: Store<D>, is_done: bool) -> (Files<D>, bool) {
     if is_done {
         close(conn)

@@ -1,10 +1,9 @@
-//! What is done over a store, and what it is answered with.
+//! An example to run over stores, and the answers that it should get.
 use std::alloc::{AllocError, Global};
 
-/// Requests, one a line, with an answer for each, and a posting file, of which each line is a record, with the lines
-/// that its import tells.
+/// Requests, one a line, an answer for each, a posting file, and the lines that its import should return.
 #[derive(Drop)]
-pub struct Stored<'a> {
+pub struct StoredExample<'a> {
     requests: String,
     pub answers: String,
     postings: &'a str,
@@ -18,13 +17,13 @@ pub struct Example<'a> {
     pub postings: &'a str,
 }
 
-impl<'a> Stored<'a> {
-    /// Reads an example: lines `> REQUEST`, each with a line that is its answer; a line `% import` and the posting
-    /// file; a line `% outcomes` and the lines that are told.
-    pub fn read(alloc: Global, text: &'a str) -> Result<Stored<'a>, AllocError> {
+impl<'a> StoredExample<'a> {
+    /// Parses an example: lines `> REQUEST`, each followed by its answer; a line `% import` and the posting file; a
+    /// line `% outcomes` and the lines that the import should return.
+    pub fn read(alloc: Global, text: &'a str) -> Result<StoredExample<'a>, AllocError> {
         let (script, rest) = text.split_once("% import\n").unwrap_or((text, ""));
         let (postings, outcomes) = rest.split_once("% outcomes\n").unwrap_or((rest, ""));
-        let mut stored = Stored {
+        let mut stored = StoredExample {
             requests: String::new(alloc),
             answers: String::new(alloc),
             postings,
@@ -34,7 +33,7 @@ impl<'a> Stored<'a> {
         Ok(stored)
     }
 
-    // Adds the requests of a script, and their answers.
+    // Collects the requests of a script and their answers.
     fn add_lines(&mut self, script: &str) -> Result<(), AllocError> {
         for line in script.lines() {
             match line.strip_prefix("> ") {
@@ -45,7 +44,7 @@ impl<'a> Stored<'a> {
         Ok(())
     }
 
-    /// Returns what is done.
+    /// Returns the requests and the posting file.
     pub fn example(&self) -> Example<'_> {
         Example {
             requests: self.requests.as_str(),
@@ -54,26 +53,26 @@ impl<'a> Stored<'a> {
     }
 }
 
-/// Adds a line to a text.
+/// Appends a line to a text.
 pub fn push_line(text: &mut String, line: &str) -> Result<(), AllocError> {
     text.push_str(line)?;
     text.push('\n')
 }
 
-// The line that answers a request with a fault of the store.
+// The answer to a request that fails with the fault Store.
 const FAULT: &str = r#"{"fault":"Store"}"#;
 
-/// Tells whether a line answers a request otherwise than with a fault of the store.
+/// Returns whether a line is an answer other than the fault Store.
 pub fn is_answer(line: &str) -> bool {
     line != FAULT
 }
 
-/// Tells whether a fault of the store is among answers.
+/// Returns whether one of the answers is the fault Store.
 pub fn has_fault(answers: &str) -> bool {
     !answers.lines().all(is_answer)
 }
 
-/// Tells whether the lines that are answers, and no faults, are those that are wanted.
+/// Returns whether the lines are the expected answers, apart from faults.
 pub fn are_answers(told: &str, wanted: &str) -> bool {
     let mut wanted = wanted.lines();
     for answer in told.lines() {
@@ -84,7 +83,7 @@ pub fn are_answers(told: &str, wanted: &str) -> bool {
     wanted.next().is_none()
 }
 
-// How many lines there are up to the last answer.
+// Returns the number of lines up to the last answer that isn't a fault.
 fn lines_answered(answers: &str) -> usize {
     let mut count = 0;
     for (place, line) in answers.lines().enumerate() {
@@ -95,23 +94,23 @@ fn lines_answered(answers: &str) -> usize {
     count
 }
 
-/// The front of an example that was performed.
+/// A prefix of an example.
 #[derive(Drop)]
-pub struct Front {
+pub struct ExamplePrefix {
     requests: String,
     postings: String,
 }
 
-impl Front {
-    /// Makes an empty front.
-    pub fn new(alloc: Global) -> Front {
-        Front {
+impl ExamplePrefix {
+    /// Creates an empty prefix.
+    pub fn new(alloc: Global) -> ExamplePrefix {
+        ExamplePrefix {
             requests: String::new(alloc),
             postings: String::new(alloc),
         }
     }
 
-    /// Adds the requests that were answered otherwise than with a fault, and so many of those behind the last of them.
+    /// Appends the requests whose answers aren't faults, and `more` of those after the last of them.
     pub fn add_requests(
         &mut self,
         requests: &str,
@@ -130,8 +129,8 @@ impl Front {
         Ok(())
     }
 
-    /// Adds the lines of a posting file of which these lines were told, and so many more. There are none where no line
-    /// was told: the first one, the heading, needs no call.
+    /// Appends the lines of a posting file for which there are rows, and `more` lines after them. Without any row it
+    /// appends none, since the first one, the heading, takes no call.
     pub fn add_postings(
         &mut self,
         postings: &str,
@@ -150,7 +149,7 @@ impl Front {
         Ok(())
     }
 
-    /// Returns what was done.
+    /// Returns the requests and the posting file of the prefix.
     pub fn example(&self) -> Example<'_> {
         Example {
             requests: self.requests.as_str(),

@@ -1,4 +1,4 @@
-//! A keeper in memory of which a few calls fail.
+//! Storage in memory of which a few calls fail.
 ghost use Rattle.std.specs.Prelude.{◌≡◌};
 ghost use Rattle.thes_base.specs.declared.fault.Fault.{Fault};
 ghost use Rattle.thes_store.specs.Causes.{IsCounted};
@@ -13,19 +13,19 @@ use thes_store::sink::{PostingSink, RowSink};
 use thes_tables::delta::Delta;
 use thes_tables::rows::PostingRow;
 
-/// A keeper in memory that makes so many calls, fails at so many behind them, and then makes each.
+/// A `MemKeeper` of which `before` calls work, the next `times` calls fail, and all others work.
 #[derive(Drop)]
 pub struct Faltering {
     pub keeper: MemKeeper,
     before: u32,
     times: u32,
     pub failures: u64,
-    /// The call that failed first.
+    /// The first call that failed.
     pub first: Next,
 }
 
 impl Faltering {
-    /// Makes a keeper of these tables that makes so many calls, and fails at so many behind them.
+    /// Creates storage over these tables of which `before` calls work and the next `times` fail.
     pub fn new(keeper: MemKeeper, before: u32, times: u32) -> Faltering {
         Faltering {
             keeper,
@@ -36,7 +36,7 @@ impl Faltering {
         }
     }
 
-    // Counts a call of this kind, and tells whether it is to fail.
+    // Counts a call of this kind, and returns whether it should fail.
     fn is_due(&mut self, call: Next) -> bool
         ensures same { self.new.keeper ≡ self.old.keeper }
         ensures failures { self.new.failures ≡ self.old.failures }
@@ -67,9 +67,9 @@ impl Faltering {
 }
 
 impl Keeper for Faltering {
-    ghost use Rattle.thes_tables.specs.Cells.{listed};
+    ghost use Rattle.thes_tables.specs.Cells.{cells_of_tables};
 
-    ghost rows = { λ k. listed k.keeper };
+    ghost rows = { λ k. cells_of_tables k.keeper };
 
     ghost is_up = { λ k. Unit {0} };
 

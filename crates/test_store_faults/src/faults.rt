@@ -1,34 +1,35 @@
-//! Requests over a keeper that falters, each made again where it was answered with a fault.
-use crate::example::{Stored, has_fault, push_line};
+//! Requests over failing storage, each repeated until it succeeds.
+use crate::example::{StoredExample, has_fault, push_line};
 use crate::faltering::Faltering;
-use crate::fate::Fate;
-use crate::stop::Stop;
-use crate::told::{Told, answer, close, import, new_keeper, open, show};
+use crate::outcome::StoreOutcome;
+use crate::run_report::{RunReport, answer, close, import, new_keeper, open, show};
+use crate::stop::TrialStop;
 use std::alloc::{AllocError, Global};
-use thes_service::FrontDesk;
+use thes_service::OfficeHandler;
 use thes_store::fail_once::Next;
 use thes_store::keeper::Keeper;
 
-// What is told where each call is made until it doesn't fail.
+// The report of a run in which each call is repeated until it succeeds.
 #[derive(Drop)]
 struct Tries {
-    told: Told,
-    // how often a call is made at most
+    run_report: RunReport,
+    // The greatest number of times that a call is made.
     most: u32,
-    // how many of the calls were answered with a fault
+    // The number of calls that returned a fault.
     faults: u64,
-    // the last answer
+    // The last answer.
     line: String,
-    // how many lines an import told at most that was ended by a fault
+    // The greatest number of lines of an import that a fault ended.
     before: usize,
-    // the lines that are wanted of the import
+    // The lines expected of the import.
     wanted: String,
 }
 
 impl Tries {
+    // Creates the report for calls of which `times` fail.
     fn new(alloc: Global, times: u32) -> Tries {
         Tries {
-            told: Told::new(alloc),
+            run_report: RunReport::new(alloc),
             most: times.saturating_add(1),
             faults: 0,
             line: String::new(alloc),
@@ -37,63 +38,66 @@ impl Tries {
         }
     }
 
+    // Counts a fault.
     fn count(&mut self) {
         self.faults = self.faults.saturating_add(1);
     }
 
-    // Counts the lines that an import told which a fault ended.
+    // Counts a fault that ended an import, with its lines.
     fn count_import(&mut self) {
         self.count();
-        self.before = self.before.max(self.told.rows.as_str().lines().count());
-        self.told.rows.clear();
+        self.before = self
+            .before
+            .max(self.run_report.rows.as_str().lines().count());
+        self.run_report.rows.clear();
     }
 
-    // Tells whether the last answer is a fault.
+    // Returns whether the last answer is a fault.
     fn is_fault(&self) -> bool {
         has_fault(self.line.as_str())
     }
 
-    // Makes a request until it is answered without a fault, and adds its last answer.
+    // Makes a request until it succeeds, and appends its last answer.
     fn answer<K: Keeper>(
         &mut self,
         alloc: Global,
-        desk: &mut FrontDesk<K>,
+        handler: &mut OfficeHandler<K>,
         request: &str,
-    ) -> Result<(), Stop> {
+    ) -> Result<(), TrialStop> {
         for _ in 0..self.most {
             self.line.clear();
-            answer(alloc, desk, request, &mut self.line)?;
+            answer(alloc, handler, request, &mut self.line)?;
             if !self.is_fault() {
                 break;
             }
             self.count();
         }
-        self.told.answers.push_str(self.line.as_str())?;
+        self.run_report.answers.push_str(self.line.as_str())?;
         Ok(())
     }
 
-    // Makes requests, each by itself.
+    // Makes requests, one by one.
     fn answer_all<K: Keeper>(
         &mut self,
         alloc: Global,
-        desk: &mut FrontDesk<K>,
+        handler: &mut OfficeHandler<K>,
         requests: &str,
-    ) -> Result<(), Stop> {
+    ) -> Result<(), TrialStop> {
         for request in requests.split_inclusive('\n') {
-            self.answer(alloc, desk, request)?;
+            self.answer(alloc, handler, request)?;
         }
         Ok(())
     }
 
-    // Imports a posting file until no fault ends it.
+    // Imports a posting file until no fault ends the import.
     fn import<K: Keeper>(
         &mut self,
         alloc: Global,
-        desk: &mut FrontDesk<K>,
+        handler: &mut OfficeHandler<K>,
         postings: &str,
-    ) -> Result<(), Stop> {
+    ) -> Result<(), TrialStop> {
         for _ in 0..self.most {
-            if !import(alloc, desk, postings, &mut self.told.rows)? {
+            if !import(alloc, handler, postings, &mut self.run_report.rows)? {
                 break;
             }
             self.count_import();
@@ -105,39 +109,39 @@ impl Tries {
     fn run<K: Keeper>(
         &mut self,
         alloc: Global,
-        desk: &mut FrontDesk<K>,
-        stored: &Stored,
-    ) -> Result<(), Stop> {
+        handler: &mut OfficeHandler<K>,
+        stored: &StoredExample,
+    ) -> Result<(), TrialStop> {
         let example = stored.example();
-        self.answer_all(alloc, desk, example.requests)?;
+        self.answer_all(alloc, handler, example.requests)?;
         if !example.postings.is_empty() {
-            self.import(alloc, desk, example.postings)?;
+            self.import(alloc, handler, example.postings)?;
         }
         Ok(())
     }
 
-    // Performs an example over a keeper. The office is opened until no fault keeps it from that.
+    // Performs an example over storage, and repeats opening the `Office` until it succeeds.
     fn perform<K: Keeper>(
         &mut self,
         alloc: Global,
         keeper: K,
-        stored: &Stored,
-    ) -> (K, Result<(), Stop>) {
+        stored: &StoredExample,
+    ) -> (K, Result<(), TrialStop>) {
         let mut keeper = keeper;
         for _ in 0..self.most {
             match open(alloc, keeper) {
-                Ok(mut desk) => {
-                    let ran = self.run(alloc, &mut desk, stored);
-                    return (close(desk), ran);
+                Ok(mut handler) => {
+                    let ran = self.run(alloc, &mut handler, stored);
+                    return (close(handler), ran);
                 }
                 Err((_, back)) => keeper = back,
             }
             self.count();
         }
-        (keeper, Err(Stop))
+        (keeper, Err(TrialStop))
     }
 
-    // Writes the lines that are wanted of an import which is made again: what was new before is there already.
+    // Writes the lines expected of a repeated import, in which the new postings of the first attempt are known.
     fn want(&mut self, outcomes: &str) -> Result<(), AllocError> {
         for (place, line) in outcomes.lines().enumerate() {
             match line.split_once(",new,") {
@@ -150,51 +154,52 @@ impl Tries {
         Ok(())
     }
 
-    // Tells whether all is answered as is stored, but for so many faults, and the store shows what is wanted.
-    fn is_kept(&self, stored: &Stored, failures: u64, shown: &str) -> bool {
-        self.told.answers == stored.answers
-            && self.told.rows == self.wanted
+    // Returns whether all answers are as stored except for this number of faults, and the store shows the expected
+    // rows.
+    fn is_kept(&self, stored: &StoredExample, failures: u64, listing: &str) -> bool {
+        self.run_report.answers == stored.answers
+            && self.run_report.rows == self.wanted
             && self.faults == failures
-            && self.told.shown.text.as_str() == shown
+            && self.run_report.listing.text.as_str() == listing
     }
 
-    // Performs an example over a keeper that falters. Tells what became of its store, and which call failed first.
+    // Performs an example over failing storage. Returns its outcome and the first call that failed.
     fn falter(
         &mut self,
         alloc: Global,
-        stored: &Stored,
+        stored: &StoredExample,
         keeper: Faltering,
-        shown: &str,
-    ) -> Result<(Fate, Next), Stop> {
+        listing: &str,
+    ) -> Result<(StoreOutcome, Next), TrialStop> {
         let (keeper, ran) = self.perform(alloc, keeper, stored);
         let (failures, first) = (keeper.failures, keeper.first);
-        let (keeper, showed) = show(alloc, keeper.keeper, &mut self.told.shown);
+        let (keeper, show_result) = show(alloc, keeper.keeper, &mut self.run_report.listing);
         drop(keeper);
-        ran.and(showed)?;
+        ran.and(show_result)?;
         self.want(stored.outcomes)?;
-        let is_kept = self.is_kept(stored, failures, shown);
-        Ok((Fate::of(is_kept, failures == 0), first))
+        let is_kept = self.is_kept(stored, failures, listing);
+        Ok((StoreOutcome::of(is_kept, failures == 0), first))
     }
 }
 
-// Adds the line of a posting that is there already.
+// Appends the line of a posting that is known already.
 fn push_again(text: &mut String, row: &str, number: &str) -> Result<(), AllocError> {
     text.push_str(row)?;
     text.push_str(",again,")?;
     push_line(text, number)
 }
 
-/// Tells what becomes of a store in memory of which so many calls fail behind the first ones, and which of them failed
-/// first. Each request that is answered with a fault is made again, and the store is to show the same as where no call
-/// fails.
-pub fn fate_of_calls(
+/// Performs an example in memory, where `times` calls fail after the first `before`, and repeats each request that
+/// returns a fault. Returns the outcome, which is right if the store shows the same rows as without failures, and the
+/// first call that failed.
+pub fn outcome_of_calls(
     alloc: Global,
-    stored: &Stored,
+    stored: &StoredExample,
     before: u32,
     times: u32,
-    shown: &str,
-) -> Result<(Fate, Next), Stop> {
+    listing: &str,
+) -> Result<(StoreOutcome, Next), TrialStop> {
     let keeper = Faltering::new(new_keeper(alloc)?, before, times);
     let mut tries = Tries::new(alloc, times);
-    tries.falter(alloc, stored, keeper, shown)
+    tries.falter(alloc, stored, keeper, listing)
 }

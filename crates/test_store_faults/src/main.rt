@@ -1,29 +1,29 @@
-//! Runs examples over stores of which calls fail: once over a database in memory, where nothing does, and each request
-//! is to be answered as is stored; over tables in memory, of which one call fails in turn, or two, and each request is
-//! made again that is answered with a fault; and in files. There the log or the database file is passed so many calls
-//! and then stands still, for each number of calls up to the one with which no call fails. The files are then opened
-//! again as after a kill and as after a power cut: the store must be as a first part of the requests leaves it that has
-//! each one that was answered. The arguments name the files of the examples; how one is written stands in
-//! docs/ARCHITECTURE.md, "Stored examples of stores that fail".
+//! Runs examples over stores of which calls fail: once in a database in memory, without failures, where each answer
+//! must be as stored; in memory, where one call fails in turn or two, and each request that returns a fault is
+//! repeated; and in files. There the log or the database file stops working after n calls, for each n up to the first
+//! with which no call fails. The files are opened again as after a kill and as after a power cut: the store must be as
+//! after a prefix of the requests that has each confirmed one.
+//!
+//! The arguments name the files of the examples; "Stored examples" in CONTRIBUTING.md defines their form.
 #![tactic(auto)]
 
 mod disk;
 mod example;
 mod faltering;
-mod fate;
 mod faults;
 mod migration;
+mod outcome;
 mod requests;
+mod run_report;
 mod stop;
 mod stores;
-mod told;
 mod trial;
 
 use crate::trial::try_file;
 use std::alloc::Global;
 use std::{env, fs, io};
 
-// Tries the example of a file, and prints what is told of it.
+// Runs the example of a file, and prints its results.
 fn run_file<R: Print>(rt: &R, alloc: Global, name: &str, text: &str) -> io::Result<()> {
     let mut page = String::new(alloc);
     try_file(alloc, name, text, &mut page)?;

@@ -1,15 +1,15 @@
-//! Requests over a store of which a file stands still.
+//! Requests over a store, one file of which stops working.
 use crate::disk::{Failing, new_files};
-use crate::example::{Example, Front, are_answers};
-use crate::fate::{Fate, Trial};
-use crate::stop::Stop;
+use crate::example::{Example, ExamplePrefix, are_answers};
+use crate::outcome::{StoreOutcome, Trial};
+use crate::run_report::{RunReport, base, report_wanted};
+use crate::stop::TrialStop;
 use crate::stores::{After, Job, perform_new, work};
-use crate::told::{Told, base, tell_wanted};
 use sqlite::{Alter, Connection};
 use std::alloc::Global;
 use thes_base::text::Base;
 
-// What a store shows whose tables weren't made.
+// The lines of a store without tables.
 const NOTHING: &str = "\
 meta
 resource
@@ -22,46 +22,54 @@ move
 BadStore
 ";
 
-/// Requests that are made in new stores, and what an empty store shows.
+/// An example to run in new stores, and the rows of an empty store.
 #[derive(Drop)]
 pub struct Requests<'a> {
     example: Example<'a>,
-    empty: Told,
+    empty: RunReport,
 }
 
 impl<'a> Requests<'a> {
-    /// Makes them of an example.
-    pub fn new(alloc: Global, example: Example<'a>) -> Result<Requests<'a>, Stop> {
+    /// Creates the trial of an example.
+    pub fn new(alloc: Global, example: Example<'a>) -> Result<Requests<'a>, TrialStop> {
         let mut requests = Requests {
             example,
-            empty: Told::new(alloc),
+            empty: RunReport::new(alloc),
         };
-        requests.tell_empty(alloc)?;
+        requests.report_empty(alloc)?;
         Ok(requests)
     }
 
-    fn tell_empty(&mut self, alloc: Global) -> Result<(), Stop> {
+    // Reads the rows of an empty store.
+    fn report_empty(&mut self, alloc: Global) -> Result<(), TrialStop> {
         let nothing = Example {
             requests: "",
             postings: "",
         };
-        tell_wanted(alloc, nothing, &mut self.empty)
+        report_wanted(alloc, nothing, &mut self.empty)
     }
 
-    fn fate_in(
+    // Runs the example, and returns the outcome.
+    fn outcome_in(
         &self,
         alloc: Global,
         failing: Failing,
         calls: u64,
         run: &mut Run,
-    ) -> Result<Fate, Stop> {
+    ) -> Result<StoreOutcome, TrialStop> {
         self.run(alloc, failing, calls, run)?;
         let is_right = self.is_right(alloc, run)?;
-        Ok(Fate::of(is_right, run.is_closed && !run.told.failed))
+        Ok(StoreOutcome::of(is_right, run.is_closed && !run.run_report.failed))
     }
 
-    // Makes a store in new files, performs the example in it, and opens the files again.
-    fn run(&self, alloc: Global, failing: Failing, calls: u64, run: &mut Run) -> Result<(), Stop> {
+    // Creates a store in new files, performs the example in it, and opens the files again.
+    fn run(
+        &self,
+        alloc: Global,
+        failing: Failing,
+        calls: u64,
+        run: &mut Run,
+    ) -> Result<(), TrialStop> {
         let files = new_files(alloc, failing, calls)?;
         let (files, is_closed) = work(alloc, files, run);
         run.is_closed = is_closed;
@@ -69,74 +77,96 @@ impl<'a> Requests<'a> {
         run.ran
     }
 
-    // Tells whether a store shows what it should when it is opened again.
-    fn is_right(&self, alloc: Global, run: &Run) -> Result<bool, Stop> {
+    // Returns whether the store shows the rows that it should when it is opened again.
+    fn is_right(&self, alloc: Global, run: &Run) -> Result<bool, TrialStop> {
         if run.is_made {
             self.is_kept(alloc, run)
         } else {
-            let empty = self.empty.shown.text.as_str();
+            let empty = self.empty.listing.text.as_str();
             Ok(run.after.is_either(NOTHING, empty))
         }
     }
 
-    // Tells whether a store whose tables were made told and shows what it should.
-    fn is_kept(&self, alloc: Global, run: &Run) -> Result<bool, Stop> {
+    // Returns whether a store with tables gave the right answers and shows the right rows.
+    fn is_kept(&self, alloc: Global, run: &Run) -> Result<bool, TrialStop> {
         let mut wanted = Wanted::new(alloc);
-        self.tell_fronts(alloc, &run.told, &mut wanted)?;
+        self.report_prefixes(alloc, &run.run_report, &mut wanted)?;
         Ok(wanted.is_kept(run))
     }
 
-    fn tell_fronts(&self, alloc: Global, told: &Told, wanted: &mut Wanted) -> Result<(), Stop> {
-        self.tell_front(alloc, told, 0, &mut wanted.answered)?;
-        self.tell_front(alloc, told, usize::from(told.failed), &mut wanted.more)
-    }
-
-    // Tells what is wanted of a store that told this, with so many more of the requests or rows than were answered.
-    fn tell_front(
+    // Runs the confirmed requests without failures, and also the ones that may be done.
+    fn report_prefixes(
         &self,
         alloc: Global,
-        told: &Told,
-        more: usize,
-        wanted: &mut Told,
-    ) -> Result<(), Stop> {
-        let mut front = Front::new(alloc);
-        self.fill(told, more, &mut front)?;
-        tell_wanted(alloc, front.example(), wanted)
+        run_report: &RunReport,
+        wanted: &mut Wanted,
+    ) -> Result<(), TrialStop> {
+        self.report_prefix(alloc, run_report, 0, &mut wanted.after_answers)?;
+        self.report_prefix(
+            alloc,
+            run_report,
+            usize::from(run_report.failed),
+            &mut wanted.more,
+        )
     }
 
-    fn fill(&self, told: &Told, more: usize, front: &mut Front) -> Result<(), Stop> {
-        front.add_requests(self.example.requests, told.answers.as_str(), more)?;
-        front.add_postings(self.example.postings, told.rows.as_str(), more)?;
+    // Runs the prefix of the example that this report confirms, and `more` requests or rows after it.
+    fn report_prefix(
+        &self,
+        alloc: Global,
+        run_report: &RunReport,
+        more: usize,
+        wanted: &mut RunReport,
+    ) -> Result<(), TrialStop> {
+        let mut prefix = ExamplePrefix::new(alloc);
+        self.fill(run_report, more, &mut prefix)?;
+        report_wanted(alloc, prefix.example(), wanted)
+    }
+
+    // Collects the prefix of the example that a report confirms.
+    fn fill(
+        &self,
+        run_report: &RunReport,
+        more: usize,
+        prefix: &mut ExamplePrefix,
+    ) -> Result<(), TrialStop> {
+        prefix.add_requests(self.example.requests, run_report.answers.as_str(), more)?;
+        prefix.add_postings(self.example.postings, run_report.rows.as_str(), more)?;
         Ok(())
     }
 }
 
 impl<'a> Trial for Requests<'a> {
-    fn fate(&self, alloc: Global, failing: Failing, calls: u64) -> Result<Fate, Stop> {
+    fn outcome(
+        &self,
+        alloc: Global,
+        failing: Failing,
+        calls: u64,
+    ) -> Result<StoreOutcome, TrialStop> {
         let mut run = Run::new(alloc, self.example)?;
-        self.fate_in(alloc, failing, calls, &mut run)
+        self.outcome_in(alloc, failing, calls, &mut run)
     }
 }
 
-// An example that is performed in a new store: what the store tells, if its tables are made, whether its files are
-// closed and no call failed, and what it shows when it is opened again.
+// A job that performs an example in a new store: its report, whether its tables were created, whether its files were
+// closed and no call failed, and the rows after the store is opened again.
 #[derive(Drop)]
 struct Run<'a> {
     example: Example<'a>,
     base: Base,
-    told: Told,
-    ran: Result<(), Stop>,
+    run_report: RunReport,
+    ran: Result<(), TrialStop>,
     is_made: bool,
     is_closed: bool,
     after: After,
 }
 
 impl<'a> Run<'a> {
-    fn new(alloc: Global, example: Example<'a>) -> Result<Run<'a>, Stop> {
+    fn new(alloc: Global, example: Example<'a>) -> Result<Run<'a>, TrialStop> {
         Ok(Run {
             example,
             base: base(alloc)?,
-            told: Told::new(alloc),
+            run_report: RunReport::new(alloc),
             ran: Ok(()),
             is_made: false,
             is_closed: false,
@@ -147,40 +177,41 @@ impl<'a> Run<'a> {
 
 impl<'a> Job for Run<'a> {
     fn run<S: Alter>(&mut self, alloc: Global, conn: Connection<S>) -> (Connection<S>, bool) {
-        let told = &mut self.told;
-        let (conn, is_made, ran) = perform_new(alloc, conn, &self.base, self.example, told);
+        let run_report = &mut self.run_report;
+        let (conn, is_made, ran) = perform_new(alloc, conn, &self.base, self.example, run_report);
         self.is_made = is_made;
         self.ran = ran;
         (conn, is_made)
     }
 }
 
-// What is wanted of a store: after what was answered, and after one request or row more, where one wasn't answered:
-// that one may be done all the same.
+// The expected reports: after the confirmed requests, and after one more, which may be done without being confirmed.
 #[derive(Drop)]
 struct Wanted {
-    answered: Told,
-    more: Told,
+    after_answers: RunReport,
+    more: RunReport,
 }
 
 impl Wanted {
     fn new(alloc: Global) -> Wanted {
         Wanted {
-            answered: Told::new(alloc),
-            more: Told::new(alloc),
+            after_answers: RunReport::new(alloc),
+            more: RunReport::new(alloc),
         }
     }
 
-    // Tells whether a store told what is wanted, as far as it answered.
-    fn is_told(&self, told: &Told) -> bool {
-        are_answers(told.answers.as_str(), self.answered.answers.as_str())
-            && told.rows == self.answered.rows
+    // Returns whether the store gave the expected answers.
+    fn has_wanted_answers(&self, run_report: &RunReport) -> bool {
+        are_answers(
+            run_report.answers.as_str(),
+            self.after_answers.answers.as_str(),
+        ) && run_report.rows == self.after_answers.rows
     }
 
-    // Tells whether a store told and shows what is wanted.
+    // Returns whether the store gave the expected answers and shows the expected rows.
     fn is_kept(&self, run: &Run) -> bool {
-        let answered = self.answered.shown.text.as_str();
-        let more = self.more.shown.text.as_str();
-        self.is_told(&run.told) && run.after.is_either(answered, more)
+        let after_answers = self.after_answers.listing.text.as_str();
+        let more = self.more.listing.text.as_str();
+        self.has_wanted_answers(&run.run_report) && run.after.is_either(after_answers, more)
     }
 }

@@ -1,20 +1,20 @@
-//! What keeps an example from being run.
+//! The failure to run an example.
 use std::alloc::AllocError;
 use std::io;
 use test_office::invalid;
 
-/// Says that an example couldn't be run: memory ran out, or a store did what no call explains that fails.
+/// The example couldn't be run: memory ran out, or a store did something that no failing call explains.
 #[derive(Clone, Copy)]
-pub struct Stop;
+pub struct TrialStop;
 
-impl From<AllocError> for Stop {
-    fn from(_error: AllocError) -> Stop {
-        Stop
+impl From<AllocError> for TrialStop {
+    fn from(_error: AllocError) -> TrialStop {
+        TrialStop
     }
 }
 
-impl From<Stop> for io::Error {
-    fn from(_stop: Stop) -> io::Error {
+impl From<TrialStop> for io::Error {
+    fn from(_stop: TrialStop) -> io::Error {
         invalid()
     }
 }

@@ -1,8 +1,8 @@
-//! Stores in databases, and what they show.
-use crate::disk::{Disks, Store, cut, end, killed, open};
+//! Stores in databases, and their rows.
+use crate::disk::{Disks, Store, cut, end, files_after_kill, open};
 use crate::example::Example;
-use crate::stop::Stop;
-use crate::told::{Told, base, perform, show};
+use crate::run_report::{RunReport, base, perform, show};
+use crate::stop::TrialStop;
 use sqlite::{Alter, Connection, Files};
 use sqlite_disk::Disk;
 use std::alloc::Global;
@@ -13,12 +13,12 @@ use thes_sql::create::create_tables;
 use thes_sqlite::keeper::SqlKeeper;
 use thes_sqlite::migrating::migrate;
 
-// Makes the tables of a new store. Tells whether they are made.
+// Creates the tables of a new store. Returns whether that succeeded.
 fn make_tables<S: Alter>(conn: &mut Connection<S>, base: &Base) -> bool {
     create_tables(conn, base).unwrap_or(false)
 }
 
-// Makes a keeper over the tables of a database, or gives the database back.
+// Takes over the tables of a database, or returns the connection.
 fn adopt<S: Alter>(alloc: Global, conn: Connection<S>) -> Result<SqlKeeper<S>, Connection<S>> {
     if conn.is_autocommit() {
         Ok(SqlKeeper::adopt(alloc, conn))
@@ -27,31 +27,31 @@ fn adopt<S: Alter>(alloc: Global, conn: Connection<S>) -> Result<SqlKeeper<S>, C
     }
 }
 
-// Performs an example in a store whose tables are made. Returns the store.
+// Performs an example in a store with tables. Returns the connection.
 fn perform_in<S: Alter>(
     alloc: Global,
     conn: Connection<S>,
     example: Example,
-    told: &mut Told,
-) -> (Connection<S>, Result<(), Stop>) {
+    run_report: &mut RunReport,
+) -> (Connection<S>, Result<(), TrialStop>) {
     match adopt(alloc, conn) {
         Ok(keeper) => {
-            let (keeper, ran) = perform(alloc, keeper, example, told);
+            let (keeper, ran) = perform(alloc, keeper, example, run_report);
             (keeper.into_connection(), ran)
         }
         Err(conn) => {
-            told.failed = true;
+            run_report.failed = true;
             (conn, Ok(()))
         }
     }
 }
 
-/// Runs statements in a store. Tells whether that is done.
+/// Runs statements in a store. Returns whether they succeeded.
 pub fn execute<S: Alter>(conn: &mut Connection<S>, sql: &str) -> bool {
     conn.execute_batch(sql).is_ok()
 }
 
-/// Migrates a store. None if a transaction is open in it.
+/// Migrates a store, unless a transaction is open in it.
 pub fn migrate_in<S: Alter>(alloc: Global, conn: &mut Connection<S>) -> Option<Result<u32, Fault>> {
     if conn.is_autocommit() {
         Some(migrate(alloc, conn))
@@ -60,31 +60,32 @@ pub fn migrate_in<S: Alter>(alloc: Global, conn: &mut Connection<S>) -> Option<R
     }
 }
 
-// Adds the rows of a store, and how it loads. Returns the store.
+// Appends the rows of a store, and whether it loads. Returns the connection.
 fn show_in<S: Alter>(
     alloc: Global,
     conn: Connection<S>,
-    shown: &mut Rows,
-) -> (Connection<S>, Result<(), Stop>) {
+    listing: &mut Rows,
+) -> (Connection<S>, Result<(), TrialStop>) {
     match adopt(alloc, conn) {
         Ok(keeper) => {
-            let (keeper, showed) = show(alloc, keeper, shown);
-            (keeper.into_connection(), showed)
+            let (keeper, show_result) = show(alloc, keeper, listing);
+            (keeper.into_connection(), show_result)
         }
-        Err(conn) => (conn, Err(Stop)),
+        Err(conn) => (conn, Err(TrialStop)),
     }
 }
 
-/// Makes the tables of a new store, and performs an example in it. Returns the store, and whether its tables were made.
+/// Creates the tables of a new store, and performs an example in it. Returns the connection, and whether the tables
+/// were created.
 pub fn perform_new<S: Alter>(
     alloc: Global,
     mut conn: Connection<S>,
     base: &Base,
     example: Example,
-    told: &mut Told,
-) -> (Connection<S>, bool, Result<(), Stop>) {
+    run_report: &mut RunReport,
+) -> (Connection<S>, bool, Result<(), TrialStop>) {
     if make_tables(&mut conn, base) {
-        let (conn, ran) = perform_in(alloc, conn, example, told);
+        let (conn, ran) = perform_in(alloc, conn, example, run_report);
         (conn, true, ran)
     } else {
         (conn, false, Ok(()))
@@ -92,21 +93,30 @@ pub fn perform_new<S: Alter>(
 }
 
 /// Performs an example in a database in memory, which never fails.
-pub fn tell_in_memory(alloc: Global, example: Example, told: &mut Told) -> Result<(), Stop> {
+pub fn report_in_memory(
+    alloc: Global,
+    example: Example,
+    run_report: &mut RunReport,
+) -> Result<(), TrialStop> {
     let base = base(alloc)?;
-    tell_new(alloc, &base, example, told)
+    run_new(alloc, &base, example, run_report)
 }
 
-fn tell_new(alloc: Global, base: &Base, example: Example, told: &mut Told) -> Result<(), Stop> {
+fn run_new(
+    alloc: Global,
+    base: &Base,
+    example: Example,
+    run_report: &mut RunReport,
+) -> Result<(), TrialStop> {
     let conn = Connection::open_in_memory(alloc)?;
-    let (conn, is_made, ran) = perform_new(alloc, conn, base, example, told);
+    let (conn, is_made, ran) = perform_new(alloc, conn, base, example, run_report);
     drop(conn);
-    if is_made { ran } else { Err(Stop) }
+    if is_made { ran } else { Err(TrialStop) }
 }
 
-/// What is done in the store in files.
+/// Work to do in a store in files.
 pub trait Job {
-    /// Does it, and returns the store. Tells whether that is to be closed then, and not abandoned.
+    /// Does the work, and returns the connection and whether to close it rather than abandon it.
     fn run<S: Alter>(&mut self, alloc: Global, conn: Connection<S>) -> (Connection<S>, bool);
 }
 
@@ -115,7 +125,7 @@ fn work_in<D: Disk + Drop, J: Job>(alloc: Global, conn: Store<D>, job: &mut J) -
     end(conn, is_done)
 }
 
-/// Does a job in the store in files. Returns them, and tells whether the store is closed, and no call failed.
+/// Does work in the store in files. Returns the files, and whether the store was closed and no call failed.
 pub fn work<D: Disk + Drop, J: Job>(
     alloc: Global,
     files: Files<D>,
@@ -127,73 +137,74 @@ pub fn work<D: Disk + Drop, J: Job>(
     }
 }
 
-/// What a store shows, once it could be opened.
+/// The rows of a store, once it could be opened.
 #[derive(Drop)]
-pub struct Showing {
-    pub shown: Rows,
-    showed: Result<(), Stop>,
+pub struct StoreListing {
+    pub listing: Rows,
+    show_result: Result<(), TrialStop>,
 }
 
-impl Showing {
-    /// Makes what no store shows.
-    pub fn new(alloc: Global) -> Showing {
-        Showing {
-            shown: Rows::new(alloc),
-            showed: Err(Stop),
+impl StoreListing {
+    /// Creates the empty text of rows.
+    pub fn new(alloc: Global) -> StoreListing {
+        StoreListing {
+            listing: Rows::new(alloc),
+            show_result: Err(TrialStop),
         }
     }
 
-    /// Adds what the store in the files shows.
-    pub fn show(&mut self, alloc: Global, files: Disks) -> Result<(), Stop> {
+    /// Reads the rows of the store in the files.
+    pub fn show(&mut self, alloc: Global, files: Disks) -> Result<(), TrialStop> {
         let (files, _) = work(alloc, files, self);
         drop(files);
-        self.showed
+        self.show_result
     }
 
-    // Tells whether the store shows one of two texts.
+    // Returns whether the rows are one of two texts.
     fn is_either(&self, first: &str, second: &str) -> bool {
-        let shown = self.shown.text.as_str();
-        shown == first || shown == second
+        let listing = self.listing.text.as_str();
+        listing == first || listing == second
     }
 }
 
-impl Job for Showing {
+impl Job for StoreListing {
     fn run<S: Alter>(&mut self, alloc: Global, conn: Connection<S>) -> (Connection<S>, bool) {
-        let (conn, showed) = show_in(alloc, conn, &mut self.shown);
-        self.showed = showed;
+        let (conn, show_result) = show_in(alloc, conn, &mut self.listing);
+        self.show_result = show_result;
         (conn, false)
     }
 }
 
-/// What a store shows when it is opened again: after a kill, where what was written stands, and after a power cut,
-/// where what was synced does.
+/// The rows of a store when it is opened again: after a kill, with all that was written, and after a power cut, with
+/// what was synced.
 #[derive(Drop)]
 pub struct After {
-    kill: Showing,
-    cut: Showing,
+    kill: StoreListing,
+    cut: StoreListing,
 }
 
 impl After {
-    /// Makes what no store shows.
+    /// Creates empty texts of rows.
     pub fn new(alloc: Global) -> After {
         After {
-            kill: Showing::new(alloc),
-            cut: Showing::new(alloc),
+            kill: StoreListing::new(alloc),
+            cut: StoreListing::new(alloc),
         }
     }
 
-    /// Adds what the store in the files shows when it is opened again.
-    pub fn show(&mut self, alloc: Global, files: Disks) -> Result<(), Stop> {
+    /// Opens the files again as after a kill and as after a power cut, and reads the rows.
+    pub fn show(&mut self, alloc: Global, files: Disks) -> Result<(), TrialStop> {
         let kill = self.show_killed(alloc, &files);
         let cut = self.cut.show(alloc, cut(files));
         kill.and(cut)
     }
 
-    fn show_killed(&mut self, alloc: Global, files: &Disks) -> Result<(), Stop> {
-        self.kill.show(alloc, killed(alloc, files)?)
+    // Opens the files as after a kill, and reads the rows.
+    fn show_killed(&mut self, alloc: Global, files: &Disks) -> Result<(), TrialStop> {
+        self.kill.show(alloc, files_after_kill(alloc, files)?)
     }
 
-    /// Tells whether the store shows one of two texts each time.
+    /// Returns whether the rows are one of two texts both times.
     pub fn is_either(&self, first: &str, second: &str) -> bool {
         self.kill.is_either(first, second) && self.cut.is_either(first, second)
     }

@@ -1,55 +1,62 @@
-//! Examples over stores that fail, and what is printed of them.
+//! Runs examples over failing stores, and prints the results.
 use crate::disk::Failing;
-use crate::example::{Example, Stored};
-use crate::fate::{Fate, Trial};
-use crate::faults::fate_of_calls;
+use crate::example::{Example, StoredExample};
+use crate::faults::outcome_of_calls;
 use crate::migration::Migration;
+use crate::outcome::{StoreOutcome, Trial};
 use crate::requests::Requests;
-use crate::stop::Stop;
-use crate::stores::tell_in_memory;
-use crate::told::{Told, tell_wanted};
+use crate::run_report::{RunReport, report_wanted};
+use crate::stop::TrialStop;
+use crate::stores::report_in_memory;
 use std::alloc::{AllocError, Global};
 use std::fmt::Write;
 use thes_store::fail_once::Next;
 
-// How many calls the file passes on in the first run that isn't kept by a failure, and what became of its store.
-fn last_fate<T: Trial>(alloc: Global, trial: &T, failing: Failing) -> Result<(u64, Fate), Stop> {
+// Repeats the run with 0, 1, 2, .. calls until it doesn't end in `Kept`, and returns the number of calls and the
+// outcome.
+fn last_outcome<T: Trial>(
+    alloc: Global,
+    trial: &T,
+    failing: Failing,
+) -> Result<(u64, StoreOutcome), TrialStop> {
     for calls in 0..u64::MAX {
-        match trial.fate(alloc, failing, calls)? {
-            Fate::Kept => {}
-            fate => return Ok((calls, fate)),
+        match trial.outcome(alloc, failing, calls)? {
+            StoreOutcome::Kept => {}
+            outcome => return Ok((calls, outcome)),
         }
     }
-    Ok((u64::MAX, Fate::Wrong))
+    Ok((u64::MAX, StoreOutcome::Wrong))
 }
 
-// Tries each number of calls to each file.
+// Runs a trial for the log and for the database file.
 fn try_files<T: Trial>(
     alloc: Global,
     name: &str,
     trial: &T,
     page: &mut String,
-) -> Result<(), Stop> {
+) -> Result<(), TrialStop> {
     for failing in [Failing::Log, Failing::Database] {
-        let last = last_fate(alloc, trial, failing)?;
-        tell_last(page, name, failing.name(), last)?;
+        let last = last_outcome(alloc, trial, failing)?;
+        // Appends a line with the outcome of a trial.
+        write_last(page, name, failing.name(), last)?;
     }
     Ok(())
 }
 
-fn tell_last(
+fn write_last(
     page: &mut String,
     name: &str,
     file: &str,
-    last: (u64, Fate),
+    last: (u64, StoreOutcome),
 ) -> Result<(), AllocError> {
     match last {
-        (0..10, Fate::Whole) => writeln!(page, "{name}, {file}: too few calls failed"),
-        (_, Fate::Whole) => writeln!(page, "{name}, {file}: nothing answered was lost"),
+        (0..10, StoreOutcome::Whole) => writeln!(page, "{name}, {file}: too few calls failed"),
+        (_, StoreOutcome::Whole) => writeln!(page, "{name}, {file}: nothing answered was lost"),
         (calls, _) => writeln!(page, "{name}, {file}: wrong after {calls} calls"),
     }
 }
 
+// Returns the name of a call.
 fn name_of(call: Next) -> &'static str {
     match call {
         Next::Nothing => "nothing",
@@ -61,7 +68,7 @@ fn name_of(call: Next) -> &'static str {
     }
 }
 
-// Adds a word to a list, if it isn't there.
+// Appends a word to a list, unless the list has it.
 fn push_new(words: &mut String, word: &str) -> Result<(), AllocError> {
     if words.as_str().split(' ').all(|other| other != word) {
         words.push(' ')?;
@@ -70,48 +77,49 @@ fn push_new(words: &mut String, word: &str) -> Result<(), AllocError> {
     Ok(())
 }
 
-// Adds the calls of a keeper that failed in turn, so often each. Returns what became of the store of the first run that
-// isn't kept.
+// Lets `times` calls fail after each number of calls until the outcome isn't `Kept`, and collects the calls that failed
+// first. Returns the last outcome.
 fn add_calls(
     alloc: Global,
-    stored: &Stored,
+    stored: &StoredExample,
     times: u32,
-    shown: &str,
+    listing: &str,
     words: &mut String,
-) -> Result<Fate, Stop> {
+) -> Result<StoreOutcome, TrialStop> {
     for before in 0..u32::MAX {
-        match fate_of_calls(alloc, stored, before, times, shown)? {
-            (Fate::Kept, first) => push_new(words, name_of(first))?,
-            (fate, _) => return Ok(fate),
+        match outcome_of_calls(alloc, stored, before, times, listing)? {
+            (StoreOutcome::Kept, first) => push_new(words, name_of(first))?,
+            (outcome, _) => return Ok(outcome),
         }
     }
-    Ok(Fate::Wrong)
+    Ok(StoreOutcome::Wrong)
 }
 
-// Tries each call of a keeper in memory, failing so many times.
+// Lets each call to storage in memory fail, `times` times.
 fn try_calls(
     alloc: Global,
     name: &str,
-    stored: &Stored,
+    stored: &StoredExample,
     times: u32,
-    shown: &str,
+    listing: &str,
     page: &mut String,
-) -> Result<(), Stop> {
+) -> Result<(), TrialStop> {
     let mut words = String::new(alloc);
-    let fate = add_calls(alloc, stored, times, shown, &mut words)?;
-    tell_calls(page, name, times, fate, words.as_str())
+    let outcome = add_calls(alloc, stored, times, listing, &mut words)?;
+    // Appends a line with the calls that failed and the outcome.
+    write_calls(page, name, times, outcome, words.as_str())
 }
 
-fn tell_calls(
+fn write_calls(
     page: &mut String,
     name: &str,
     times: u32,
-    fate: Fate,
+    outcome: StoreOutcome,
     calls: &str,
-) -> Result<(), Stop> {
+) -> Result<(), TrialStop> {
     let often = if times == 1 { "once" } else { "twice" };
-    match fate {
-        Fate::Whole => writeln!(page, "{name}, failed {often}, and then went on:{calls}")?,
+    match outcome {
+        StoreOutcome::Whole => writeln!(page, "{name}, failed {often}, and then went on:{calls}")?,
         _ => writeln!(
             page,
             "{name}, wrong where a call fails {often}, behind:{calls}"
@@ -120,69 +128,78 @@ fn tell_calls(
     Ok(())
 }
 
-// Tries an example over a keeper of which calls fail.
+// Runs an example over storage of which one call fails, or two.
 fn try_keepers(
     alloc: Global,
     name: &str,
-    stored: &Stored,
-    shown: &str,
+    stored: &StoredExample,
+    listing: &str,
     page: &mut String,
-) -> Result<(), Stop> {
+) -> Result<(), TrialStop> {
     for times in [1, 2] {
-        try_calls(alloc, name, stored, times, shown, page)?;
+        try_calls(alloc, name, stored, times, listing, page)?;
     }
     Ok(())
 }
 
-// Tells whether an example was answered as is stored.
-fn is_as_stored(told: &Told, stored: &Stored) -> bool {
-    told.answers == stored.answers && told.rows.as_str() == stored.outcomes && !told.failed
+// Returns whether all answers are as stored.
+fn is_as_stored(run_report: &RunReport, stored: &StoredExample) -> bool {
+    run_report.answers == stored.answers
+        && run_report.rows.as_str() == stored.outcomes
+        && !run_report.failed
 }
 
-fn tell_answered(page: &mut String, name: &str, is_as_stored: bool) -> Result<(), Stop> {
+// Appends a line with whether all answers are as stored.
+fn write_answered(page: &mut String, name: &str, is_as_stored: bool) -> Result<(), TrialStop> {
     Ok(writeln!(
         page,
         "{name}, in memory, is answered as stored: {is_as_stored}"
     )?)
 }
 
-// Tries an example in a database in memory.
+// Runs an example in a database in memory.
 fn try_in_memory(
     alloc: Global,
     name: &str,
-    stored: &Stored,
+    stored: &StoredExample,
     page: &mut String,
-) -> Result<(), Stop> {
-    let mut told = Told::new(alloc);
-    tell_in_memory(alloc, stored.example(), &mut told)?;
-    tell_answered(page, name, is_as_stored(&told, stored))
+) -> Result<(), TrialStop> {
+    let mut run_report = RunReport::new(alloc);
+    report_in_memory(alloc, stored.example(), &mut run_report)?;
+    write_answered(page, name, is_as_stored(&run_report, stored))
 }
 
-// Tries an example over stores that don't stand in files.
-fn try_memory(alloc: Global, name: &str, stored: &Stored, page: &mut String) -> Result<(), Stop> {
+// Runs an example over storage that isn't in files.
+fn try_memory(
+    alloc: Global,
+    name: &str,
+    stored: &StoredExample,
+    page: &mut String,
+) -> Result<(), TrialStop> {
     try_in_memory(alloc, name, stored, page)?;
-    let mut wanted = Told::new(alloc);
-    tell_wanted(alloc, stored.example(), &mut wanted)?;
-    try_keepers(alloc, name, stored, wanted.shown.text.as_str(), page)
+    let mut wanted = RunReport::new(alloc);
+    report_wanted(alloc, stored.example(), &mut wanted)?;
+    try_keepers(alloc, name, stored, wanted.listing.text.as_str(), page)
 }
 
-// Tries requests over files.
+// Runs the requests of an example in files.
 fn try_requests(
     alloc: Global,
     name: &str,
     example: Example,
     page: &mut String,
-) -> Result<(), Stop> {
+) -> Result<(), TrialStop> {
     let requests = Requests::new(alloc, example)?;
     try_files(alloc, name, &requests, page)
 }
 
+// Runs a migration in files, after a check that the store is of version 1.
 fn try_older(
     alloc: Global,
     name: &str,
     migration: &Migration,
     page: &mut String,
-) -> Result<(), Stop> {
+) -> Result<(), TrialStop> {
     let is_older = migration.is_older(alloc)?;
     writeln!(
         page,
@@ -191,24 +208,25 @@ fn try_older(
     try_files(alloc, name, migration, page)
 }
 
-// Tries the migration of a store of version 1 that an example makes.
+// Runs the migration of a store of version 1 that an example makes.
 fn try_migration(
     alloc: Global,
     name: &str,
     example: Example,
     page: &mut String,
-) -> Result<(), Stop> {
+) -> Result<(), TrialStop> {
     let migration = Migration::new(alloc, example)?;
     try_older(alloc, name, &migration, page)
 }
 
+// Runs an example in memory, and then in files.
 fn try_stored(
     alloc: Global,
     name: &str,
-    stored: &Stored,
+    stored: &StoredExample,
     migrates: bool,
     page: &mut String,
-) -> Result<(), Stop> {
+) -> Result<(), TrialStop> {
     try_memory(alloc, name, stored, page)?;
     if migrates {
         try_migration(alloc, name, stored.example(), page)
@@ -217,12 +235,12 @@ fn try_stored(
     }
 }
 
-/// Tries the example of a file, and adds what is told of it.
-pub fn try_file(alloc: Global, name: &str, text: &str, page: &mut String) -> Result<(), Stop> {
+/// Runs the example of a file, and appends its results to the page.
+pub fn try_file(alloc: Global, name: &str, text: &str, page: &mut String) -> Result<(), TrialStop> {
     let (text, migrates) = match text.split_once("% migrate\n") {
         Some((requests, _)) => (requests, true),
         None => (text, false),
     };
-    let stored = Stored::read(alloc, text)?;
+    let stored = StoredExample::read(alloc, text)?;
     try_stored(alloc, name, &stored, migrates, page)
 }

@@ -1,59 +1,60 @@
-//! How a file stores an example.
+//! Reads examples from files.
 use crate::connections::BEHIND;
-use crate::run::Run;
+use crate::run::ExampleRun;
 use crate::{connections, import, script, texts};
 use std::alloc::{AllocError, Global};
 use test_office::Store;
 
-/// A way of work: something that is asked of a store.
+/// What the steps of an example are.
 #[derive(Clone, Copy, Debug, PartialEq, Eq)]
-pub enum Way {
+pub enum ExampleKind {
     Script,
     Import,
     Texts,
     Connections,
 }
 
-/// Requests that make a store, and what is asked of it then, in some steps.
+/// An example: requests that fill a store, and steps to run in it.
 #[derive(Clone, Copy, Drop)]
 pub struct Example<'a> {
     pub requests: &'a str,
-    pub way: Way,
+    pub kind: ExampleKind,
     pub steps: &'a str,
 }
 
 impl<'a> Example<'a> {
-    /// Reads an example: its requests, a line `@` with the name of the way, and its steps. None if there is no such way.
+    /// Reads an example: its requests, a line `@` with the name of the kind, and its steps. Returns
+    /// `None` for an unknown name.
     pub fn read(text: &'a str) -> Option<Example<'a>> {
         let (requests, rest) = text.split_once("@ ")?;
         let (name, steps) = rest.split_once('\n')?;
-        let way = match name {
-            "script" => Way::Script,
-            "import" => Way::Import,
-            "texts" => Way::Texts,
-            "connections" => Way::Connections,
+        let kind = match name {
+            "script" => ExampleKind::Script,
+            "import" => ExampleKind::Import,
+            "texts" => ExampleKind::Texts,
+            "connections" => ExampleKind::Connections,
             _ => return None,
         };
         Some(Example {
             requests,
-            way,
+            kind,
             steps,
         })
     }
 
-    /// Lets a store perform some of the steps.
-    pub fn run(&self, alloc: Global, store: &mut Store, steps: &str) -> Run {
-        match self.way {
-            Way::Script => script::run(alloc, store, steps),
-            Way::Import => import::run(alloc, store, steps),
-            Way::Texts => texts::run(alloc, store, steps),
-            Way::Connections => connections::run(alloc, store, steps),
+    /// Runs some of the steps in a store.
+    pub fn run(&self, alloc: Global, store: &mut Store, steps: &str) -> ExampleRun {
+        match self.kind {
+            ExampleKind::Script => script::run(alloc, store, steps),
+            ExampleKind::Import => import::run(alloc, store, steps),
+            ExampleKind::Texts => texts::run(alloc, store, steps),
+            ExampleKind::Connections => connections::run(alloc, store, steps),
         }
     }
 
-    /// Lists the steps that were performed.
-    pub fn performed(&self, alloc: Global, run: &Run) -> Result<String, AllocError> {
-        let end = if self.way == Way::Connections {
+    /// Returns the text of the steps that were performed.
+    pub fn performed(&self, alloc: Global, run: &ExampleRun) -> Result<String, AllocError> {
+        let end = if self.kind == ExampleKind::Connections {
             BEHIND
         } else {
             "\n"

@@ -1,33 +1,33 @@
-//! Posting files. Their steps are their lines, of which the first is answered by a heading.
-use crate::page::Page;
-use crate::run::{End, Run};
+//! Examples of posting files: the steps are lines, of which the first is answered with a heading.
+use crate::page::FixedPage;
+use crate::run::{End, ExampleRun};
 use std::alloc::Global;
 use std::io::{Read, Write};
 use test_office::Store;
 use test_office::ways::import_in;
 use thes_base::fault::PipeFault;
 
-/// Imports a posting file into a store. The rows before a fault were performed.
-pub fn run(alloc: Global, store: &mut Store, input: &str) -> Run {
-    let (page, ended) = import_file(alloc, store, input.as_bytes(), Page::new());
-    let mut run = Run::new();
+/// Imports a posting file into a store; the rows before a fault are performed.
+pub fn run(alloc: Global, store: &mut Store, input: &str) -> ExampleRun {
+    let (page, ended) = import_file(alloc, store, input.as_bytes(), FixedPage::new());
+    let mut run = ExampleRun::new();
     for (step, outcome) in page.as_str().split_inclusive('\n').enumerate() {
         run.note(step, End::Done, outcome);
     }
     if ended.is_err() {
-        run.note(0, End::of(ended), "");
+        run.note(0, End::from_result(ended), "");
     }
     run
 }
 
-/// Imports a posting file over these devices. Returns the writer, and whether the import was stopped.
+/// Imports a posting file over these devices, and returns the writer and how the import ended.
 pub fn import_file<R: Read + Drop, W: Write>(
     alloc: Global,
     store: &mut Store,
     input: R,
     output: W,
 ) -> (W, Result<(), PipeFault>) {
-    let (output, ended) = import_in(alloc, &mut store.desk, input, output);
+    let (output, ended) = import_in(alloc, &mut store.handler, input, output);
     match ended {
         Ok(_) => (output, Ok(())),
         Err(stopped) => (output, Err(stopped.fault)),

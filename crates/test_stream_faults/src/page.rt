@@ -1,33 +1,33 @@
-//! A page to write to, which takes no memory of its own.
+//! A page to write to that allocates nothing.
 ghost use Rattle.std.specs.Prelude.{◌≤◌};
 
 use std::io::Write;
 use std::{io, str};
 
-/// So many bytes, and how many of them are written.
+/// A buffer of 4,096 bytes, and the number of bytes written.
 #[derive(Drop)]
-pub struct Page {
+pub struct FixedPage {
     bytes: [u8; 4096],
     filled: usize,
     ghost within: { filled ≤ 4096 },
 }
 
-impl Page {
-    /// Makes an empty page.
-    pub fn new() -> Page {
-        Page {
+impl FixedPage {
+    /// Returns an empty page.
+    pub fn new() -> FixedPage {
+        FixedPage {
             bytes: [0; 4096],
             filled: 0,
         }
     }
 
-    /// Returns what is written. Nothing if it is no text.
+    /// Returns the text written, or an empty text if it isn't UTF-8.
     pub fn as_str(&self) -> &str {
         str::from_utf8(&self.bytes[..self.filled]).unwrap_or("")
     }
 }
 
-impl Write for Page {
+impl Write for FixedPage {
     fn write(&mut self, bytes: &[u8]) -> io::Result<usize> {
         let count = bytes.len().min(self.bytes.len() - self.filled);
         let end = self.filled + count;

@@ -1,25 +1,25 @@
-//! What became of a run of an example.
-use crate::page::Page;
+//! The results of a run of an example.
+use crate::page::FixedPage;
 use std::io::Write;
 use thes_base::fault::{Fault, PipeFault};
 
-// The most steps of an example.
+// The greatest number of steps of an example.
 const MOST: usize = 32;
 
-/// The end of a run, or of a step of one.
+/// How a run or a step ended.
 #[derive(Clone, Copy, Debug, PartialEq, Eq)]
 pub enum End {
-    /// All was performed.
+    /// Everything was performed.
     Done,
-    /// Some was answered by the fault, once.
+    /// One step was answered with the fault `OutOfMemory`.
     OutOfMemory,
-    /// It ended in a way that is not allowed.
+    /// It ended in a way that isn't allowed.
     Wrong,
 }
 
 impl End {
-    /// Maps what was performed, or stopped by a fault, to its end.
-    pub fn of(ended: Result<(), PipeFault>) -> End {
+    /// Returns the end for a step that was performed, or stopped by a fault.
+    pub fn from_result(ended: Result<(), PipeFault>) -> End {
         match ended {
             Ok(()) => End::Done,
             Err(PipeFault::Fault(Fault::OutOfMemory)) => End::OutOfMemory,
@@ -28,27 +28,27 @@ impl End {
     }
 }
 
-/// The answers to the steps of an example. All of it is kept in place, since memory may be refused.
+/// The answers to the steps of an example, held in place, since allocations may fail.
 #[derive(Drop)]
-pub struct Run {
-    /// The answers of the steps that were performed.
-    pub page: Page,
-    /// Which steps were performed.
+pub struct ExampleRun {
+    /// The answers to the steps that were performed.
+    pub page: FixedPage,
+    /// Whether each step was performed.
     pub performed: [bool; 32],
     pub end: End,
 }
 
-impl Run {
-    /// Makes a run of no step.
-    pub fn new() -> Run {
-        Run {
-            page: Page::new(),
+impl ExampleRun {
+    /// Returns a run without steps.
+    pub fn new() -> ExampleRun {
+        ExampleRun {
+            page: FixedPage::new(),
             performed: [false; 32],
             end: End::Done,
         }
     }
 
-    /// Notes how a step ended, and what it was answered with. A step that was answered by the fault changed nothing.
+    /// Records how a step ended, and its answer. A step answered with the fault changed nothing.
     pub fn note(&mut self, step: usize, end: End, answer: &str) {
         if end == End::Done && step < MOST && self.page.write_all(answer.as_bytes()).is_ok() {
             self.performed[step] = true;

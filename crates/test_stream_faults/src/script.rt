@@ -1,28 +1,28 @@
-//! Scripts. Their steps are their lines, of which none may be blank.
-use crate::page::Page;
-use crate::run::{End, Run};
+//! Examples of scripts: the steps are lines, none of them blank.
+use crate::page::FixedPage;
+use crate::run::{End, ExampleRun};
 use std::alloc::Global;
 use test_office::Store;
 use thes_base::fault::Fault;
 use thes_exchange::script::Ended;
 
-/// The answer of a line that ran out of memory.
+/// The answer to a line that ran out of memory.
 pub const FAULT: &str = "{\"fault\":\"OutOfMemory\"}\n";
 
-/// Serves a script in a store.
-pub fn run(alloc: Global, store: &mut Store, input: &str) -> Run {
-    let (page, ended) = store.serve(alloc, input.as_bytes(), Page::new());
-    let mut run = Run::new();
+/// Runs a script in a store.
+pub fn run(alloc: Global, store: &mut Store, input: &str) -> ExampleRun {
+    let (page, ended) = store.serve(alloc, input.as_bytes(), FixedPage::new());
+    let mut run = ExampleRun::new();
     match ended {
         Ok(ended) => note_lines(&mut run, input, page.as_str(), ended),
-        // Nothing is answered where memory ran out before the first line.
-        Err(fault) => run.note(0, End::of(Err(fault)), page.as_str()),
+        // If memory ran out before the first line, there are no answers.
+        Err(fault) => run.note(0, End::from_result(Err(fault)), page.as_str()),
     }
     run
 }
 
-// Notes the answers of a script that ended so.
-fn note_lines(run: &mut Run, input: &str, answers: &str, ended: Ended) {
+// Records the answers of a script, and checks how it ended.
+fn note_lines(run: &mut ExampleRun, input: &str, answers: &str, ended: Ended) {
     for (step, answer) in answers.split_inclusive('\n').enumerate() {
         let end = if answer == FAULT {
             End::OutOfMemory

@@ -1,6 +1,7 @@
-//! Exports and displays. The steps are lines: `export`, or a display, its scheme and its language.
-use crate::page::Page;
-use crate::run::{End, Run};
+//! Examples of exports and displays: the steps are lines: `export`, or a display, its scheme and
+//! its language.
+use crate::page::FixedPage;
+use crate::run::{End, ExampleRun};
 use std::alloc::Global;
 use std::io::Write;
 use test_office::Store;
@@ -10,17 +11,17 @@ use thes_base::number::ResNo;
 use thes_base::text::Tag;
 use thes_http::service::Display;
 
-/// Writes texts of a store. Nothing is written of one that runs out of memory.
-pub fn run(alloc: Global, store: &mut Store, input: &str) -> Run {
-    let mut run = Run::new();
+/// Writes texts of a store; a text that runs out of memory is not written at all.
+pub fn run(alloc: Global, store: &mut Store, input: &str) -> ExampleRun {
+    let mut run = ExampleRun::new();
     for (step, words) in input.lines().enumerate() {
-        let (page, ended) = write_text(alloc, store, words, Page::new());
-        run.note(step, End::of(ended), page.as_str());
+        let (page, ended) = write_text(alloc, store, words, FixedPage::new());
+        run.note(step, End::from_result(ended), page.as_str());
     }
     run
 }
 
-/// Writes a text to a device. Returns it, and whether the text was written.
+/// Writes a text to a device, and returns the device and how the writing ended.
 pub fn write_text<W: Write>(
     alloc: Global,
     store: &mut Store,
@@ -31,11 +32,11 @@ pub fn write_text<W: Write>(
     match kind {
         "alphabetical" => write_display(alloc, store, Display::Alphabetical, words, output),
         "hierarchical" => write_display(alloc, store, Display::Hierarchical, words, output),
-        _ => export_in(alloc, &mut store.desk, output),
+        _ => export_in(alloc, &mut store.handler, output),
     }
 }
 
-// Writes the display of the scheme and in the language that are named. Nothing is written where there are none such.
+// Writes the display of the named scheme in the named language, or nothing if there is none.
 fn write_display<W: Write>(
     alloc: Global,
     store: &mut Store,
@@ -46,8 +47,8 @@ fn write_display<W: Write>(
     let (scheme, language) = words.split_once(' ').unwrap_or((words, ""));
     match (ResNo::read(scheme), Tag::read(alloc, language)) {
         (Ok(scheme), Ok(tag)) => {
-            let desk = &mut store.desk;
-            let (output, shown) = display_in(alloc, desk, display, scheme, &tag, output);
+            let handler = &mut store.handler;
+            let (output, shown) = display_in(alloc, handler, display, scheme, &tag, output);
             (output, shown.map(|_| ()))
         }
         (_, Err(ReadStop::OutOfMemory)) => (output, Err(PipeFault::Fault(Fault::OutOfMemory))),

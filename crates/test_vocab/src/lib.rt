@@ -2,6 +2,6 @@
 #![tactic(auto)]
 
 #[cfg(test)]
-mod desk;
+mod fixture;
 #[cfg(test)]
 mod tests;

@@ -1,6 +1,6 @@
-//! The worked examples on resources and labels, each a table of steps: what is asked of a desk, and what it answers. The tables
-//! stand apart from the functions that read them, since a proof that sees a table computes with it.
-use crate::desk::{Answer, Change, Desk, no};
+//! The worked examples on resources and labels, each a table of steps: a call and its answer, or a
+//! fact. The tables have items of their own, because a proof that sees a table computes with it.
+use crate::fixture::{Answer, Change, Fixture, no};
 use Answer::{Done, Gained, No, Number};
 use Call::{
     Collection, Concept, Deprecate, LabelChange, Outside, Relabel, Replace, Scheme, TakeLabels,
@@ -19,7 +19,7 @@ use thes_base::data::{Label, LabelKind, Resource, ResourceKind};
 use thes_base::fault::{ReadStop, Refusal};
 use thes_base::number::ResNo;
 
-// A call that changes a desk.
+// A call that changes the vocabulary.
 #[derive(Clone, Copy)]
 enum Call {
     Scheme(&'static str),
@@ -27,19 +27,19 @@ enum Call {
     Collection(u32, &'static str),
     Outside(&'static str),
     LabelChange(Change, u32, LabelKind, &'static str, &'static str),
-    // Another preferred label, and whether the old one is kept.
+    // The new preferred label, and whether the old one stays as an alternative label.
     Relabel(u32, &'static str, &'static str, bool),
     TakeLabels(u32, u32),
     Deprecate(u32),
     Replace(u32, u32),
 }
 
-// What a desk shows.
+// A fact about the vocabulary.
 #[derive(Clone, Copy)]
 enum Fact {
     Counts(u64, u64),
     NoResource(u32),
-    // A dead concept: its number, its scheme, and what replaces it.
+    // A concept that was replaced: its number, its scheme and its replacement.
     Dead(u32, u32, u32),
     IsLive(u32, bool),
     LiveOf(u32, &'static [u32]),
@@ -51,38 +51,38 @@ enum Fact {
     IriOf(u32, Option<&'static str>),
 }
 
-// A call and its answer, or what is to be seen then.
+// A call with its expected answer, or an expected fact.
 #[derive(Clone, Copy)]
 enum Step {
     Do(Call, Answer),
     See(Fact),
 }
 
-fn answer(desk: &mut Desk, call: Call) -> Result<Answer, ReadStop> {
+fn answer(fixture: &mut Fixture, call: Call) -> Result<Answer, ReadStop> {
     match call {
-        Scheme(text) => desk.scheme(text),
-        Concept(scheme, text) => desk.concept(scheme, text),
-        Collection(scheme, text) => desk.collection(scheme, text),
-        Outside(iri) => desk.outside(iri),
+        Scheme(text) => fixture.scheme(text),
+        Concept(scheme, text) => fixture.concept(scheme, text),
+        Collection(scheme, text) => fixture.collection(scheme, text),
+        Outside(iri) => fixture.outside(iri),
         LabelChange(change, owner, kind, tag, text) => {
-            desk.change_label(change, owner, kind, tag, text)
+            fixture.change_label(change, owner, kind, tag, text)
         }
-        Relabel(owner, tag, text, keep) => desk.relabel(owner, tag, text, keep),
-        TakeLabels(source, target) => Ok(desk.take_labels(source, target)?),
-        Deprecate(n) => Ok(desk.deprecate(n)),
-        Replace(source, target) => Ok(desk.replace(source, target)),
+        Relabel(owner, tag, text, keep) => fixture.relabel(owner, tag, text, keep),
+        TakeLabels(source, target) => Ok(fixture.take_labels(source, target)?),
+        Deprecate(n) => Ok(fixture.deprecate(n)),
+        Replace(source, target) => Ok(fixture.replace(source, target)),
     }
 }
 
-// Whether these are the labels, in their order.
-fn are(labels: &[Label], wanted: &[(LabelKind, &str, &str)]) -> bool {
+// Checks that the labels equal the wanted ones, in order.
+fn are_labels(labels: &[Label], wanted: &[(LabelKind, &str, &str)]) -> bool {
     labels.len() == wanted.len()
         && labels.iter().zip(wanted.iter()).all(|(l, (kind, tag, text))| {
             l.kind() == *kind && l.tag.as_str() == *tag && l.text() == *text
         })
 }
 
-// Whether these are the numbers, in their order.
+// Checks that the numbers equal the wanted ones, in order.
 fn are_numbers(found: &[ResNo], wanted: &[u32]) -> bool {
     found.len() == wanted.len() && found.iter().zip(wanted.iter()).all(|(n, m)| n.get() == *m)
 }
@@ -95,7 +95,7 @@ fn is_number(found: Option<ResNo>, wanted: Option<u32>) -> bool {
     }
 }
 
-fn dead(scheme: u32, target: u32) -> Resource {
+fn dead_concept(scheme: u32, target: u32) -> Resource {
     Resource {
         kind: ResourceKind::Concept,
         scheme: Some(no(scheme)),
@@ -104,34 +104,34 @@ fn dead(scheme: u32, target: u32) -> Resource {
     }
 }
 
-fn holds(desk: &Desk, fact: Fact) -> Result<bool, ReadStop> {
+fn holds(fixture: &Fixture, fact: Fact) -> Result<bool, ReadStop> {
     Ok(match fact {
-        Counts(resources, labels) => desk.counts() == (resources, labels),
-        NoResource(n) => desk.resource(n).is_none(),
-        Dead(n, scheme, target) => desk.resource(n) == Some(dead(scheme, target)),
-        IsLive(n, live) => desk.is_live(n) == live,
-        LiveOf(scheme, numbers) => are_numbers(desk.live_of(scheme), numbers),
-        Labels(owner, labels) => are(desk.labels_of(owner), labels),
-        TakenCount(source, target, count) => desk.taken_count(source, target) == count,
-        Preferred(owner, tag, text) => desk.preferred(owner, tag)? == text,
-        Holder(scheme, tag, text, n) => is_number(desk.holder(scheme, tag, text)?, n),
-        NumberOf(iri, n) => is_number(desk.number_of(iri)?, n),
-        IriOf(n, iri) => desk.iri_of(n) == iri,
+        Counts(resources, labels) => fixture.counts() == (resources, labels),
+        NoResource(n) => fixture.resource(n).is_none(),
+        Dead(n, scheme, target) => fixture.resource(n) == Some(dead_concept(scheme, target)),
+        IsLive(n, live) => fixture.is_live(n) == live,
+        LiveOf(scheme, numbers) => are_numbers(fixture.live_of(scheme), numbers),
+        Labels(owner, labels) => are_labels(fixture.labels_of(owner), labels),
+        TakenCount(source, target, count) => fixture.taken_count(source, target) == count,
+        Preferred(owner, tag, text) => fixture.preferred(owner, tag)? == text,
+        Holder(scheme, tag, text, n) => is_number(fixture.holder(scheme, tag, text)?, n),
+        NumberOf(iri, n) => is_number(fixture.number_of(iri)?, n),
+        IriOf(n, iri) => fixture.iri_of(n) == iri,
     })
 }
 
-// Takes each step of a table.
-fn take(rt: &impl Abort, desk: &mut Desk, steps: &[Step]) -> Result<(), Fail> {
+// Runs the steps of a table.
+fn take(rt: &impl Abort, fixture: &mut Fixture, steps: &[Step]) -> Result<(), Fail> {
     for (i, step) in steps.iter().enumerate() {
         match *step {
-            Do(call, wanted) => assert_eq!(rt; answer(desk, call)?, wanted, "at step {i}"),
-            See(fact) => assert!(rt; holds(desk, fact)?, "at step {i}"),
+            Do(call, wanted) => assert_eq!(rt; answer(fixture, call)?, wanted, "at step {i}"),
+            See(fact) => assert!(rt; holds(fixture, fact)?, "at step {i}"),
         }
     }
     Ok(())
 }
 
-// Scheme 1, Animals, with the concepts 2, Cats, 3, Mammals, and 4, Pets.
+// Scheme 1 (Animals) with the concepts 2 (Cats), 3 (Mammals) and 4 (Pets).
 static START: [Step; 4] = [
     Do(Scheme("Animals"), Number(1)),
     Do(Concept(1, "Cats"), Number(2)),
@@ -139,11 +139,11 @@ static START: [Step; 4] = [
     Do(Concept(1, "Pets"), Number(4)),
 ];
 
-// Takes the steps of a table behind those of the start.
+// Runs the steps of a table after those of the start.
 fn expect(rt: &impl Abort, alloc: Global, steps: &[Step]) -> Result<(), Fail> {
-    let mut desk = Desk::new(alloc)?;
+    let mut fixture = Fixture::new(alloc)?;
     for table in [&START, steps] {
-        take(rt, &mut desk, table)?;
+        take(rt, &mut fixture, table)?;
     }
     Ok(())
 }
@@ -152,7 +152,7 @@ static NOTHING: [Step; 2] = [See(Counts(0, 0)), See(NoResource(1))];
 
 #[test]
 fn nothing_at_first(rt: HostRuntime) -> Result<(), Fail> {
-    take(&rt, &mut Desk::new(rt.alloc())?, &NOTHING)
+    take(&rt, &mut Fixture::new(rt.alloc())?, &NOTHING)
 }
 
 static NUMBERED: [Step; 3] = [
@@ -272,7 +272,7 @@ fn holders_of_replaced_labels(rt: HostRuntime) -> Result<(), Fail> {
     expect(&rt, rt.alloc(), &HELD)
 }
 
-// A merge, as far as labels and resources go.
+// The effect of a merge on labels and resources.
 static MERGED: [Step; 5] = [
     See(TakenCount(2, 3, 1)),
     Do(TakeLabels(2, 3), Gained(1)),
@@ -302,7 +302,7 @@ static MERGED_NAMES: [Step; 5] = [
 ];
 
 #[test]
-fn merged_names_stand_once(rt: HostRuntime) -> Result<(), Fail> {
+fn merged_names_are_unique(rt: HostRuntime) -> Result<(), Fail> {
     expect(&rt, rt.alloc(), &MERGED_NAMES)
 }
 

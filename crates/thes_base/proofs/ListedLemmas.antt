@@ -1,5 +1,6 @@
 -- A split moves as many postings as it lists.
-use Rattle.std.proofs.Common.{◌≡◌, ◌<◌, ◌≤◌, ℕ, suc, ◌+◌, length, List, [], ◌∷◌, refl, sym, ap, ◌∙◌, inl, inr, arith, Bool, true, false, cond, ◌||◌, eqb, eqb-true, ne_eqb}
+use Rattle.std.proofs.Common.{◌≡◌, ◌<◌, ◌≤◌, ℕ, suc, ◌+◌, length, List, [], ◌∷◌, refl, sym, ap, ◌∙◌, inl, inr, arith}
+use Rattle.std.proofs.Common.{Bool, true, false, cond, ◌||◌, eqb, eqb-true, ne_eqb}
 use borrow.Author.Tests.{eqb-false}
 use Rattle.std.specs.Prelude.{None, Some, count_by, slice_get}
 use Rattle.std.specs.List.{list_any}
@@ -8,10 +9,10 @@ use Rattle.std.proofs.lemmas.Bool.{cases_Bool}
 use Rattle.thes_base.specs.declared.data.History.{History}
 use Rattle.thes_base.specs.State.{State}
 use Rattle.thes_base.specs.Changes.{is_listed}
-use Rattle.thes_base.specs.Rows.{accepted}
-use Rattle.thes_base.specs.Refusals.{EachOnce, EachListed, IsKnownPosting, unless_listed}
+use Rattle.thes_base.specs.RefusalRules.{accepted}
+use Rattle.thes_base.specs.Refusals.{EachOnce, EachListed, IsKnownPosting, unless_split_postings}
 use Rattle.thes_base.specs.Legal.{Legal}
-use Rattle.thes_base.proofs.RowLemmas.{passed_unless}
+use Rattle.thes_base.proofs.RefusalRuleLemmas.{passed_unless}
 use Rattle.thes_base.proofs.NumberedLemmas.{numbered_bound}
 
 either_one : (p q : Bool) → (p ≡ true → q ≡ false) → cond (p || q) 1 0 ≡ cond p 1 0 + cond q 1 0
@@ -20,8 +21,9 @@ either_one true false apart = refl
 either_one false true apart = refl
 either_one false false apart = refl
 
--- where no history passes both tests, those that pass either are as many as both together
-count_either : (p q : History → Bool) → ((h : History) → p h ≡ true → q h ≡ false) → (hs : List History) → count_by (λ h. p h || q h) hs ≡ count_by p hs + count_by q hs
+-- If no history passes both tests, those that pass either are as many as those of both together.
+count_either : (p q : History → Bool) → ((h : History) → p h ≡ true → q h ≡ false) → (hs : List History)
+    → count_by (λ h. p h || q h) hs ≡ count_by p hs + count_by q hs
 count_either p q apart [] = refl
 count_either p q apart (h ∷ hs) =
     let a = sum_by-cons (λ x. cond (p x || q x) 1 0) h hs in
@@ -33,29 +35,33 @@ count_either p q apart (h ∷ hs) =
 
 count_nothing : (hs : List History) → count_by (λ h. false) hs ≡ 0
 count_nothing [] = refl
-count_nothing (h ∷ hs) = let a = sum_by-cons (λ (x : History). 0) h hs in let ih = count_nothing hs in omega (arith, a, ih)
+count_nothing (h ∷ hs) = let a = sum_by-cons (λ (x : History). 0) h hs in let ih = count_nothing hs in
+    omega (arith, a, ih)
 
--- the histories are numbered onward from this number
+-- The histories have consecutive numbers from the first on.
 abbrev pub NumberedFrom : ℕ → List History → Type 0
 NumberedFrom first [] = Unit {0}
 NumberedFrom first (h ∷ hs) = (h.number ≡ first) × NumberedFrom (first + 1) hs
 
-pub numbered_from : (first : ℕ) (hs : List History) → ((i : ℕ) (h : History) → slice_get hs i ≡ Some h → h.number ≡ first + i) → NumberedFrom first hs
+pub numbered_from : (first : ℕ) (hs : List History) → ((i : ℕ) (h : History) → slice_get hs i ≡ Some h → h.number
+    ≡ first + i) → NumberedFrom first hs
 numbered_from first [] each = tt
 numbered_from first (h ∷ hs) each = (
   (let e = each 0 h refl in omega (arith, e)),
   numbered_from (first + 1) hs (λ i g at. let e = each (suc i) g at in omega (arith, e)),
 )
 
--- How many have the number n: none, or one.
+-- No history has a number outside the range, and one has each number within.
 module _ (n : ℕ) where
   abbrev has_number : History → Bool
   has_number h = eqb n h.number
 
-  count_hit : (h : History) (hs : List History) → has_number h ≡ true → count_by has_number (h ∷ hs) ≡ 1 + count_by has_number hs
+  count_hit : (h : History) (hs : List History) → has_number h ≡ true → count_by has_number (h ∷ hs) ≡ 1
+      + count_by has_number hs
   count_hit h hs e = sum_by-cons (λ x. cond (has_number x) 1 0) h hs ∙ ap (λ b. cond b 1 0 + count_by has_number hs) e
 
-  count_miss : (h : History) (hs : List History) → has_number h ≡ false → count_by has_number (h ∷ hs) ≡ count_by has_number hs
+  count_miss : (h : History) (hs : List History) → has_number h ≡ false → count_by has_number (h ∷ hs)
+      ≡ count_by has_number hs
   count_miss h hs e =
       let a = sum_by-cons (λ x. cond (has_number x) 1 0) h hs in
       let b = ap {B = ℕ} (λ b. cond b 1 0) e in
@@ -67,7 +73,9 @@ module _ (n : ℕ) where
       let at = from.0 in
       count_miss h hs (ne_eqb n h.number (omega (arith, at))) ∙ count_above (first + 1) hs from.1 (omega arith)
 
-  count_once : (first : ℕ) (hs : List History) → NumberedFrom first hs → first ≤ n → n < first + length hs → count_by has_number hs ≡ 1
+  -- Exactly one history has a number of the range.
+  count_once : (first : ℕ) (hs : List History) → NumberedFrom first hs → first ≤ n → n < first + length hs
+      → count_by has_number hs ≡ 1
   count_once first [] from least most = absurd (omega arith)
   count_once first (h ∷ hs) from least most =
       let at = from.0 in
@@ -82,8 +90,9 @@ module _ (n : ℕ) where
             count_miss h hs miss ∙ count_once (first + 1) hs from.1 (omega (arith, other, at)) (omega arith)
       ]
 
--- different numbers of histories are listed for as many histories
-count_listed : (hs : List History) → NumberedFrom 1 hs → (ns : List ℕ) → EachOnce ns → EachListed (IsKnownPosting hs) ns → count_by (is_listed ns) hs ≡ length ns
+-- Different numbers list as many histories.
+count_listed : (hs : List History) → NumberedFrom 1 hs → (ns : List ℕ) → EachOnce ns → EachListed (IsKnownPosting hs)
+    ns → count_by (is_listed ns) hs ≡ length ns
 count_listed hs from [] once known = count_nothing hs
 count_listed hs from (n ∷ ns) once known =
     let others : (h : History) → has_number n h ≡ true → is_listed ns h ≡ false =
@@ -94,10 +103,13 @@ count_listed hs from (n ∷ ns) once known =
     let ih = count_listed hs from ns once.1 known.1 in
     omega (arith, both, one, ih)
 
--- the listed postings of an accepted split are as many as the list has numbers
-pub listed_count : (base : List ℕ) (s : State) (source : ℕ) (postings : List ℕ) → Legal base s → unless_listed s.histories source postings accepted None → count_by (is_listed postings) s.histories ≡ length postings
+-- An accepted split lists as many postings as numbers.
+pub listed_count : (base : List ℕ) (s : State) (source : ℕ) (postings : List ℕ) → Legal base s
+    → unless_split_postings s.histories source postings accepted None → count_by (is_listed postings) s.histories
+    ≡ length postings
 listed_count base s source postings legal row =
     let once = passed_unless row in
     let known = passed_unless once.1 in
-    let from = numbered_from 1 s.histories (λ i h at. let e = (legal.postings.sound (suc i) h at).number in omega (arith, e)) in
+    let from = numbered_from 1 s.histories (λ i h at. let e = (legal.postings.sound (suc i) h at).number in
+    omega (arith, e)) in
     count_listed s.histories from postings once.0 known.0

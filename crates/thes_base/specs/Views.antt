@@ -1,5 +1,6 @@
--- What requests that look are shown of a state. Nothing is shown twice, and lists are in order.
+-- The views of a state that queries are answered with. Lists are in order, without duplicates.
 use Rattle.std.specs.Prelude.{◌≡◌, ◌⊎◌, ◌-◌, ℕ, List, filter, Bool, ◌&&◌, ◌==◌, length, Option, Some}
+use Rattle.thes_base.specs.Types.{Bytes, Tag, Text, Number}
 use Rattle.std.specs.declared.cmp.Ordering.{Ordering}
 use Rattle.std.specs.Ordering.{nat_cmp, ordering_then}
 use Rattle.std.specs.Cmp.Lexicographic.{slice_cmp}
@@ -9,20 +10,21 @@ use Rattle.thes_base.specs.declared.data.Totals.{Totals}
 use Rattle.thes_base.specs.declared.data.LabelKind.{LabelKind}
 use Rattle.thes_base.specs.declared.data.LabelKind.TheVariants.{Pref, Alt, Hidden, Scope}
 use Rattle.thes_base.specs.declared.data.LinkKind.{LinkKind}
-use Rattle.thes_base.specs.declared.data.LinkKind.TheVariants.{Related, Exact, Close, Broad, Narrow, RelMatch, Member, BroaderGeneric, BroaderPartitive, BroaderInstantial}
+use Rattle.thes_base.specs.declared.data.LinkKind.TheVariants.{Related, Exact, Close, Broad, Narrow, RelMatch, Member}
+use Rattle.thes_base.specs.declared.data.LinkKind.TheVariants.{BroaderGeneric, BroaderPartitive, BroaderInstantial}
 use Rattle.thes_base.specs.declared.data.TypedKind.{TypedKind}
 use Rattle.thes_base.specs.declared.data.TypedKind.TheVariants as typed
 use Rattle.thes_base.specs.Listing.{IsListing}
-use Rattle.thes_base.specs.Resources.{numbered}
+use Rattle.thes_base.specs.Resources.{entry_at}
 use Rattle.thes_base.specs.Labels.{HasLabel}
 use Rattle.thes_base.specs.Links.{Links, HeldIn, IsHierarchical}
-use Rattle.thes_base.specs.Words.{link_word, typed_word}
-use Rattle.thes_base.specs.Postings.{stands_at, standing_count, accepted_count, withdrawn_count}
+use Rattle.thes_base.specs.KindNames.{link_kind_name, typed_kind_name}
+use Rattle.thes_base.specs.Postings.{is_assigned_to, assigned_count, accepted_count, withdrawn_count}
 use Rattle.thes_base.specs.State.{State}
 
 -- Postings.
 
--- how many were accepted, how many of them were withdrawn, and how many stand
+-- The numbers of postings accepted, withdrawn, and not withdrawn.
 abbrev pub totals_of : List History → Totals
 totals_of histories =
     record {
@@ -31,18 +33,19 @@ totals_of histories =
       standing = accepted_count histories - withdrawn_count histories;
     }
 
--- the histories of the postings that stand at the concept, in the order of their numbers
-abbrev pub standing_histories : ℕ → List History → List History
-standing_histories concept histories = filter (stands_at concept) histories
+-- The histories of the postings assigned to the concept, in the order of their numbers.
+abbrev pub assigned_histories : Number → List History → List History
+assigned_histories concept histories = filter (is_assigned_to concept) histories
 
 -- Mappings.
 
-abbrev pub HasLink : Links → LinkKind → ℕ → ℕ → Type 0
+-- A link of the kind from a to b is held.
+abbrev pub HasLink : Links → LinkKind → Number → Number → Type 0
 HasLink links kind a b = HeldIn links (record { kind = kind; a = a; b = b })
 
--- Number n has this mapping, as seen from it: a broader match of one end is a narrower match of the other (S43), and the
--- other kinds are symmetric (S44).
-abbrev pub IsMapping : Links → ℕ → LinkKind × ℕ → Type 0
+-- Concept n has the mapping, as seen from n: a broader match of one end is a narrower match of the other (SKOS: S43),
+-- and the other kinds are symmetric (SKOS: S44).
+abbrev pub IsMapping : Links → Number → LinkKind × Number → Type 0
 IsMapping links n (Exact, m) = HasLink links Exact n m ⊎ HasLink links Exact m n
 IsMapping links n (Close, m) = HasLink links Close n m ⊎ HasLink links Close m n
 IsMapping links n (RelMatch, m) = HasLink links RelMatch n m ⊎ HasLink links RelMatch m n
@@ -50,69 +53,72 @@ IsMapping links n (Broad, m) = HasLink links Broad n m ⊎ HasLink links Narrow 
 IsMapping links n (Narrow, m) = HasLink links Narrow n m ⊎ HasLink links Broad m n
 IsMapping links n (_, m) = ⊥
 
--- by the word's bytes, then by number
-abbrev pub word_cmp : {K : Type 0} → (K → List ℕ) → K × ℕ → K × ℕ → Ordering
-word_cmp word x y = ordering_then (slice_cmp nat_cmp (word x.0) (word y.0)) (nat_cmp x.1 y.1)
+-- The order of pairs of a kind and a number: by the kind's name, then by number.
+abbrev pub kind_name_cmp : {K : Type 0} → (K → Bytes) → K × Number → K × Number → Ordering
+kind_name_cmp word x y = ordering_then (slice_cmp nat_cmp (word x.0) (word y.0)) (nat_cmp x.1 y.1)
 
-abbrev pub mapping_cmp : LinkKind × ℕ → LinkKind × ℕ → Ordering
-mapping_cmp = word_cmp link_word
+-- The order of mappings: by name, then by number.
+abbrev pub mapping_cmp : LinkKind × Number → LinkKind × Number → Ordering
+mapping_cmp = kind_name_cmp link_kind_name
 
 -- Hierarchical links.
 
--- b is broader than a within their scheme, by a link of whatever type
-abbrev pub HasBroader : Links → ℕ → ℕ → Type 0
+-- Concept a has the broader concept b in its scheme, by a link of any type.
+abbrev pub HasBroader : Links → Number → Number → Type 0
 HasBroader links a b = (kind : LinkKind) × IsHierarchical kind × HasLink links kind a b
 
--- Number n has this typed link, as seen from it: to the broader concept, or from the narrower one.
-abbrev pub IsTyped : Links → ℕ → TypedKind × ℕ → Type 0
-IsTyped links n (typed.BroaderGeneric, m) = HasLink links BroaderGeneric n m
-IsTyped links n (typed.BroaderPartitive, m) = HasLink links BroaderPartitive n m
-IsTyped links n (typed.BroaderInstantial, m) = HasLink links BroaderInstantial n m
-IsTyped links n (typed.NarrowerGeneric, m) = HasLink links BroaderGeneric m n
-IsTyped links n (typed.NarrowerPartitive, m) = HasLink links BroaderPartitive m n
-IsTyped links n (typed.NarrowerInstantial, m) = HasLink links BroaderInstantial m n
+-- Concept n has the typed hierarchical link, as seen from n.
+abbrev pub IsTypedLink : Links → Number → TypedKind × Number → Type 0
+IsTypedLink links n (typed.BroaderGeneric, m) = HasLink links BroaderGeneric n m
+IsTypedLink links n (typed.BroaderPartitive, m) = HasLink links BroaderPartitive n m
+IsTypedLink links n (typed.BroaderInstantial, m) = HasLink links BroaderInstantial n m
+IsTypedLink links n (typed.NarrowerGeneric, m) = HasLink links BroaderGeneric m n
+IsTypedLink links n (typed.NarrowerPartitive, m) = HasLink links BroaderPartitive m n
+IsTypedLink links n (typed.NarrowerInstantial, m) = HasLink links BroaderInstantial m n
 
-abbrev pub typed_cmp : TypedKind × ℕ → TypedKind × ℕ → Ordering
-typed_cmp = word_cmp typed_word
+-- The order of typed hierarchical links: by name, then by number.
+abbrev pub typed_cmp : TypedKind × Number → TypedKind × Number → Ordering
+typed_cmp = kind_name_cmp typed_kind_name
 
 -- Concepts.
 
--- a label without its owner and its kind
-pub record Tagged : Type 0 where
-  pub tag : List ℕ
-  pub text : List ℕ
+-- A text with its language tag.
+pub record TaggedText : Type 0 where
+  pub tag : Tag
+  pub text : Text
 
--- by tag, then by text
-abbrev pub tagged_cmp : Tagged → Tagged → Ordering
-tagged_cmp x y = ordering_then (slice_cmp nat_cmp x.tag y.tag) (slice_cmp nat_cmp x.text y.text)
+-- The order of texts with tags: by tag, then by text.
+abbrev pub tagged_text_cmp : TaggedText → TaggedText → Ordering
+tagged_text_cmp x y = ordering_then (slice_cmp nat_cmp x.tag y.tag) (slice_cmp nat_cmp x.text y.text)
 
-pub record ConceptShown : Type 0 where
-  pub alt : List Tagged
-  pub broader : List ℕ
-  pub collections : List ℕ
-  pub hidden : List Tagged
+-- The view of a concept, with its fields in the order of their names.
+pub record ConceptDetails : Type 0 where
+  pub alt : List TaggedText
+  pub broader : List Number
+  pub collections : List Number
+  pub hidden : List TaggedText
   pub live : Bool
-  pub mappings : List (LinkKind × ℕ)
-  pub narrower : List ℕ
-  pub number : ℕ
+  pub mappings : List (LinkKind × Number)
+  pub narrower : List Number
+  pub number : Number
   pub postings : ℕ
-  pub pref : List Tagged
-  pub related : List ℕ
-  pub replaced : Option ℕ
-  pub scheme : Option ℕ
-  pub scope : List Tagged
+  pub pref : List TaggedText
+  pub related : List Number
+  pub replaced : Option Number
+  pub scheme : Option Number
+  pub scope : List TaggedText
   pub top : Bool
-  pub typed : List (TypedKind × ℕ)
+  pub typed : List (TypedKind × Number)
 
-module _ (s : State) (n : ℕ) where
-  -- these are the labels of the kind, in order
-  abbrev pub AreLabels : LabelKind → List Tagged → Type 0
-  AreLabels kind labels = IsListing tagged_cmp (λ t. HasLabel s.labels n kind t.tag t.text) labels
+module _ (s : State) (n : Number) where
+  -- The texts are the labels of the kind that resource n has, in order.
+  abbrev pub AreLabels : LabelKind → List TaggedText → Type 0
+  AreLabels kind labels = IsListing tagged_text_cmp (λ t. HasLabel s.labels n kind t.tag t.text) labels
 
-  -- what is shown of the concept with this number
-  pub record IsShown (c : ConceptShown) : Type 0 where
+  -- The view shows concept n; `top` says that it is live and has no broader concept in its scheme.
+  pub record AreDetailsOf (c : ConceptDetails) : Type 0 where
     pub resource : Resource
-    pub found : numbered s.resources n ≡ Some resource
+    pub found : entry_at s.resources n ≡ Some resource
     pub number : c.number ≡ n
     pub scheme : c.scheme ≡ resource.scheme
     pub live : c.live ≡ resource.live
@@ -126,7 +132,6 @@ module _ (s : State) (n : ℕ) where
     pub related : IsListing nat_cmp (λ m. HasLink s.links Related n m ⊎ HasLink s.links Related m n) c.related
     pub collections : IsListing nat_cmp (λ k. HasLink s.links Member k n) c.collections
     pub mappings : IsListing mapping_cmp (IsMapping s.links n) c.mappings
-    pub postings : c.postings ≡ standing_count n s.histories
-    -- a live concept without a broader one
+    pub postings : c.postings ≡ assigned_count n s.histories
     pub top : c.top ≡ (resource.live && length c.broader == 0)
-    pub typed : IsListing typed_cmp (IsTyped s.links n) c.typed
+    pub typed : IsListing typed_cmp (IsTypedLink s.links n) c.typed

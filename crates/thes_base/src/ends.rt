@@ -1,14 +1,14 @@
-//! What a link may join.
+//! Which resources a kind of link may join.
 ghost use Rattle.std.specs.Prelude.{◌≡◌, ◌↔◌, ℕ, List, Some, IsTrue};
 ghost use Rattle.thes_base.specs.declared.data.Resource.{Resource};
-ghost use Rattle.thes_base.specs.Resources.{numbered};
+ghost use Rattle.thes_base.specs.Resources.{entry_at};
 ghost use Rattle.thes_base.specs.Links.{form_of};
 ghost use Rattle.thes_base.specs.Refusals.{AreEnds, HaveSchemes};
 
 use crate::data::{LinkForm, LinkKind, Resource, ResourceKind};
 
 impl LinkKind {
-    /// Returns what the kind of link joins.
+    /// Returns the form of the kind: which ends it joins.
     pub fn form(self) -> LinkForm
         ensures { result ≡ form_of self }
     {
@@ -29,10 +29,10 @@ impl LinkKind {
 }
 
 impl LinkForm {
-    /// Checks whether the two ends are of the kinds that the form of the link asks for.
+    /// Checks whether both ends are of the kinds that the form requires.
     pub fn are_ends(self, a: &Resource, b: &Resource) -> bool
         ensures { (resources : List Resource) (m n : ℕ)
-            → numbered resources m ≡ Some a.now → numbered resources n ≡ Some b.now
+            → entry_at resources m ≡ Some a.now → entry_at resources n ≡ Some b.now
             → IsTrue result ↔ AreEnds resources self m n }
     {
         match self {
@@ -47,10 +47,10 @@ impl LinkForm {
         }
     }
 
-    /// Checks whether the schemes of the two ends are those that the form of the link asks for.
+    /// Checks whether the schemes of both ends are as the form requires.
     pub fn have_schemes(self, a: &Resource, b: &Resource) -> bool
         ensures { (resources : List Resource) (m n : ℕ)
-            → numbered resources m ≡ Some a.now → numbered resources n ≡ Some b.now
+            → entry_at resources m ≡ Some a.now → entry_at resources n ≡ Some b.now
             → IsTrue result ↔ HaveSchemes resources self m n }
     {
         match self {

@@ -1,8 +1,8 @@
-//! The forms of texts: which texts have one, and what a text that lacks it is answered with.
+//! The forms of texts, each with the fault for a text that lacks it.
 ghost use Rattle.std.specs.Prelude.{◌==◌, ◌↔◌, All, IsTrue, Bool, true, false, List, ℕ};
 ghost use Rattle.std.specs.List.{slice_split};
 ghost use Rattle.std.specs.Char.{IsAsciiAlphabetic, IsAsciiAlphanumeric};
-ghost use Rattle.thes_base.specs.Forms.{IsLine, IsTrimmedLine, IsText, IsKey, IsRecordName, IsNote, IsTag, IsPart, IsIri, IsBase, IsIriWithin, IsIriScheme, IsIriRest, HasKeptForm, kept};
+ghost use Rattle.thes_base.specs.Forms.{IsLine, IsTrimmedLine, IsText, IsKey, IsRecordName, IsNote, IsTag, IsTagPart, IsIri, IsBase, IsIriWithin, IsIriScheme, IsIriRest, HasStoredForm, stored_text};
 ghost use Rattle.thes_base.specs.declared.fault.FormFault.{FormFault};
 ghost use Rattle.thes_base.specs.declared.fault.FormFault.TheVariants.{BadText, BadKey, BadRecord, BadTag, BadIri};
 
@@ -16,16 +16,16 @@ pub trait Form {
 
     ghost LOWERED: { Bool };
 
-    /// The fault of a text that lacks the form.
+    /// The fault for a text that lacks the form.
     const FAULT: FormFault;
 
-    /// Tells whether texts of the form are kept with their ASCII letters in lower case.
+    /// Whether texts of the form are stored with their ASCII letters in lower case.
     const LOWERED: bool;
 
-    /// Checks whether a text has the form. If it does, so does the text as it is kept.
+    /// Checks whether a text has the form. If it does, so does the text as it is stored.
     fn has_form(text: &str) -> bool
         ensures form { IsTrue result ↔ is_form text.now }
-        ensures stays { IsTrue result → HasKeptForm is_form LOWERED (kept LOWERED text.now) };
+        ensures stays { IsTrue result → HasStoredForm is_form LOWERED (stored_text LOWERED text.now) };
 }
 
 /// The form of a label's text.
@@ -148,7 +148,7 @@ impl Form for IriForm {
     }
 }
 
-/// The form of what the IRIs of a store's own resources begin with.
+/// The form of a store's base: the prefix of the IRIs of its own resources.
 #[derive(Drop)]
 pub enum BaseForm {}
 
@@ -168,7 +168,7 @@ impl Form for BaseForm {
     }
 }
 
-// 1 to `most` bytes, and no control character.
+// Checks for 1 to `most` bytes without a control character.
 fn is_line(most: usize, text: &str) -> bool
     ensures { IsTrue result ↔ IsLine most text.now }
 {
@@ -176,14 +176,14 @@ fn is_line(most: usize, text: &str) -> bool
     1 <= bytes.len() && bytes.len() <= most && bytes.iter().all(|b| 32 <= *b && *b != 127)
 }
 
-// Such a line, with no space first or last.
+// Checks for a line of 1 to `most` bytes that neither begins nor ends with a space.
 fn is_trimmed_line(most: usize, text: &str) -> bool
     ensures { IsTrue result ↔ IsTrimmedLine most text.now }
 {
     is_line(most, text) && !text.starts_with(' ') && !text.ends_with(' ')
 }
 
-// 1 to 64 bytes, each a printed ASCII character other than the space.
+// Checks for 1 to 64 bytes, each a printable ASCII character other than the space.
 fn is_key(text: &str) -> bool
     ensures { IsTrue result ↔ IsKey text.now }
 {
@@ -191,7 +191,7 @@ fn is_key(text: &str) -> bool
     1 <= bytes.len() && bytes.len() <= 64 && bytes.iter().all(|b| 0x21 <= *b && *b <= 0x7e)
 }
 
-// At most 35 bytes: a part of letters, and then parts, with a hyphen between two.
+// Checks for at most 35 bytes: a part of letters, then any number of parts, separated by hyphens.
 fn is_tag(text: &str) -> bool
     ensures { IsTrue result ↔ IsTag text.now }
 {
@@ -202,29 +202,29 @@ fn is_tag(text: &str) -> bool
         }
 }
 
-// Parts with a hyphen between two.
+// Checks for one or more parts, separated by hyphens.
 fn are_parts(text: &str) -> bool
     ensures { IsTrue result ↔
-        All (IsPart IsAsciiAlphanumeric) (slice_split (λ b. b == 45) text.now) }
+        All (IsTagPart IsAsciiAlphanumeric) (slice_split (λ b. b == 45) text.now) }
 {
     text.split('-').all(is_part)
 }
 
-// 1 to 8 letters.
+// Checks for 1 to 8 ASCII letters.
 fn is_part_of_letters(part: &str) -> bool
-    ensures { IsTrue result ↔ IsPart IsAsciiAlphabetic part.now }
+    ensures { IsTrue result ↔ IsTagPart IsAsciiAlphabetic part.now }
 {
     1 <= part.len() && part.len() <= 8 && part.as_bytes().iter().all(|b| b.is_ascii_alphabetic())
 }
 
-// 1 to 8 letters and digits.
+// Checks for 1 to 8 ASCII letters and digits.
 fn is_part(part: &str) -> bool
-    ensures { IsTrue result ↔ IsPart IsAsciiAlphanumeric part.now }
+    ensures { IsTrue result ↔ IsTagPart IsAsciiAlphanumeric part.now }
 {
     1 <= part.len() && part.len() <= 8 && part.as_bytes().iter().all(|b| b.is_ascii_alphanumeric())
 }
 
-// An IRI of at most `most` bytes: a scheme, a colon and something more.
+// Checks for an IRI of at most `most` bytes: a scheme, a colon and at least one character.
 fn is_iri(most: usize, text: &str) -> bool
     ensures { IsTrue result ↔ IsIriWithin most text.now }
 {
@@ -235,7 +235,7 @@ fn is_iri(most: usize, text: &str) -> bool
         }
 }
 
-// A letter, and then letters, digits, `+`, `-` and `.`.
+// Checks for a letter, followed by letters, digits, `+`, `-` and `.`.
 fn is_iri_scheme(scheme: &str) -> bool
     ensures { IsTrue result ↔ IsIriScheme scheme.now }
 {
@@ -244,7 +244,7 @@ fn is_iri_scheme(scheme: &str) -> bool
         && bytes.iter().all(|b| b.is_ascii_alphanumeric() || *b == b'+' || *b == b'-' || *b == b'.')
 }
 
-// At least one character, each of which may stand in an IRI.
+// Checks for at least one character, each allowed in an IRI.
 fn is_iri_rest(rest: &str) -> bool
     ensures { IsTrue result ↔ IsIriRest rest.now }
 {

@@ -1,16 +1,16 @@
-//! A reader or a writer that notes what its device did.
+//! A reader or writer that records the failures, the end and the calls of its device.
 ghost use Rattle.std.specs.Prelude.{◌≡◌, ◌≢◌, ◌+◌, ◌<◌, length, true, false, IsTrue, IfOk, IfErr, OnOk, OnErr, IsErrOf, ◌↔◌, ◌⊎◌};
 ghost use Rattle.std.specs.Io.{ReadsAtMost, WritesAtMost};
 ghost use Rattle.std.specs.Io.KnownBytes.{ReadConsumes, WriteAppends, Appends};
 ghost use Rattle.std.specs.IoError.{error_kind};
-ghost use Rattle.thes_base.specs.Pipe.{device_of, failed_of, ended_of, denied_of, calls_of, counted, IsFresh, KeepsCalls, PaysCalls, calls_limit, unread, written, AppendsFront, IsCut, reading_fault, writing_fault};
+ghost use Rattle.thes_base.specs.Pipe.{device_of, failed_of, ended_of, denied_of, calls_of, calls_after as calls_after, IsFresh, KeepsCallLimit, PaysCalls, calls_limit, unread_bytes, written_bytes, AppendsPrefix, IsPartialWrite, reading_fault, writing_fault};
 
 use crate::fault::PipeFault;
 use std::io;
 use std::io::{ErrorKind, Read, Write};
 use std::marker::Model;
 
-/// The reads and writes that the call of an engine may still make, all its pipes together.
+/// The number of reads and writes that one call of an engine may still make over all its pipes.
 #[derive(Drop)]
 pub struct Budget {
     left: u32,
@@ -25,7 +25,7 @@ impl Model for Budget {
 }
 
 impl Budget {
-    /// Makes the budget of one call.
+    /// Creates the budget of one call: 100,000,000 reads and writes.
     pub fn new() -> Budget
         ensures { result ≡ calls_limit }
     {
@@ -33,15 +33,15 @@ impl Budget {
     }
 }
 
-/// A reader or writer, with notes of what became of it: whether it failed, whether the end of its input was seen, whether
-/// it was denied a read or a write, and how many of them it was asked for.
+/// A reader or writer with a record of its use: whether it failed, whether its input ended, whether
+/// a read or write was denied for lack of budget, and the number of its reads and writes.
 #[derive(Drop)]
 pub struct Pipe<T> {
     device: T,
     failed: bool,
     ended: bool,
     denied: bool,
-    // Stays at its greatest value.
+    // Saturates.
     calls: u64,
 }
 
@@ -55,8 +55,8 @@ pub enum Stop {
 }
 
 impl Stop {
-    /// Returns the fault that an engine answers where its reader stopped.
-    pub fn reading(self) -> PipeFault
+    /// Returns the fault that an engine reports when its reader stopped.
+    pub fn reader_fault(self) -> PipeFault
         ensures { result ≡ reading_fault self }
     {
         match self {
@@ -65,8 +65,8 @@ impl Stop {
         }
     }
 
-    /// Returns the fault that an engine answers where its writer stopped.
-    pub fn writing(self) -> PipeFault
+    /// Returns the fault that an engine reports when its writer stopped.
+    pub fn writer_fault(self) -> PipeFault
         ensures { result ≡ writing_fault self }
     {
         match self {
@@ -76,7 +76,7 @@ impl Stop {
     }
 }
 
-// Whether the error is final (not `Interrupted`).
+// Checks whether the error is final (not `Interrupted`).
 fn is_failure(error: &io::Error) -> bool
     ensures { IsTrue result ↔ (error_kind error.now ≢ ErrorKind.Interrupted) }
 {
@@ -84,7 +84,7 @@ fn is_failure(error: &io::Error) -> bool
 }
 
 impl<T> Pipe<T> {
-    /// Makes a pipe of which nothing is noted yet.
+    /// Creates a pipe with an empty record.
     pub fn new(device: T) -> Pipe<T>
         ensures device { device_of result ≡ device }
         ensures fresh { IsFresh result }
@@ -99,35 +99,35 @@ impl<T> Pipe<T> {
         }
     }
 
-    /// Tells whether the device failed.
+    /// Returns whether the device failed.
     pub fn failed(&self) -> bool
         ensures { result ≡ failed_of self.now }
     {
         self.failed
     }
 
-    /// Tells whether a read told the end of the input.
+    /// Returns whether a read reached the end of the input.
     pub fn ended(&self) -> bool
         ensures { result ≡ ended_of self.now }
     {
         self.ended
     }
 
-    /// Tells whether a read or a write was one too many for the budget of a call, and so wasn't made.
+    /// Returns whether a read or write was denied because a call had no budget left.
     pub fn denied(&self) -> bool
         ensures { result ≡ denied_of self.now }
     {
         self.denied
     }
 
-    /// Counts the reads or writes that were made. The count stays at 18,446,744,073,709,551,615.
+    /// Returns the number of reads or writes made, which saturates at 18,446,744,073,709,551,615.
     pub fn calls(&self) -> u64
         ensures { result ≡ calls_of self.now }
     {
         self.calls
     }
 
-    /// Gives the reader or writer back.
+    /// Returns the reader or writer.
     pub fn into_device(self) -> T
         ensures { result ≡ device_of self }
     {
@@ -137,15 +137,16 @@ impl<T> Pipe<T> {
 }
 
 impl<R: Read> Pipe<R> {
-    /// Reads from the device, by one call.
+    /// Reads from the device in one call.
     pub fn read_once(&mut self, budget: &mut Budget, buf: &mut [u8]) -> io::Result<usize>
         requires room { 0 < length buf.old }
         requires left { 0 < budget.old }
         ensures bound { ReadsAtMost result buf.new }
-        ensures bytes { ReadConsumes (unread R.remaining self.old)
-            (unread R.remaining self.new) result buf.new }
+        ensures bytes { ReadConsumes (unread_bytes R.remaining self.old)
+            (unread_bytes R.remaining self.new) result buf.new }
 
-        // The end is noted exactly when no byte came, and a failure exactly when an error other than Interrupted came.
+        // Records the end exactly when no byte came, and a failure exactly when an error other
+        // than Interrupted came.
         ensures ended { IfOk result (λ n. IsTrue (ended_of self.new)
             ↔ (IsTrue (ended_of self.old) ⊎ (n ≡ 0))) }
         ensures not_ended { OnErr result (ended_of self.new ≡ ended_of self.old) }
@@ -153,7 +154,7 @@ impl<R: Read> Pipe<R> {
             ↔ (IsTrue (failed_of self.old) ⊎ (error_kind e ≢ ErrorKind.Interrupted))) }
         ensures not_failed { OnOk result (failed_of self.new ≡ failed_of self.old) }
         ensures denied { denied_of self.new ≡ denied_of self.old }
-        ensures counted { calls_of self.new ≡ counted (calls_of self.old) 1 }
+        ensures counted { calls_of self.new ≡ calls_after (calls_of self.old) 1 }
         ensures paid { budget.new + 1 ≡ budget.old }
     {
         budget.left -= 1;
@@ -167,13 +168,13 @@ impl<R: Read> Pipe<R> {
         result
     }
 
-    /// Reads at least one byte, or none at the end of the input. A read that is interrupted is made again.
+    /// Reads at least one byte, or none at the end of the input. Retries after `Interrupted`.
     pub fn read(&mut self, budget: &mut Budget, buf: &mut [u8]) -> Result<usize, Stop>
         requires room { 0 < length buf.old }
         requires fresh { IsFresh self.old }
         ensures bound { ReadsAtMost result buf.new }
-        ensures bytes { ReadConsumes (unread R.remaining self.old)
-            (unread R.remaining self.new) result buf.new }
+        ensures bytes { ReadConsumes (unread_bytes R.remaining self.old)
+            (unread_bytes R.remaining self.new) result buf.new }
         ensures ended { IfOk result (λ n. IsTrue (ended_of self.new) ↔ (n ≡ 0)) }
         ensures not_ended { OnErr result (ended_of self.new ≡ false) }
         ensures failed { IsErrOf result Stop.Failed ↔ (failed_of self.new ≡ true) }
@@ -198,22 +199,23 @@ impl<R: Read> Pipe<R> {
 }
 
 impl<W: Write> Pipe<W> {
-    /// Writes to the device, by one call.
+    /// Writes to the device in one call.
     pub fn write_once(&mut self, budget: &mut Budget, bytes: &[u8]) -> io::Result<usize>
         requires some { 0 < length bytes.now }
         requires left { 0 < budget.old }
         ensures bound { WritesAtMost result bytes.now }
-        ensures bytes { WriteAppends (written W.contents self.old)
-            (written W.contents self.new) result bytes.now }
+        ensures bytes { WriteAppends (written_bytes W.contents self.old)
+            (written_bytes W.contents self.new) result bytes.now }
 
-        // A failure is noted exactly when no byte was taken, or an error other than Interrupted came.
+        // Records a failure exactly when no byte was taken, or an error other than Interrupted
+        // came.
         ensures stuck { IfOk result (λ n. IsTrue (failed_of self.new)
             ↔ (IsTrue (failed_of self.old) ⊎ (n ≡ 0))) }
         ensures failed { IfErr result (λ e. IsTrue (failed_of self.new)
             ↔ (IsTrue (failed_of self.old) ⊎ (error_kind e ≢ ErrorKind.Interrupted))) }
         ensures ended { ended_of self.new ≡ ended_of self.old }
         ensures denied { denied_of self.new ≡ denied_of self.old }
-        ensures counted { calls_of self.new ≡ counted (calls_of self.old) 1 }
+        ensures counted { calls_of self.new ≡ calls_after (calls_of self.old) 1 }
         ensures paid { budget.new + 1 ≡ budget.old }
     {
         budget.left -= 1;
@@ -227,13 +229,13 @@ impl<W: Write> Pipe<W> {
         result
     }
 
-    /// Writes all the bytes, or a front of them where it stops. A write that is interrupted is made again.
+    /// Writes all bytes, or a prefix of them if it stops. Retries after `Interrupted`.
     pub fn write_all(&mut self, budget: &mut Budget, bytes: &[u8]) -> Result<(), Stop>
         requires { failed_of self.old ≡ false }
-        ensures ok { OnOk result (Appends (written W.contents self.old)
-            (written W.contents self.new) bytes.now) }
-        ensures err { OnErr result (AppendsFront (written W.contents self.old)
-            (written W.contents self.new) bytes.now) }
+        ensures ok { OnOk result (Appends (written_bytes W.contents self.old)
+            (written_bytes W.contents self.new) bytes.now) }
+        ensures err { OnErr result (AppendsPrefix (written_bytes W.contents self.old)
+            (written_bytes W.contents self.new) bytes.now) }
         ensures ended { ended_of self.new ≡ ended_of self.old }
         ensures failed { IsErrOf result Stop.Failed ↔ (failed_of self.new ≡ true) }
         ensures denied { IsTrue (denied_of self.new)
@@ -264,17 +266,17 @@ impl<W: Write> Pipe<W> {
         Ok(())
     }
 
-    /// Writes a whole text, within a budget of its own.
+    /// Writes a whole text within a budget of its own.
     pub fn write_text(&mut self, text: &[u8]) -> Result<(), PipeFault>
         requires { IsFresh self.old }
-        ensures ok { OnOk result (Appends (written W.contents self.old)
-            (written W.contents self.new) text.now) }
-        ensures err { IfErr result (IsCut W.contents text.now self.old self.new) }
-        ensures calls { KeepsCalls self.old self.new }
+        ensures ok { OnOk result (Appends (written_bytes W.contents self.old)
+            (written_bytes W.contents self.new) text.now) }
+        ensures err { IfErr result (IsPartialWrite W.contents text.now self.old self.new) }
+        ensures calls { KeepsCallLimit self.old self.new }
     {
         match self.write_all(&mut Budget::new(), text) {
             Ok(()) => Ok(()),
-            Err(stop) => Err(stop.writing()),
+            Err(stop) => Err(stop.writer_fault()),
         }
     }
 }

@@ -1,11 +1,11 @@
-//! Values in order.
+//! A list of values.
 ghost use Rattle.std.specs.Prelude.{◌≡◌, ◌-◌, List, length, take, [], ◌++◌, ◌∷◌, IfOk, OnOk, OnErr};
 ghost use Rattle.std.specs.Cmp.Lexicographic.{pointwise, lists_per, lists_equiv};
 
 use std::alloc::{AllocError, Global};
 use std::marker::Model;
 
-/// Values in order, which a contract sees as their list.
+/// A list of values, which contracts see as a `List`.
 #[derive(Debug, Drop)]
 pub struct Sequence<T> {
     values: Vec<T>,
@@ -40,7 +40,7 @@ impl<T> From<Vec<T>> for Sequence<T> {
 }
 
 impl<T> Sequence<T> {
-    /// Makes an empty sequence, which takes no memory.
+    /// Creates an empty sequence without allocating.
     pub fn new(alloc: Global) -> Sequence<T>
         ensures { result ≡ [] }
     {
@@ -58,7 +58,7 @@ impl<T> Sequence<T> {
 }
 
 impl<T: Copy> Sequence<T> {
-    /// Adds a value at the end. An `Err` changes nothing.
+    /// Appends a value. An `Err` changes nothing.
     pub fn push(&mut self, value: T) -> Result<(), AllocError>
         ensures ok { OnOk result (self.new ≡ self.old ++ value ∷ []) }
         ensures err { OnErr result (self.new ≡ self.old) }

@@ -3,6 +3,7 @@ pub mod ScriptLemmas
 pub mod ReadyLemmas
 pub mod NewStoreLemmas
 pub mod ReadingLemmas
-pub mod WalkedLemmas
+pub mod ArgumentWalkLemmas
 pub mod CompletingLemmas
 pub mod PrintLemmas
+pub mod PassingLemmas

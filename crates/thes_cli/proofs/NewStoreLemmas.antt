@@ -1,4 +1,4 @@
--- A new store shows the empty state.
+-- Proves that a new store shows the empty state.
 use Rattle.std.proofs.Common.{◌≡◌, ◌⊎◌, inl, inr, refl, subst, ℕ, List, Option, None, arith}
 use Rattle.std.specs.Prelude.{◌<◌}
 use Rattle.std.specs.FinSet as set
@@ -12,30 +12,37 @@ use Rattle.thes_base.specs.declared.fault.Fault.{Fault}
 use Rattle.thes_base.specs.declared.fault.Fault.TheVariants as faults
 use Rattle.thes_base.specs.declared.fault.PipeFault.TheVariants as pipe
 use Rattle.thes_base.proofs.NumberedLemmas.{none_at}
-use Rattle.thes_tables.specs.Cells.{listed}
-use Rattle.thes_tables.specs.Tables.{Tables, hier_link, no_rows}
-use Rattle.thes_store.specs.Causes.{most}
-use Rattle.thes_office.proofs.ShowLemmas.{faulty_shows_none}
-use Rattle.thes_office.specs.Shows.{Shows}
+use Rattle.thes_tables.specs.Cells.{cells_of_tables}
+use Rattle.thes_tables.specs.Tables.{Tables, hier_link, empty_tables}
+use Rattle.thes_store.specs.Causes.{max_failures}
+use Rattle.thes_office.proofs.StateTableLemmas.{faulty_has_no_state}
+use Rattle.thes_office.specs.TablesOfState.{TablesOfState}
 use Rattle.thes_cli.specs.Checking.{no_sizes, sizes_of}
 use Rattle.thes_cli.specs.Ending.{fault_line, Prints}
 use Rattle.thes_cli.specs.Opening.{IsUnopened}
 use Rattle.thes_cli.specs.Streams.{Streams}
-use Rattle.thes_cli.specs.Work.{Works, WorksInMemory}
+use Rattle.thes_cli.specs.Work.{WorksOverKeeper, WorksInMemory}
 use Rattle.thes_cli.specs.declared.work.Work.{Work}
 
 no_link : (l : Link) → HeldIn set.empty l → ⊥
 no_link l h = let e = set.contains-empty link_cmp l in cc
 
-pub new_store_shows : (base : List ℕ) → IsBase base → Shows (listed (no_rows base)) base empty_state
+-- The tables of a new store show the empty state.
+pub new_store_shows : (base : List ℕ) → IsBase base → TablesOfState (cells_of_tables (empty_tables base)) base
+    empty_state
 new_store_shows base form = record {
-  tables = no_rows base;
+  tables = empty_tables base;
   rows = refl;
   holds = record {
     base_is = refl;
     resource = refl;
     outside = record { same = refl; ascends = tt };
-    label = record { sound = λ row is. absurd is; complete = λ row h. absurd (let e = set.contains-empty label_cmp row in cc); once = tt };
+    label = record {
+      sound = λ row is. absurd is;
+      complete =
+          λ row h. absurd (let e = set.contains-empty label_cmp row in cc);
+      once = tt;
+    };
     link = record { sound = λ row is. absurd is; complete = λ row h. absurd (no_link row h.0); once = tt };
     hier = record { sound = λ row is. absurd is; complete = λ row h. absurd (no_link (hier_link row) h); once = tt };
     posting = refl;
@@ -44,7 +51,7 @@ new_store_shows base form = record {
   legal = legal_empty base form;
 }
 
--- and holds nothing
+-- A new store has no sizes.
 pub empty_sizes : sizes_of empty_state ≡ no_sizes
 empty_sizes i = record {
   resources = 0;
@@ -55,32 +62,47 @@ empty_sizes i = record {
   moves = 0;
 }
 
--- A keeper in memory doesn't fail, and a new store loads: nothing but want of memory keeps it from being opened.
-no_failure : (0 < 0) ⊎ (0 ≡ most) → ⊥
+-- A keeper in memory doesn't fail, and a new store loads, so only running out of memory prevents it from being opened.
+no_failure : (0 < 0) ⊎ (0 ≡ max_failures) → ⊥
 no_failure (inl less) = omega (arith, less)
 no_failure (inr full) = omega (arith, full)
 
-only_memory : (base : List ℕ) (fault : Fault) (left : Tables) → Shows (listed (no_rows base)) base empty_state
-    → IsUnopened listed (λ k. Unit {0}) (λ k. 0) (no_rows base) fault left → fault ≡ faults.OutOfMemory
-only_memory base fault left shows un = elim (un.verdict tt) [
+only_memory : (base : List ℕ) (fault : Fault) (tables_after : Tables)
+    → TablesOfState (cells_of_tables (empty_tables base)) base empty_state
+    → IsUnopened cells_of_tables (λ k. Unit {0}) (λ k. 0) (empty_tables base) fault tables_after → fault
+    ≡ faults.OutOfMemory
+only_memory base fault tables_after shows un = elim (un.verdict tt) [
   | inl memory ↦ memory
   | inr (inl store) ↦ absurd (no_failure (un.store store))
-  | inr (inr faulty) ↦ absurd (faulty_shows_none (listed (no_rows base)) fault faulty base empty_state shows)
+  | inr (inr faulty) ↦ absurd (faulty_has_no_state (cells_of_tables (empty_tables base)) fault faulty base empty_state
+      shows)
 ]
 
-module _ {F R W E : Type 0} (given : F → Option (List ℕ)) (remaining : R → Option (List ℕ)) (out : W → Option (List ℕ)) (err : E → Option (List ℕ)) where
-  pub works_in_memory : {L : Type 0} (task : Work F L) (base : List ℕ) (old : Streams R W E) (status : ℕ) (left : Tables) (new : Streams R W E) → IsBase base
-      → Works listed (λ k. Unit {0}) (λ k. 0) given remaining out err task None (no_rows base) old status left new
+module _ {F R W E : Type 0} (given : F → Option (List ℕ)) (remaining : R → Option (List ℕ))
+    (out : W → Option (List ℕ)) (err : E → Option (List ℕ)) where
+  -- Work over a new keeper in memory is work over the empty state, or memory ran out.
+  pub works_in_memory : {L : Type 0} (task : Work F L) (base : List ℕ) (old : Streams R W E) (status : ℕ)
+      (tables_after : Tables) (new : Streams R W E) → IsBase base
+      → WorksOverKeeper cells_of_tables (λ k. Unit {0}) (λ k. 0) given remaining out err task None (empty_tables base)
+      old status tables_after new
       → WorksInMemory given remaining out err task base old status new
-  works_in_memory task base old status left new form (inl opened) = record { shows = new_store_shows base form; nothing = empty_sizes; left = left; works = inl opened }
-  works_in_memory task base old status left new form (inr un) = record {
+  works_in_memory task base old status tables_after new form (inl opens) =
+      record {
+        shows = new_store_shows base form;
+        nothing = empty_sizes;
+        tables_after = tables_after;
+        works =
+            inl opens;
+      }
+  works_in_memory task base old status tables_after new form (inr un) = record {
     shows = new_store_shows base form;
     nothing = empty_sizes;
-    left = left;
+    tables_after = tables_after;
     works = inr record {
       input = un.input;
       output = un.output;
-      tells = subst (λ (f : Fault). Prints err old.errors new.errors (fault_line (pipe.Fault f))) (only_memory base un.fault left (new_store_shows base form) un.unopened) un.tells;
+      prints_it = subst (λ (f : Fault). Prints err old.errors new.errors (fault_line (pipe.Fault f)))
+          (only_memory base un.fault tables_after (new_store_shows base form) un.fails_to_open) un.prints_it;
       status_is = un.status_is;
     };
   }

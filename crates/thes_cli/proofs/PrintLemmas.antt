@@ -1,4 +1,4 @@
--- What a call that prints has written.
+-- Proves the cases of a call that prints.
 use Rattle.std.proofs.Common.{◌⊎◌, inl, inr, Bool, true, false, Result, Ok, Err}
 use Rattle.std.specs.Prelude.{MatchBool, OnOk, OnErr}
 

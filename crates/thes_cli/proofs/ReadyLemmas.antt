@@ -1,4 +1,4 @@
--- What is told of a core that an office hands out is so of the state that its tables show.
+-- Proves that the results computed from an office's core are those of the state that its tables show.
 use Rattle.std.proofs.Common.{◌≡◌, ◌∙◌, ap, subst, ℕ, List, Option, Result, Ok, Err}
 use Rattle.std.specs.Prelude.{length, IfOk, IfErr, OnOk}
 use Rattle.std.specs.Borrow.{Bor}
@@ -9,26 +9,27 @@ use Rattle.thes_base.specs.declared.fault.Fault.{Fault}
 use Rattle.thes_base.specs.declared.fault.PipeFault.{PipeFault}
 use Rattle.thes_base.specs.declared.fault.PipeFault.TheVariants as pipe
 use Rattle.thes_base.specs.declared.pipe.Pipe.{Pipe}
-use Rattle.thes_base.specs.Pipe.{KeepsCalls}
+use Rattle.thes_base.specs.Pipe.{KeepsCallLimit}
 use Rattle.thes_tables.specs.Cells.{Raw}
-use Rattle.thes_core.specs.Kept as core
-use Rattle.thes_core.specs.Kept.{Holds}
+use Rattle.thes_core.specs.CoreView as core
+use Rattle.thes_core.specs.CoreView.{IsViewOf}
 use Rattle.thes_core.specs.declared.reading.Sizes.{Sizes}
-use Rattle.thes_office.specs.Office.{Goes, IsCopy, Kept, Readied}
-use Rattle.thes_office.proofs.ShowLemmas.{shows_one}
-use Rattle.thes_service.proofs.ShownLemmas.{goes_on_to, held_shown}
-use Rattle.thes_export.specs.Written as export
-use Rattle.thes_display.specs.Shown as display
-use Rattle.thes_display.specs.declared.shown.Shown.{Shown}
+use Rattle.thes_office.specs.Office.{FaultBehaviour, IsCopy, OfficeView, ReadyResult}
+use Rattle.thes_office.proofs.StateTableLemmas.{state_is_unique}
+use Rattle.thes_service.proofs.StateViewLemmas.{goes_on_to, held_shown}
+use Rattle.thes_export.specs.ExportWrites as export
+use Rattle.thes_display.specs.DisplayWrites as display
+use Rattle.thes_display.specs.declared.writing.DisplayOutcome.{DisplayOutcome}
 use Rattle.thes_http.specs.declared.service.Display.{Display}
 use Rattle.thes_cli.specs.Checking.{sizes_of, FindsSizes}
-use Rattle.thes_cli.specs.Displaying.{ShowsDisplay}
+use Rattle.thes_cli.specs.Displaying.{WritesDisplay}
 use Rattle.thes_service.specs.Service.{IsDisplay}
 use Rattle.thes_cli.specs.Exporting.{WritesExport}
 use Rattle.thes_cli.specs.Opening.{InStore}
 
--- the sizes of a core are those of each state that it holds
-pub sizes_are : (z : Sizes) (copy : core.Kept) (s : State) → Holds copy s → z.resources ≡ length copy.resources → z.labels ≡ set.len copy.labels → z.links ≡ set.len copy.links
+-- The sizes of a core are those of each state that it holds.
+pub sizes_are : (z : Sizes) (copy : core.CoreView) (s : State) → IsViewOf copy s → z.resources ≡ length copy.resources
+    → z.labels ≡ set.len copy.labels → z.links ≡ set.len copy.links
     → z.accepted ≡ copy.sums.accepted → z.withdrawn ≡ copy.sums.withdrawn → z.moves ≡ copy.sums.moves → z ≡ sizes_of s
 sizes_are z copy s holds r l k a w m i = record {
   resources = (r ∙ ap (λ (t : State). length t.resources) holds.state) i;
@@ -39,19 +40,24 @@ sizes_are z copy s holds r l k a w m i = record {
   moves = (m ∙ holds.sums.moves) i;
 }
 
--- what is so in each state that a copy holds is so of every state that the rows show, and of its base
-pub held_in_store : (raw : Raw) (limits : Limits) (copy : core.Kept) (P : List ℕ → State → Type 0) → IsCopy raw limits copy → ((s : State) → Holds copy s → P copy.setting.base s) → InStore raw P
+-- A property of each state that a copy holds is one of every state that the rows show, and of its base.
+pub held_in_store : (raw : Raw) (limits : Limits) (copy : core.CoreView) (P : List ℕ → State → Type 0)
+    → IsCopy raw limits copy → ((s : State) → IsViewOf copy s → P copy.setting.base s) → InStore raw P
 held_in_store raw limits copy P is so base s x =
-    let one = shows_one raw copy.setting.base base is.state s is.shows x in
+    let one = state_is_unique raw copy.setting.base base is.state s is.shows x in
     subst (P base) one.1 (subst (λ (b : List ℕ). P b is.state) one.0 (so is.state is.holds))
 
 module _ {K : Type 0} (rows : K → Raw) (is_up : K → Type 0) (failed : K → ℕ) where
-  -- an office that handed its core out has this one
-  handed : (old new : Kept K) (result : Result (Bor core.Kept) Fault) (copy : Bor core.Kept) → Readied rows is_up failed old result new → result ≡ Ok copy → Readied rows is_up failed old (Ok copy) new
-  handed old new result copy ready is = subst (λ (r : Result (Bor core.Kept) Fault). Readied rows is_up failed old r new) is ready
+  -- An office that is ready has this core.
+  handed : (old new : OfficeView K) (result : Result (Bor core.CoreView) Fault) (copy : Bor core.CoreView)
+      → ReadyResult rows is_up failed old result new → result ≡ Ok copy → ReadyResult rows is_up failed old (Ok copy)
+      new
+  handed old new result copy ready is =
+      subst (λ (r : Result (Bor core.CoreView) Fault). ReadyResult rows is_up failed old r new) is ready
 
-  pub sizes_found : (old new : Kept K) (result : Result (Bor core.Kept) Fault) (copy : Bor core.Kept) (z : Sizes) → Readied rows is_up failed old result new → result ≡ Ok copy
-      → ((s : State) → Holds copy.now s → z ≡ sizes_of s) → FindsSizes rows is_up failed old (Ok z) new
+  pub sizes_found : (old new : OfficeView K) (result : Result (Bor core.CoreView) Fault) (copy : Bor core.CoreView)
+      (z : Sizes) → ReadyResult rows is_up failed old result new → result ≡ Ok copy
+      → ((s : State) → IsViewOf copy.now s → z ≡ sizes_of s) → FindsSizes rows is_up failed old (Ok z) new
   sizes_found old new result copy z ready is so =
       let here = handed old new result copy ready is in record {
         goes = goes_on_to rows is_up failed old new copy z here.goes;
@@ -59,45 +65,81 @@ module _ {K : Type 0} (rows : K → Raw) (is_up : K → Type 0) (failed : K → 
         sizes = λ up. held_shown (rows new.keeper) new.limits copy.now (λ s. z ≡ sizes_of s) (here.shown.copies up) so;
       }
 
-  -- a call that failed, told of another answer
-  unready : {A B : Type 0} (old new : Kept K) (fault : Fault) → Goes rows is_up failed old new (let x : Result A Fault = Err fault in x) → Goes rows is_up failed old new (let x : Result B Fault = Err fault in x)
-  unready old new fault goes = record { limits = goes.limits; was = goes.was; later = goes.later; count = tt; store = goes.store; stale = goes.stale; fault = goes.fault }
+  -- A call that failed, with the fault as another answer.
+  unready : {A B : Type 0} (old new : OfficeView K) (fault : Fault) → FaultBehaviour rows is_up failed old new
+      (let x : Result A Fault = Err fault in x) → FaultBehaviour rows is_up failed old new (let x : Result B Fault =
+      Err fault in x)
+  unready old new fault goes = record {
+    limits = goes.limits;
+    was = goes.was;
+    later = goes.later;
+    count = tt;
+    store =
+        goes.store;
+    stale = goes.stale;
+    fault = goes.fault;
+  }
 
-  failed_as : (old new : Kept K) (result : Result (Bor core.Kept) Fault) (fault : Fault) → Readied rows is_up failed old result new → result ≡ Err fault → Readied rows is_up failed old (Err fault) new
-  failed_as old new result fault ready is = subst (λ (r : Result (Bor core.Kept) Fault). Readied rows is_up failed old r new) is ready
+  failed_as : (old new : OfficeView K) (result : Result (Bor core.CoreView) Fault) (fault : Fault)
+      → ReadyResult rows is_up failed old result new → result ≡ Err fault → ReadyResult rows is_up failed old
+      (Err fault) new
+  failed_as old new result fault ready is =
+      subst (λ (r : Result (Bor core.CoreView) Fault). ReadyResult rows is_up failed old r new) is ready
 
   module _ {W : Type 0} (out : W → Option (List ℕ)) (output output' : Pipe W) where
-    pub export_written : (old new : Kept K) (result : Result (Bor core.Kept) Fault) (copy : Bor core.Kept) (ended : Result (Unit {0}) PipeFault) → Readied rows is_up failed old result new → result ≡ Ok copy
-        → ((s : State) → Holds copy.now s → OnOk ended (export.IsExported out copy.now.setting.base s output output'))
-        → ((s : State) → Holds copy.now s → IfErr ended (export.IsStopped out copy.now.setting.base s output output'))
-        → KeepsCalls output output' → WritesExport rows is_up failed out old output ended new output'
+    -- An export from the office's core is that of the state that the tables show.
+    pub export_written : (old new : OfficeView K) (result : Result (Bor core.CoreView) Fault)
+        (copy : Bor core.CoreView) (ended : Result (Unit {0}) PipeFault) → ReadyResult rows is_up failed old result
+        new → result ≡ Ok copy
+        → ((s : State) → IsViewOf copy.now s → OnOk ended (export.IsExportWritten out copy.now.setting.base s output
+        output'))
+        → ((s : State) → IsViewOf copy.now s → IfErr ended (export.IsExportStopped out copy.now.setting.base s output
+        output'))
+        → KeepsCallLimit output output' → WritesExport rows is_up failed out old output ended new output'
     export_written old new result copy (Ok done) ready is ok err calls =
         let here = handed old new result copy ready is in record {
           ready = Ok tt;
           goes = goes_on_to rows is_up failed old new copy tt here.goes;
           same = here.same;
-          writes = (λ up. held_in_store (rows new.keeper) new.limits copy.now (λ base s. export.IsExported out base s output output') (here.shown.copies up) ok, calls);
+          writes = (
+            λ up. held_in_store (rows new.keeper) new.limits copy.now
+                (λ base s. export.IsExportWritten out base s output output') (here.shown.copies up) ok,
+            calls,
+          );
         }
     export_written old new result copy (Err fault) ready is ok err calls =
         let here = handed old new result copy ready is in record {
           ready = Ok tt;
           goes = goes_on_to rows is_up failed old new copy tt here.goes;
           same = here.same;
-          writes = (λ up. held_in_store (rows new.keeper) new.limits copy.now (λ base s. export.IsStopped out base s output output' fault) (here.shown.copies up) err, calls);
+          writes = (
+            λ up. held_in_store (rows new.keeper) new.limits copy.now
+                (λ base s. export.IsExportStopped out base s output output' fault) (here.shown.copies up) err,
+            calls,
+          );
         }
 
-    pub display_written : (kind : Display) (scheme : ℕ) (tag : List ℕ) (old new : Kept K) (result : Result (Bor core.Kept) Fault) (copy : Bor core.Kept) (ended : Result Shown PipeFault)
-        → Readied rows is_up failed old result new → result ≡ Ok copy
-        → ((s : State) → Holds copy.now s → IfOk ended (display.IsShown out s.resources scheme (IsDisplay kind scheme tag s) output output'))
-        → ((s : State) → Holds copy.now s → IfErr ended (display.IsStopped out (IsDisplay kind scheme tag s) output output'))
-        → KeepsCalls output output' → ShowsDisplay rows is_up failed out kind scheme tag old output ended new output'
+    -- A display from the office's core is that of the state that the tables show.
+    pub display_written : (kind : Display) (scheme : ℕ) (tag : List ℕ) (old new : OfficeView K)
+        (result : Result (Bor core.CoreView) Fault) (copy : Bor core.CoreView)
+        (ended : Result DisplayOutcome PipeFault)
+        → ReadyResult rows is_up failed old result new → result ≡ Ok copy
+        → ((s : State) → IsViewOf copy.now s
+        → IfOk ended (display.IsDisplayWritten out s.resources scheme (IsDisplay kind scheme tag s) output
+        output'))
+        → ((s : State) → IsViewOf copy.now s → IfErr ended (display.IsDisplayStopped out (IsDisplay kind scheme tag s)
+        output output'))
+        → KeepsCallLimit output output' → WritesDisplay rows is_up failed out kind scheme tag old output ended new
+        output'
     display_written kind scheme tag old new result copy (Ok shown) ready is ok err calls =
         let here = handed old new result copy ready is in record {
           ready = Ok tt;
           goes = goes_on_to rows is_up failed old new copy tt here.goes;
           same = here.same;
           shows = (
-            λ up. held_in_store (rows new.keeper) new.limits copy.now (λ base s. display.IsShown out s.resources scheme (IsDisplay kind scheme tag s) output output' shown) (here.shown.copies up) ok,
+            λ up. held_in_store (rows new.keeper) new.limits copy.now
+                (λ base s. display.IsDisplayWritten out s.resources scheme (IsDisplay kind scheme tag s) output
+                output' shown) (here.shown.copies up) ok,
             calls,
           );
         }
@@ -107,19 +149,25 @@ module _ {K : Type 0} (rows : K → Raw) (is_up : K → Type 0) (failed : K → 
           goes = goes_on_to rows is_up failed old new copy tt here.goes;
           same = here.same;
           shows = (
-            λ up. held_in_store (rows new.keeper) new.limits copy.now (λ base s. display.IsStopped out (IsDisplay kind scheme tag s) output output' fault) (here.shown.copies up) err,
+            λ up. held_in_store (rows new.keeper) new.limits copy.now
+                (λ base s. display.IsDisplayStopped out (IsDisplay kind scheme tag s) output output' fault)
+                (here.shown.copies up) err,
             calls,
           );
         }
 
-    pub export_unready : (old new : Kept K) (result : Result (Bor core.Kept) Fault) (fault : Fault) (ended : Result (Unit {0}) PipeFault) → Readied rows is_up failed old result new → result ≡ Err fault
-        → ended ≡ Err (pipe.Fault fault) → output' ≡ output → WritesExport rows is_up failed out old output ended new output'
-    export_unready old new result fault ended ready is told same =
+    pub export_unready : (old new : OfficeView K) (result : Result (Bor core.CoreView) Fault) (fault : Fault)
+        (ended : Result (Unit {0}) PipeFault) → ReadyResult rows is_up failed old result new → result ≡ Err fault
+        → ended ≡ Err (pipe.Fault fault) → output' ≡ output → WritesExport rows is_up failed out old output ended new
+        output'
+    export_unready old new result fault ended ready is reports same =
         let here = failed_as old new result fault ready is in
-        record { ready = Err fault; goes = unready old new fault here.goes; same = here.same; writes = (told, same) }
+        record { ready = Err fault; goes = unready old new fault here.goes; same = here.same; writes = (reports, same) }
 
-    pub display_unready : (kind : Display) (scheme : ℕ) (tag : List ℕ) (old new : Kept K) (result : Result (Bor core.Kept) Fault) (fault : Fault) (ended : Result Shown PipeFault)
-        → Readied rows is_up failed old result new → result ≡ Err fault → ended ≡ Err (pipe.Fault fault) → output' ≡ output → ShowsDisplay rows is_up failed out kind scheme tag old output ended new output'
-    display_unready kind scheme tag old new result fault ended ready is told same =
+    pub display_unready : (kind : Display) (scheme : ℕ) (tag : List ℕ) (old new : OfficeView K)
+        (result : Result (Bor core.CoreView) Fault) (fault : Fault) (ended : Result DisplayOutcome PipeFault)
+        → ReadyResult rows is_up failed old result new → result ≡ Err fault → ended ≡ Err (pipe.Fault fault) → output'
+        ≡ output → WritesDisplay rows is_up failed out kind scheme tag old output ended new output'
+    display_unready kind scheme tag old new result fault ended ready is reports same =
         let here = failed_as old new result fault ready is in
-        record { ready = Err fault; goes = unready old new fault here.goes; same = here.same; shows = (told, same) }
+        record { ready = Err fault; goes = unready old new fault here.goes; same = here.same; shows = (reports, same) }

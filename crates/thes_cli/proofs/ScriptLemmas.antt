@@ -1,21 +1,28 @@
--- How a script over an office ends.
+-- Proves how a script over an office ends.
 use Rattle.std.proofs.Common.{ℕ, List, Option, Result, Ok, Err}
 use Rattle.std.specs.Prelude.{IfOk, IfErr}
-use Rattle.thes_base.specs.Pipe.{KeepsToLimit}
+use Rattle.thes_base.specs.Pipe.{KeepsSharedCallLimit}
 use Rattle.thes_base.specs.declared.fault.PipeFault.{PipeFault}
 use Rattle.thes_tables.specs.Cells.{Raw}
-use Rattle.thes_office.specs.Office.{Kept}
-use Rattle.thes_exchange.specs.Script.{scene, Completes, Stops}
+use Rattle.thes_office.specs.Office.{OfficeView}
+use Rattle.thes_exchange.specs.Script.{session, Completes, Stops}
 use Rattle.thes_exchange.specs.declared.script.Ended.{Ended}
-use Rattle.thes_service.specs.Desk.{OfficeServes, is_always_open, IsLedOn}
-use Rattle.thes_cli.specs.Scripting.{AnswersScript, Closes}
+use Rattle.thes_service.specs.OfficeRequests.{OfficeServes, is_always_open, IsReachedByRun}
+use Rattle.thes_cli.specs.Scripting.{AnswersScript, ReportsScriptEnd}
 use Rattle.thes_cli.specs.Streams.{Streams}
 
-module _ {K R W E : Type 0} (rows : K → Raw) (is_up : K → Type 0) (failed : K → ℕ) (remaining : R → Option (List ℕ)) (out : W → Option (List ℕ)) (err : E → Option (List ℕ)) where
-  pub answered : (before : Kept K) (old : Streams R W E) (status : ℕ) (after : Kept K) (new : Streams R W E) (result : Result Ended PipeFault)
-      → IfOk result (Completes remaining out (OfficeServes rows is_up failed) is_always_open (scene old.input old.output before) (scene new.input new.output after))
-      → IfErr result (Stops remaining out (OfficeServes rows is_up failed) is_always_open (scene old.input old.output before) (scene new.input new.output after))
-      → IsLedOn rows is_up failed before after → KeepsToLimit old.input new.input old.output new.output → Closes err old.errors new.errors result status
-      → AnswersScript rows is_up failed remaining out err before old status after new
-  answered before old status after new (Ok ended) completed stopped l k closes = record { result = Ok ended; script = completed; led = l; calls = k; closes = closes }
-  answered before old status after new (Err fault) completed stopped l k closes = record { result = Err fault; script = stopped; led = l; calls = k; closes = closes }
+module _ {K R W E : Type 0} (rows : K → Raw) (is_up : K → Type 0) (failed : K → ℕ) (remaining : R → Option (List ℕ))
+    (out : W → Option (List ℕ)) (err : E → Option (List ℕ)) where
+  pub script_answered : (old_office : OfficeView K) (old : Streams R W E) (status : ℕ) (new_office : OfficeView K)
+      (new : Streams R W E) (result : Result Ended PipeFault)
+      → IfOk result (Completes remaining out (OfficeServes rows is_up failed) is_always_open
+      (session old.input old.output old_office) (session new.input new.output new_office))
+      → IfErr result (Stops remaining out (OfficeServes rows is_up failed) is_always_open
+      (session old.input old.output old_office) (session new.input new.output new_office))
+      → IsReachedByRun rows is_up failed old_office new_office → KeepsSharedCallLimit old.input new.input old.output
+      new.output → ReportsScriptEnd err old.errors new.errors result status
+      → AnswersScript rows is_up failed remaining out err old_office old status new_office new
+  script_answered old_office old status new_office new (Ok ended) completed stopped l k closes =
+      record { result = Ok ended; script = completed; reached = l; calls = k; closes = closes }
+  script_answered old_office old status new_office new (Err fault) completed stopped l k closes =
+      record { result = Err fault; script = stopped; reached = l; calls = k; closes = closes }

@@ -1,4 +1,4 @@
--- How much a store holds.
+-- The sizes of a store.
 use Rattle.std.specs.Prelude.{◌≡◌, ◌⊎◌, ℕ, List, length, Option, Result, Ok, Err, IfOk}
 use Rattle.std.specs.FinSet as set
 use Rattle.thes_base.specs.Postings.{accepted_count, withdrawn_count, move_count}
@@ -9,12 +9,12 @@ use Rattle.thes_base.specs.declared.fault.PipeFault.TheVariants as pipe
 use Rattle.thes_base.specs.declared.pipe.Pipe.{Pipe}
 use Rattle.thes_tables.specs.Cells.{Raw}
 use Rattle.thes_core.specs.declared.reading.Sizes.{Sizes}
-use Rattle.thes_office.specs.Asks.{InShown}
-use Rattle.thes_office.specs.Office.{Goes, Kept, Same}
+use Rattle.thes_office.specs.QueryFrames.{InStateOfTables}
+use Rattle.thes_office.specs.Office.{FaultBehaviour, OfficeView, SameTables}
 use Rattle.thes_cli.specs.Ending.{fault_line, sizes_line}
-use Rattle.thes_cli.specs.Parting.{PrintsError, PrintsText}
+use Rattle.thes_cli.specs.EarlyExit.{PrintsError, PrintsText}
 
--- how much a state holds
+-- The sizes of a state.
 abbrev pub sizes_of : State → Sizes
 sizes_of s = record {
   resources = length s.resources;
@@ -25,29 +25,32 @@ sizes_of s = record {
   moves = move_count s.histories;
 }
 
--- how much an empty store holds
+-- The sizes of the empty state.
 abbrev pub no_sizes : Sizes
 no_sizes = record { resources = 0; labels = 0; links = 0; accepted = 0; withdrawn = 0; moves = 0 }
 
 module _ {W E : Type 0} (out : W → Option (List ℕ)) (err : E → Option (List ℕ))
     (output output' : Pipe W) (errors errors' : Pipe E) where
-  -- the sizes are told, or that there is no memory for that; or the fault that kept them from being known
-  abbrev pub TellsSizes : Result Sizes Fault → ℕ → Type 0
-  TellsSizes (Ok sizes) status =
+  -- The sizes are printed; or the fault that prevented it is.
+  abbrev pub ReportsSizes : Result Sizes Fault → ℕ → Type 0
+  ReportsSizes (Ok sizes) status =
       PrintsText out err output output' errors errors' (sizes_line sizes) status
       ⊎ PrintsError out err output output' errors errors' (fault_line (pipe.Fault OutOfMemory)) 3 status
-  TellsSizes (Err f) status = PrintsError out err output output' errors errors' (fault_line (pipe.Fault f)) 3 status
+  ReportsSizes (Err f) status = PrintsError out err output output' errors errors' (fault_line (pipe.Fault f)) 3 status
 
 module _ {K : Type 0} (rows : K → Raw) (is_up : K → Type 0) (failed : K → ℕ) where
-  -- The sizes are those of the state that the tables show. They stay.
-  pub record FindsSizes (before : Kept K) (result : Result Sizes Fault) (after : Kept K) : Type 0 where
-    pub goes : Goes rows is_up failed before after result
-    pub same : Same rows is_up before after
-    pub sizes : IfOk result (λ z. is_up after.keeper → InShown (rows after.keeper) (λ s. z ≡ sizes_of s))
+  -- The sizes are those of the state that the tables show, which stay as they were.
+  pub record FindsSizes (old_office : OfficeView K) (result : Result Sizes Fault) (new_office : OfficeView K) : Type
+      0 where
+    pub goes : FaultBehaviour rows is_up failed old_office new_office result
+    pub same : SameTables rows is_up old_office new_office
+    pub sizes : IfOk result (λ z. is_up new_office.keeper → InStateOfTables (rows new_office.keeper)
+        (λ s. z ≡ sizes_of s))
 
-  -- How much the store holds was told.
+  -- The command `check`: the sizes of the store are printed.
   pub record ChecksStore {W E : Type 0} (out : W → Option (List ℕ)) (err : E → Option (List ℕ))
-      (before : Kept K) (output output' : Pipe W) (errors errors' : Pipe E) (status : ℕ) (after : Kept K) : Type 0 where
+      (old_office : OfficeView K) (output output' : Pipe W) (errors errors' : Pipe E) (status : ℕ)
+      (new_office : OfficeView K) : Type 0 where
     pub result : Result Sizes Fault
-    pub finds : FindsSizes before result after
-    pub told : TellsSizes out err output output' errors errors' result status
+    pub finds : FindsSizes old_office result new_office
+    pub reports : ReportsSizes out err output output' errors errors' result status

@@ -1,26 +1,26 @@
--- The options and the commands of the program.
+-- The options and commands of the program.
 use Rattle.std.specs.Prelude.{ℕ, List, [], ◌∷◌, Some, true, codes, fold}
 use Rattle.clap.specs.Simple.{on_top}
 use Rattle.clap.specs.Words.{App, Rule, Text, new_app, new_rule, with_rule, with_subcommand}
 use Rattle.clap.specs.declared.builder.value_parser.ValueParser.TheVariants.{Unsigned}
 
--- an option that takes one value
+-- An option that takes one value.
 abbrev pub option : Text → Rule
 option name = record (new_rule name) { long = Some name; value_names = 1 }
 
--- an option that takes a number, from 1 up to the most
+-- An option that takes a number from 1 to `most`.
 abbrev pub number : Text → ℕ → Rule
 number name most = record (option name) { parser = Some (Unsigned 1 most) }
 
--- an option or word that has to be given
-abbrev pub wanted : Rule → Rule
-wanted rule = record rule { required = true }
+-- An option or argument that is required.
+abbrev pub required_rule : Rule → Rule
+required_rule rule = record rule { required = true }
 
--- the word that names a file
+-- The argument that names a file.
 abbrev pub file : Rule
-file = wanted (record (new_rule (codes "file")) { value_names = 1 })
+file = required_rule (record (new_rule (codes "file")) { value_names = 1 })
 
--- a command with no options of its own
+-- A command without options of its own.
 abbrev pub command : Text → App
 command name = new_app name
 
@@ -29,14 +29,15 @@ import = with_rule (command (codes "import")) file
 
 abbrev pub display : Text → App
 display name =
-    with_rule (with_rule (command name) (wanted (option (codes "scheme")))) (wanted (option (codes "lang")))
+    with_rule (with_rule (command name) (required_rule (option (codes "scheme"))))
+    (required_rule (option (codes "lang")))
 
 abbrev pub serve : App
 serve =
-    with_rule (with_rule (command (codes "serve")) (wanted (number (codes "port") 65535)))
+    with_rule (with_rule (command (codes "serve")) (required_rule (number (codes "port") 65535)))
     (number (codes "count") 4294967295)
 
--- the program has two options and a version, and wants a command
+-- The program: two options, a version, and a required command.
 abbrev pub options : App
 options =
     with_rule

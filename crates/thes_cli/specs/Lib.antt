@@ -1,5 +1,5 @@
 pub mod Ending
-pub mod Parting
+pub mod EarlyExit
 pub mod Commands
 pub mod CommandLine
 pub mod Streams
@@ -13,3 +13,4 @@ pub mod Serving
 pub mod Migrating
 pub mod Work
 pub mod Stores
+pub mod Passing

@@ -1,16 +1,16 @@
--- A store that is opened by an office over its keeper.
+-- The opening of a store by an office over its keeper.
 use Rattle.std.specs.Prelude.{◌≡◌, ◌⊎◌, ◌<◌, ℕ, List, Err}
 use Rattle.thes_base.specs.declared.data.Limits.{Limits}
 use Rattle.thes_base.specs.declared.fault.Fault.{Fault}
 use Rattle.thes_base.specs.declared.fault.Fault.TheVariants.{OutOfMemory, Store}
 use Rattle.thes_base.specs.State.{State}
 use Rattle.thes_tables.specs.Cells.{Raw}
-use Rattle.thes_store.specs.Causes.{most}
-use Rattle.thes_load_rules.specs.Loads.{Loads}
-use Rattle.thes_office.specs.Office.{Kept}
-use Rattle.thes_office.specs.Shows.{Shows}
+use Rattle.thes_store.specs.Causes.{max_failures}
+use Rattle.thes_load_rules.specs.Verdicts.{HasVerdict}
+use Rattle.thes_office.specs.Office.{OfficeView}
+use Rattle.thes_office.specs.TablesOfState.{TablesOfState}
 
--- the limits of a store that is given none
+-- The default limits of a store.
 abbrev pub default_limits : Limits
 default_limits = record {
   resources = 20000;
@@ -20,19 +20,20 @@ default_limits = record {
   moves = 1000000;
 }
 
--- so it is of every state that the rows show, with its base
+-- The property `P` holds of each base and state that the rows show.
 abbrev pub InStore : Raw → (List ℕ → State → Type 0) → Type 0
-InStore raw P = (base : List ℕ) (s : State) → Shows raw base s → P base s
+InStore raw P = (base : List ℕ) (s : State) → TablesOfState raw base s → P base s
 
 module _ {K : Type 0} (rows : K → Raw) (is_up : K → Type 0) (failed : K → ℕ) where
-  -- The office is over the keeper's tables, which show a state.
-  pub record IsOpened (keeper : K) (office : Kept K) : Type 0 where
+  -- The office is opened over the keeper's tables, and they show a state.
+  pub record IsOpened (keeper : K) (office : OfficeView K) : Type 0 where
     pub limits : office.limits ≡ default_limits
     pub same : is_up office.keeper → rows office.keeper ≡ rows keeper
-    pub shows : is_up office.keeper → (base : List ℕ) × (s : State) × Shows (rows office.keeper) base s
+    pub shows : is_up office.keeper → (base : List ℕ) × (s : State) × TablesOfState (rows office.keeper) base s
 
-  -- Memory ran out, the keeper failed, or this is the verdict on its rows. They stay.
+  -- The store isn't opened: memory ran out, the keeper failed, or the fault is the verdict on its rows; they stay as
+  -- they were.
   pub record IsUnopened (keeper : K) (fault : Fault) (back : K) : Type 0 where
     pub same : is_up back → rows back ≡ rows keeper
-    pub verdict : is_up back → (fault ≡ OutOfMemory) ⊎ (fault ≡ Store) ⊎ Loads (rows keeper) (Err fault)
-    pub store : fault ≡ Store → (failed keeper < failed back) ⊎ (failed keeper ≡ most)
+    pub verdict : is_up back → (fault ≡ OutOfMemory) ⊎ (fault ≡ Store) ⊎ HasVerdict (rows keeper) (Err fault)
+    pub store : fault ≡ Store → (failed keeper < failed back) ⊎ (failed keeper ≡ max_failures)

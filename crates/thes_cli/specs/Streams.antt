@@ -1,4 +1,4 @@
--- The streams that the program is started with.
+-- The standard streams of the program.
 use Rattle.thes_base.specs.declared.pipe.Pipe.{Pipe}
 
 pub record Streams (R W E : Type 0) : Type 0 where

@@ -1,12 +1,12 @@
-//! How much a store holds.
+//! Prints the sizes of a store.
 ghost use Rattle.std.specs.Prelude.{◌≡◌, false};
 ghost use Rattle.thes_base.specs.Pipe.{IsFresh};
 ghost use Rattle.thes_base.specs.State.{State};
-ghost use Rattle.thes_core.specs.Kept.{Holds};
-ghost use Rattle.thes_cli.specs.Checking.{sizes_of, ChecksStore, FindsSizes, TellsSizes};
+ghost use Rattle.thes_core.specs.CoreView.{IsViewOf};
+ghost use Rattle.thes_cli.specs.Checking.{sizes_of, ChecksStore, FindsSizes, ReportsSizes};
 ghost use Rattle.thes_cli.specs.Streams.{streams};
 
-use crate::ending::{print_out, sizes_line, tell};
+use crate::ending::{print_out, report_fault, sizes_line};
 use std::alloc::Global;
 use std::io::Write;
 use thes_base::fault::{Fault, PipeFault};
@@ -16,24 +16,24 @@ use thes_core::reading::Sizes;
 use thes_office::Office;
 use thes_store::keeper::Keeper;
 
-// How much the state holds that a core holds.
-fn sizes_held(core: &Core) -> Sizes
+// Returns the sizes of the state that the core holds.
+fn core_sizes(core: &Core) -> Sizes
     requires { core.now.spent ≡ false }
-    ensures { (s : State) → Holds core.now s → result ≡ sizes_of s }
+    ensures { (s : State) → IsViewOf core.now s → result ≡ sizes_of s }
 {
     core.sizes()
 }
 
-// How much the tables of an office hold.
-fn sizes_ready<K: Keeper>(office: &mut Office<K>) -> Result<Sizes, Fault>
+// Returns the sizes of the state that the office's tables show.
+fn office_sizes<K: Keeper>(office: &mut Office<K>) -> Result<Sizes, Fault>
     ensures { FindsSizes K.rows K.is_up K.failed office.old result office.new }
 {
     let core = office.ready()?;
-    Ok(sizes_held(core))
+    Ok(core_sizes(core))
 }
 
-// Prints the sizes, or the fault that kept them from being known, and returns the status.
-fn tell_sizes<W: Write, E: Write>(
+// Prints the sizes or the fault, and returns the exit status.
+fn report_sizes<W: Write, E: Write>(
     alloc: Global,
     sizes: Result<Sizes, Fault>,
     output: &mut Pipe<W>,
@@ -41,19 +41,20 @@ fn tell_sizes<W: Write, E: Write>(
 ) -> u8
     requires output { IsFresh output.old }
     requires errors { IsFresh errors.old }
-    ensures { TellsSizes W.contents E.contents output.old output.new errors.old errors.new sizes result }
+    ensures { ReportsSizes W.contents E.contents output.old output.new errors.old errors.new sizes
+        result }
 {
     let sizes = match sizes {
         Ok(sizes) => sizes,
-        Err(fault) => return tell(errors, PipeFault::Fault(fault)),
+        Err(fault) => return report_fault(errors, PipeFault::Fault(fault)),
     };
     match sizes_line(alloc, &sizes) {
         Ok(line) => print_out(output, errors, line.as_bytes()),
-        Err(_) => tell(errors, PipeFault::Fault(Fault::OutOfMemory)),
+        Err(_) => report_fault(errors, PipeFault::Fault(Fault::OutOfMemory)),
     }
 }
 
-/// Tells how much the store holds, and returns the status.
+/// Prints the sizes of the store, and returns the exit status.
 pub fn check_store<K: Keeper, W: Write, E: Write>(
     alloc: Global,
     office: &mut Office<K>,
@@ -62,9 +63,9 @@ pub fn check_store<K: Keeper, W: Write, E: Write>(
 ) -> u8
     requires output { IsFresh output.old }
     requires errors { IsFresh errors.old }
-    ensures { ChecksStore K.rows K.is_up K.failed W.contents E.contents office.old output.old output.new
-        errors.old errors.new result office.new }
+    ensures { ChecksStore K.rows K.is_up K.failed W.contents E.contents office.old output.old
+        output.new errors.old errors.new result office.new }
 {
-    let sizes = sizes_ready(office);
-    tell_sizes(alloc, sizes, output, errors)
+    let sizes = office_sizes(office);
+    report_sizes(alloc, sizes, output, errors)
 }

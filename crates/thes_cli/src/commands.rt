@@ -1,4 +1,4 @@
-//! The options and the commands of the program, and its help.
+//! The options, commands and help of the program.
 ghost use Rattle.std.specs.Prelude.{◌≡◌, false, IfOk};
 ghost use Rattle.clap.specs.Words.{app_of, rule_of};
 ghost use Rattle.clap.specs.declared.builder.command.Command.TheViews.{out-Command as fields_of};
@@ -8,12 +8,12 @@ use clap::builder::ValueParser;
 use clap::{Arg, Command};
 use std::alloc::{AllocError, Global};
 
-const VERSION: &str = "0.1";
+const VERSION: &str = "0.2";
 
 const ABOUT: &str = "Maintains thesauri and the postings of catalogue records to their concepts.";
 
 const DB: &str =
-    "The file that keeps the store; without one it lives in memory, as long as the program";
+    "The file that keeps the store; without one it is in memory while the program runs";
 
 const BASE_HELP: &str =
     "What the IRIs of a new store begin with [default: https://thesaurus.example/id/]";
@@ -47,54 +47,28 @@ const MIGRATE: &str = "Makes a store of version 1 one of version 2, and prints t
 
 const EXAMPLE: &str = "\
 An example. Each line of the script is a request, and gets one line as its answer. The store is kept in
-museum.db, which is made where it isn't there yet:
+museum.db, which is made if it doesn't exist:
 
   thesaurus --db museum.db script <<'END'
   {\"do\":\"scheme\",\"tag\":\"en\",\"text\":\"Animals\"}
   {\"do\":\"concept\",\"scheme\":1,\"tag\":\"en\",\"text\":\"Cats\"}
   {\"do\":\"concept\",\"scheme\":1,\"tag\":\"en\",\"text\":\"Mammals\"}
+  {\"do\":\"link\",\"kind\":\"broader\",\"a\":2,\"b\":3}
   {\"do\":\"post\",\"key\":\"k1\",\"record\":\"r1\",\"concept\":2}
-  {\"do\":\"merge\",\"source\":2,\"target\":3}
   END
 
   {\"ok\":1}
   {\"ok\":2}
   {\"ok\":3}
+  {\"done\":true}
   {\"ok\":1}
-  {\"moved\":1}
 
-Tomorrow it is all still there:
+  thesaurus --db museum.db hierarchical --scheme 1 --lang en
 
-  thesaurus --db museum.db script <<'END'
-  {\"get\":\"posting\",\"number\":1}
-  END
-
-  {\"first\":2,\"key\":\"k1\",\"moves\":[[1,2,3]],\"number\":1,\"place\":3,\"record\":\"r1\",\"withdrawn\":false}
-
-The terms in alphabetical order, where one that was merged leads to the other; the command hierarchical
-prints them as a tree:
-
-  thesaurus --db museum.db alphabetical --scheme 1 --lang en
-
-  Cats
-    USE Mammals
   Mammals
-    UF Cats
+    Cats
 
-Postings of a CSV file, each performed once, however often the file comes:
-
-  printf 'key,record,concept\\nk1,r1,2\\nk2,r2,3\\n' > postings.csv
-  thesaurus --db museum.db import postings.csv
-
-  row,outcome,number
-  1,again,1
-  2,new,2
-
-All SKOS triples as N-Triples; and the same store for other programs on this machine, at
-http://127.0.0.1:8080/:
-
-  thesaurus --db museum.db export > museum.nt
-  thesaurus --db museum.db serve --port 8080
+Each command has an example of its own: thesaurus COMMAND --help
 
 Exit status:
   0  done
@@ -103,9 +77,89 @@ Exit status:
   2  the command line is wrong
   3  a fault, printed on standard error as 'thesaurus: fault NAME'
 
-docs/REQUESTS.md of the repository tells of every request and its answers, docs/OPERATING.md of files and faults, README.md of all else.";
+In the repository, docs/REQUESTS.md describes each request and its answers, docs/OPERATING.md files and
+faults.";
 
-// An option that takes one value.
+const SCRIPT_EXAMPLE: &str = "\
+An example. A merge takes the postings of its source along, and they show the move:
+
+  thesaurus --db museum.db script <<'END'
+  {\"do\":\"merge\",\"source\":2,\"target\":3}
+  {\"get\":\"posting\",\"number\":1}
+  END
+
+  {\"moved\":1}
+  {\"first\":2,\"key\":\"k1\",\"moves\":[[1,2,3]],\"number\":1,\"place\":3,\"record\":\"r1\",\"withdrawn\":false}
+
+Options before the command, as --db, choose the store: thesaurus --help lists them.";
+
+const IMPORT_EXAMPLE: &str = "\
+An example. Each posting is performed once, however often its file is imported:
+
+  printf 'key,record,concept\\nk1,r1,2\\nk2,r2,3\\n' > postings.csv
+  thesaurus --db museum.db import postings.csv
+
+  row,outcome,number
+  1,again,1
+  2,new,2
+
+Options before the command, as --db, choose the store: thesaurus --help lists them.";
+
+const EXPORT_EXAMPLE: &str = "\
+An example. The triples of the whole store, for other programs:
+
+  thesaurus --db museum.db export > museum.nt
+
+Options before the command, as --db, choose the store: thesaurus --help lists them.";
+
+const ALPHABETICAL_EXAMPLE: &str = "\
+An example. A term that was merged into another one refers to it:
+
+  thesaurus --db museum.db alphabetical --scheme 1 --lang en
+
+  Cats
+    USE Mammals
+  Mammals
+    UF Cats
+
+Options before the command, as --db, choose the store: thesaurus --help lists them.";
+
+const HIERARCHICAL_EXAMPLE: &str = "\
+An example. Narrower terms are indented below broader ones; a term that was merged isn't shown:
+
+  thesaurus --db museum.db hierarchical --scheme 1 --lang en
+
+  Mammals
+
+Options before the command, as --db, choose the store: thesaurus --help lists them.";
+
+const SERVE_EXAMPLE: &str = "\
+An example. The store for other programs on this machine, at http://127.0.0.1:8080/; docs/HTTP.md in the
+repository lists the paths:
+
+  thesaurus --db museum.db serve --port 8080
+
+Options before the command, as --db, choose the store: thesaurus --help lists them.";
+
+const CHECK_EXAMPLE: &str = "\
+An example. A store that breaks a rule is reported by its first faulty table:
+
+  thesaurus --db museum.db check
+
+  ok resources=3 labels=4 links=0 accepted=2 withdrawn=0 moves=1
+
+Options before the command, as --db, choose the store: thesaurus --help lists them.";
+
+const MIGRATE_EXAMPLE: &str = "\
+An example. A store that has version 2 already stays as it is:
+
+  thesaurus --db museum.db migrate
+
+  version 2
+
+Options before the command, as --db, choose the store: thesaurus --help lists them.";
+
+// Makes an option that takes one value.
 fn option<'a>(alloc: Global, name: &'a str, value: &'a str, help: &'a str) -> Arg<'a>
     ensures rule { rule_of result ≡ line.option name.now }
     ensures local { result.global ≡ false }
@@ -116,7 +170,7 @@ fn option<'a>(alloc: Global, name: &'a str, value: &'a str, help: &'a str) -> Ar
         .help(help)
 }
 
-// An option that takes a number, from 1 up to the most.
+// Makes an option that takes a number from 1 to `most`.
 fn number<'a>(alloc: Global, name: &'a str, most: u64, help: &'a str) -> Arg<'a>
     ensures rule { rule_of result ≡ line.number name.now most }
     ensures local { result.global ≡ false }
@@ -124,7 +178,7 @@ fn number<'a>(alloc: Global, name: &'a str, most: u64, help: &'a str) -> Arg<'a>
     option(alloc, name, "N", help).value_parser(ValueParser::Unsigned(1, most))
 }
 
-// The word that names a file.
+// Makes the required argument that names a file.
 fn file<'a>(alloc: Global) -> Arg<'a>
     ensures rule { rule_of result ≡ line.file }
     ensures local { result.global ≡ false }
@@ -135,43 +189,48 @@ fn file<'a>(alloc: Global) -> Arg<'a>
         .required(true)
 }
 
-// A command with no options of its own.
-fn command<'a>(alloc: Global, name: &'a str, about: &'a str) -> Command<'a>
+// Makes a command without options of its own.
+fn command<'a>(alloc: Global, name: &'a str, about: &'a str, example: &'a str) -> Command<'a>
     ensures app { app_of result ≡ line.command name.now }
     ensures local { (fields_of result).has_globals ≡ false }
 {
-    Command::new(alloc, name).about(about).after_help(EXAMPLE)
+    Command::new(alloc, name).about(about).after_help(example)
 }
 
-// The command that performs a posting file.
+// Makes the command `import`.
 fn import<'a>(alloc: Global) -> Result<Command<'a>, AllocError>
     ensures app { IfOk result (λ c. app_of c ≡ line.import) }
     ensures local { IfOk result (λ c. (fields_of c).has_globals ≡ false) }
 {
-    command(alloc, "import", IMPORT).arg(file(alloc))
+    command(alloc, "import", IMPORT, IMPORT_EXAMPLE).arg(file(alloc))
 }
 
-// A command that prints a display.
-fn display<'a>(alloc: Global, name: &'a str, about: &'a str) -> Result<Command<'a>, AllocError>
+// Makes a command that prints a display.
+fn display<'a>(
+    alloc: Global,
+    name: &'a str,
+    about: &'a str,
+    example: &'a str,
+) -> Result<Command<'a>, AllocError>
     ensures app { IfOk result (λ c. app_of c ≡ line.display name.now) }
     ensures local { IfOk result (λ c. (fields_of c).has_globals ≡ false) }
 {
-    command(alloc, name, about)
+    command(alloc, name, about, example)
         .arg(option(alloc, "scheme", "N", SCHEME).required(true))?
         .arg(option(alloc, "lang", "TAG", LANG).required(true))
 }
 
-// The command that serves connections.
+// Makes the command `serve`.
 fn serve<'a>(alloc: Global) -> Result<Command<'a>, AllocError>
     ensures app { IfOk result (λ c. app_of c ≡ line.serve) }
     ensures local { IfOk result (λ c. (fields_of c).has_globals ≡ false) }
 {
-    command(alloc, "serve", SERVE)
+    command(alloc, "serve", SERVE, SERVE_EXAMPLE)
         .arg(number(alloc, "port", 65_535, PORT).required(true))?
         .arg(number(alloc, "count", 4_294_967_295, COUNT))
 }
 
-// The program with its options, and no command yet.
+// Makes the program with its options, before any command is added.
 fn options<'a>(alloc: Global) -> Result<Command<'a>, AllocError>
     ensures { IfOk result (λ c. app_of c ≡ line.options) }
 {
@@ -191,12 +250,12 @@ pub fn program<'a>(alloc: Global) -> Result<Command<'a>, AllocError>
     ensures { IfOk result (λ program. app_of program ≡ line.program) }
 {
     options(alloc)?
-        .subcommand(command(alloc, "script", SCRIPT))?
+        .subcommand(command(alloc, "script", SCRIPT, SCRIPT_EXAMPLE))?
         .subcommand(import(alloc)?)?
-        .subcommand(command(alloc, "export", EXPORT))?
-        .subcommand(display(alloc, "alphabetical", ALPHABETICAL)?)?
-        .subcommand(display(alloc, "hierarchical", HIERARCHICAL)?)?
+        .subcommand(command(alloc, "export", EXPORT, EXPORT_EXAMPLE))?
+        .subcommand(display(alloc, "alphabetical", ALPHABETICAL, ALPHABETICAL_EXAMPLE)?)?
+        .subcommand(display(alloc, "hierarchical", HIERARCHICAL, HIERARCHICAL_EXAMPLE)?)?
         .subcommand(serve(alloc)?)?
-        .subcommand(command(alloc, "check", CHECK))?
-        .subcommand(command(alloc, "migrate", MIGRATE))
+        .subcommand(command(alloc, "check", CHECK, CHECK_EXAMPLE))?
+        .subcommand(command(alloc, "migrate", MIGRATE, MIGRATE_EXAMPLE))
 }

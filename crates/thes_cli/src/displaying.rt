@@ -1,13 +1,13 @@
-//! A display of a scheme of a store in a language.
+//! Writes a display of a scheme in a language.
 ghost use Rattle.std.specs.Prelude.{◌≡◌, false, Ok, IfOk, IfErr};
-ghost use Rattle.thes_base.specs.Pipe.{IsFresh, KeepsCalls};
+ghost use Rattle.thes_base.specs.Pipe.{IsFresh, KeepsCallLimit};
 ghost use Rattle.thes_base.specs.State.{State};
-ghost use Rattle.thes_core.specs.Kept.{Holds};
-ghost use Rattle.thes_display.specs.Shown.{IsShown, IsStopped};
+ghost use Rattle.thes_core.specs.CoreView.{IsViewOf};
+ghost use Rattle.thes_display.specs.DisplayWrites.{IsDisplayWritten, IsDisplayStopped};
 ghost use Rattle.thes_service.specs.Service.{IsDisplay};
-ghost use Rattle.thes_cli.specs.Displaying.{DisplaysStore, EndsShown, ShowsDisplay};
+ghost use Rattle.thes_cli.specs.Displaying.{DisplaysStore, EndsDisplay, WritesDisplay};
 
-use crate::ending::{print_error, refusal_line, tell};
+use crate::ending::{print_error, refusal_line, report_fault};
 use std::alloc::Global;
 use std::io::Write;
 use thes_base::fault::PipeFault;
@@ -15,29 +15,29 @@ use thes_base::number::ResNo;
 use thes_base::pipe::Pipe;
 use thes_base::text::Tag;
 use thes_core::Core;
-use thes_display::shown::{Shown, alphabetical, hierarchical};
+use thes_display::writing::{DisplayOutcome, alphabetical, hierarchical};
 use thes_http::service::Display;
 use thes_office::Office;
 use thes_store::keeper::Keeper;
 
-// Writes a display of the state that a core holds.
-fn write_held<W: Write>(
+// Writes a display of the state that the core holds.
+fn write_core_display<W: Write>(
     alloc: Global,
     core: &Core,
     display: Display,
     scheme: ResNo,
     tag: &Tag,
     output: &mut Pipe<W>,
-) -> Result<Shown, PipeFault>
+) -> Result<DisplayOutcome, PipeFault>
     requires unspent { core.now.spent ≡ false }
     requires output { IsFresh output.old }
-    ensures shown { (s : State) → Holds core.now s →
+    ensures shown { (s : State) → IsViewOf core.now s →
         let is_text = IsDisplay display scheme tag.now s in
-        IfOk result (IsShown W.contents s.resources scheme is_text output.old output.new) }
-    ensures stopped { (s : State) → Holds core.now s →
+        IfOk result (IsDisplayWritten W.contents s.resources scheme is_text output.old output.new) }
+    ensures stopped { (s : State) → IsViewOf core.now s →
         let is_text = IsDisplay display scheme tag.now s in
-        IfErr result (IsStopped W.contents is_text output.old output.new) }
-    ensures calls { KeepsCalls output.old output.new }
+        IfErr result (IsDisplayStopped W.contents is_text output.old output.new) }
+    ensures calls { KeepsCallLimit output.old output.new }
 {
     match display {
         Display::Alphabetical => alphabetical(alloc, core, scheme, tag, output),
@@ -45,7 +45,7 @@ fn write_held<W: Write>(
     }
 }
 
-// Writes a display of the state that the tables show.
+// Writes a display of the state that the office's tables show.
 fn write_display<K: Keeper, W: Write>(
     alloc: Global,
     office: &mut Office<K>,
@@ -53,41 +53,41 @@ fn write_display<K: Keeper, W: Write>(
     scheme: ResNo,
     tag: &Tag,
     output: &mut Pipe<W>,
-) -> Result<Shown, PipeFault>
+) -> Result<DisplayOutcome, PipeFault>
     requires { IsFresh output.old }
-    ensures { ShowsDisplay K.rows K.is_up K.failed W.contents display scheme tag.now office.old output.old
-        result office.new output.new }
+    ensures { WritesDisplay K.rows K.is_up K.failed W.contents display scheme tag.now office.old
+        output.old result office.new output.new }
 {
     let core = office.ready()?;
-    write_held(alloc, core, display, scheme, tag, output)
+    write_core_display(alloc, core, display, scheme, tag, output)
 }
 
-// Tells what became of a display, and returns the status.
-fn tell_done<E: Write>(errors: &mut Pipe<E>, shown: Shown) -> u8
+// Prints the refusal, if there is one, and returns the exit status.
+fn report_outcome<E: Write>(errors: &mut Pipe<E>, shown: DisplayOutcome) -> u8
     requires { IsFresh errors.old }
-    ensures { EndsShown E.contents errors.old errors.new (Ok shown) result }
+    ensures { EndsDisplay E.contents errors.old errors.new (Ok shown) result }
 {
     match shown {
-        Shown::Written => 0,
-        Shown::No(refusal) => {
+        DisplayOutcome::Written => 0,
+        DisplayOutcome::No(refusal) => {
             print_error(errors, refusal_line(refusal).as_bytes());
             1
         }
     }
 }
 
-// Tells how a display ended, and returns the status.
-fn tell_shown<E: Write>(errors: &mut Pipe<E>, shown: Result<Shown, PipeFault>) -> u8
+// Prints the refusal or the fault, if there is one, and returns the exit status.
+fn report_display<E: Write>(errors: &mut Pipe<E>, shown: Result<DisplayOutcome, PipeFault>) -> u8
     requires { IsFresh errors.old }
-    ensures { EndsShown E.contents errors.old errors.new shown result }
+    ensures { EndsDisplay E.contents errors.old errors.new shown result }
 {
     match shown {
-        Ok(shown) => tell_done(errors, shown),
-        Err(fault) => tell(errors, fault),
+        Ok(shown) => report_outcome(errors, shown),
+        Err(fault) => report_fault(errors, fault),
     }
 }
 
-/// Writes a display of a scheme in a language, and returns the status.
+/// Writes a display of a scheme in a language, and returns the exit status.
 pub fn display_store<K: Keeper, W: Write, E: Write>(
     alloc: Global,
     office: &mut Office<K>,
@@ -103,5 +103,5 @@ pub fn display_store<K: Keeper, W: Write, E: Write>(
         office.old output.old output.new errors.old errors.new result office.new }
 {
     let shown = write_display(alloc, office, display, scheme, tag, output);
-    tell_shown(errors, shown)
+    report_display(errors, shown)
 }

@@ -1,13 +1,13 @@
-//! How the program ends after a script.
+//! The lines and the exit status with which the program ends.
 ghost use Rattle.std.specs.Prelude.{◌≡◌, ◌⊎◌, ◌++◌, true, string_bytes, IfOk, OnOk, MatchBool, MatchOption, option_copied};
 ghost use Rattle.std.specs.Io.KnownBytes.{Appends};
-ghost use Rattle.thes_base.specs.Pipe.{IsFresh, failed_of, denied_of, written, AppendsFront};
+ghost use Rattle.thes_base.specs.Pipe.{IsFresh, failed_of, denied_of, written_bytes, AppendsPrefix};
 ghost use Rattle.thes_cli.specs.Ending as ends;
-ghost use Rattle.thes_cli.specs.Ending.{Prints, TellsAt, TellsOf};
+ghost use Rattle.thes_cli.specs.Ending.{Prints, ReportsFaultAt, ReportsStoreFault};
 ghost use Rattle.thes_base.specs.declared.fault.PipeFault.TheVariants as faults;
 ghost use Rattle.thes_cli.specs.Displaying as showing;
-ghost use Rattle.thes_cli.specs.Parting as parting;
-ghost use Rattle.thes_cli.specs.Parting.{PrintsText};
+ghost use Rattle.thes_cli.specs.EarlyExit as early_exit;
+ghost use Rattle.thes_cli.specs.EarlyExit.{PrintsText};
 
 use arrayvec::ArrayString;
 use itoa::Buffer;
@@ -16,11 +16,11 @@ use std::io::Write;
 use thes_base::fault::{Fault, FormFault, PipeFault, Refusal};
 use thes_base::pipe::{Budget, Pipe};
 use thes_core::reading::Sizes;
-use thes_exchange::line::Line;
+use thes_exchange::line::ShortLine;
 use thes_exchange::script::Ended;
-use thes_importer::report::Counts;
+use thes_import::report::Counts;
 
-// The fault to tell: the one that stopped the script, or else the last one that was answered.
+// Returns the fault that stopped the script, or else the last one among its answers.
 fn last_fault(ended: &Result<Ended, PipeFault>) -> Option<PipeFault>
     ensures { result ≡ ends.last_fault ended.now }
 {
@@ -30,7 +30,7 @@ fn last_fault(ended: &Result<Ended, PipeFault>) -> Option<PipeFault>
     }
 }
 
-// The program's exit status.
+// Returns the exit status after a script.
 fn status_of(ended: &Result<Ended, PipeFault>) -> u8
     ensures { result ≡ ends.status_of ended.now }
 {
@@ -40,11 +40,11 @@ fn status_of(ended: &Result<Ended, PipeFault>) -> u8
     }
 }
 
-// The line of a fault.
-fn fault_line(fault: PipeFault) -> Line
+// Returns the line of a fault.
+fn fault_line(fault: PipeFault) -> ShortLine
     ensures { result ≡ ends.fault_line fault }
 {
-    let mut line = Line::of("thesaurus: fault ");
+    let mut line = ShortLine::from_text("thesaurus: fault ");
     line.push(fault.name());
     if let PipeFault::Fault(Fault::BadStore(table)) = fault {
         line.push(" ");
@@ -54,27 +54,27 @@ fn fault_line(fault: PipeFault) -> Line
     line
 }
 
-/// Makes the line of a refusal.
-pub fn refusal_line(refusal: Refusal) -> Line
+/// Returns the line of a refusal.
+pub fn refusal_line(refusal: Refusal) -> ShortLine
     ensures { result ≡ showing.refusal_line refusal }
 {
-    let mut line = Line::of("thesaurus: ");
+    let mut line = ShortLine::from_text("thesaurus: ");
     line.push(refusal.name());
     line.push("\n");
     line
 }
 
-/// Makes the line of a form's fault.
-pub fn form_line(fault: FormFault) -> Line
-    ensures { result ≡ parting.form_line fault }
+/// Returns the line of a form's fault.
+pub fn form_line(fault: FormFault) -> ShortLine
+    ensures { result ≡ early_exit.form_line fault }
 {
-    let mut line = Line::of("thesaurus: ");
+    let mut line = ShortLine::from_text("thesaurus: ");
     line.push(fault.name());
     line.push("\n");
     line
 }
 
-/// Makes the line that tells how many rows of an import were new, again and refused.
+/// Returns the line of an import's counts.
 pub fn counts_line(counts: Counts) -> ArrayString<96>
     ensures { result.bytes ≡ ends.counts_line counts }
 {
@@ -89,40 +89,42 @@ pub fn counts_line(counts: Counts) -> ArrayString<96>
     line
 }
 
-/// Prints a text, and says whether all of it was written.
+/// Prints a text, and returns whether all of it was written.
 pub fn print<W: Write>(writer: &mut Pipe<W>, text: &[u8]) -> bool
     requires { IsFresh writer.old }
-    ensures { MatchBool result (Appends (written W.contents writer.old)
-        (written W.contents writer.new) text.now)
-        (AppendsFront (written W.contents writer.old) (written W.contents writer.new) text.now
+    ensures { MatchBool result (Appends (written_bytes W.contents writer.old)
+        (written_bytes W.contents writer.new) text.now)
+        (AppendsPrefix (written_bytes W.contents writer.old) (written_bytes W.contents writer.new) text.now
         × ((failed_of writer.new ≡ true) ⊎ (denied_of writer.new ≡ true))) }
 {
     writer.write_all(&mut Budget::new(), text).is_ok()
 }
 
-/// Prints a text to standard output, or the fault of its writer to standard error; and returns the status.
+/// Prints a text to standard output, or that this failed to standard error, and returns the exit status.
 pub fn print_out<W: Write, E: Write>(output: &mut Pipe<W>, errors: &mut Pipe<E>, text: &[u8]) -> u8
     requires output { IsFresh output.old }
     requires errors { IsFresh errors.old }
-    ensures { PrintsText W.contents E.contents output.old output.new errors.old errors.new text.now result }
+    ensures { PrintsText W.contents E.contents output.old output.new errors.old errors.new text.now
+        result }
 {
     if print(output, text) {
         0
     } else {
-        tell(errors, PipeFault::Write)
+        report_fault(errors, PipeFault::Write)
     }
 }
 
-// Adds the name of a size, and the number.
+// Appends the name of a size and the number.
 fn push_size(line: &mut String, name: &str, size: u64) -> Result<(), AllocError>
-    ensures { OnOk result (string_bytes line.new ≡ string_bytes line.old ++ ends.size_text name.now size) }
+    ensures { OnOk result
+        (string_bytes line.new ≡ string_bytes line.old ++ ends.size_text name.now size) }
 {
     line.push_str(name)?;
     line.push_str(Buffer::new().format(size))?;
     Ok(())
 }
 
-/// Makes the line that tells how much a store holds.
+/// Returns the line of a store's sizes.
 pub fn sizes_line(alloc: Global, sizes: &Sizes) -> Result<String, AllocError>
     ensures { IfOk result (λ line. string_bytes line ≡ ends.sizes_line sizes.now) }
 {
@@ -137,9 +139,10 @@ pub fn sizes_line(alloc: Global, sizes: &Sizes) -> Result<String, AllocError>
     Ok(line)
 }
 
-// The lines of a fault of the store in a file.
+// Returns the lines for a fault of the store in a file.
 fn fault_lines(alloc: Global, file: &str, fault: PipeFault) -> Result<Vec<u8>, AllocError>
-    ensures { IfOk result (λ lines. lines.items ≡ ends.file_line file.now ++ ends.fault_line fault) }
+    ensures { IfOk result
+        (λ lines. lines.items ≡ ends.file_line file.now ++ ends.fault_line fault) }
 {
     let mut lines = Vec::new(alloc);
     lines.extend_from_slice("thesaurus: store ".as_bytes())?;
@@ -149,7 +152,7 @@ fn fault_lines(alloc: Global, file: &str, fault: PipeFault) -> Result<Vec<u8>, A
     Ok(lines)
 }
 
-/// Prints a text, or a front of it where the writer stops.
+/// Prints a text to standard error, or a prefix of it where the writer fails.
 pub fn print_error<E: Write>(errors: &mut Pipe<E>, text: &[u8])
     requires { IsFresh errors.old }
     ensures { Prints E.contents errors.old errors.new text.now }
@@ -157,8 +160,8 @@ pub fn print_error<E: Write>(errors: &mut Pipe<E>, text: &[u8])
     print(errors, text);
 }
 
-// Prints a text that tells a fault, and returns the status for one.
-fn tell_text<E: Write>(errors: &mut Pipe<E>, text: &[u8]) -> u8
+// Prints the text of a fault, and returns the exit status 3.
+fn print_fault_text<E: Write>(errors: &mut Pipe<E>, text: &[u8]) -> u8
     requires { IsFresh errors.old }
     ensures text { Prints E.contents errors.old errors.new text.now }
     ensures status { result ≡ 3 }
@@ -167,64 +170,66 @@ fn tell_text<E: Write>(errors: &mut Pipe<E>, text: &[u8]) -> u8
     3
 }
 
-/// Prints a fault of the store in a file, after the file, and returns the status for it. Where there is no memory for both
-/// lines it prints the fault alone.
-pub fn tell_of<E: Write>(alloc: Global, errors: &mut Pipe<E>, file: &str, fault: Fault) -> u8
+/// Prints the fault of a store after the line of its file, and returns the exit status 3. Prints the fault alone where
+/// memory runs out.
+pub fn report_in_file<E: Write>(alloc: Global, errors: &mut Pipe<E>, file: &str, fault: Fault) -> u8
     requires { IsFresh errors.old }
-    ensures told { TellsOf E.contents errors.old errors.new file.now (faults.Fault fault) }
+    ensures reports { ReportsStoreFault E.contents errors.old errors.new file.now
+        (faults.Fault fault) }
     ensures status { result ≡ 3 }
 {
     let fault = PipeFault::Fault(fault);
     match fault_lines(alloc, file, fault) {
-        Ok(lines) => tell_text(errors, lines.as_slice()),
-        Err(_) => tell(errors, fault),
+        Ok(lines) => print_fault_text(errors, lines.as_slice()),
+        Err(_) => report_fault(errors, fault),
     }
 }
 
-/// Prints a fault of a store, after the file if it is in one, and returns the status for it.
-pub fn tell_at<E: Write>(
+/// Prints the fault of a store, after the line of its file if it has one, and returns the exit status 3.
+pub fn report_fault_at<E: Write>(
     alloc: Global,
     errors: &mut Pipe<E>,
     file: Option<&str>,
     fault: Fault,
 ) -> u8
     requires { IsFresh errors.old }
-    ensures told { TellsAt E.contents errors.old errors.new (option_copied file.entry) (faults.Fault fault) }
+    ensures reports { ReportsFaultAt E.contents errors.old errors.new (option_copied file.entry)
+        (faults.Fault fault) }
     ensures status { result ≡ 3 }
 {
     match file {
-        Some(file) => tell_of(alloc, errors, file, fault),
-        None => tell(errors, PipeFault::Fault(fault)),
+        Some(file) => report_in_file(alloc, errors, file, fault),
+        None => report_fault(errors, PipeFault::Fault(fault)),
     }
 }
 
-/// Prints a fault, and returns the status for it, which tells of the fault even where it can't be printed.
-pub fn tell<E: Write>(errors: &mut Pipe<E>, fault: PipeFault) -> u8
+/// Prints a fault, and returns the exit status 3, even if nothing can be printed.
+pub fn report_fault<E: Write>(errors: &mut Pipe<E>, fault: PipeFault) -> u8
     requires { IsFresh errors.old }
     ensures line { Prints E.contents errors.old errors.new (ends.fault_line fault) }
     ensures status { result ≡ 3 }
 {
-    tell_text(errors, fault_line(fault).as_bytes())
+    print_fault_text(errors, fault_line(fault).as_bytes())
 }
 
-/// Prints that a socket can't be opened or a connection can't be accepted, and returns the status for it.
-pub fn tell_net<E: Write>(errors: &mut Pipe<E>) -> u8
+/// Prints that a socket can't be opened or a connection can't be accepted, and returns the exit status 3.
+pub fn report_net_fault<E: Write>(errors: &mut Pipe<E>) -> u8
     requires { IsFresh errors.old }
     ensures line { Prints E.contents errors.old errors.new ends.net_line }
     ensures status { result ≡ 3 }
 {
-    tell_text(errors, b"thesaurus: fault Net\n")
+    print_fault_text(errors, b"thesaurus: fault Net\n")
 }
 
-/// Prints the fault that a script met, if any, and returns the exit status.
-pub fn close<E: Write>(errors: &mut Pipe<E>, ended: &Result<Ended, PipeFault>) -> u8
+/// Prints the fault of a script, if there is one, and returns the exit status.
+pub fn report_script_end<E: Write>(errors: &mut Pipe<E>, ended: &Result<Ended, PipeFault>) -> u8
     requires { IsFresh errors.old }
     ensures fault { MatchOption (ends.last_fault ended.now) (errors.new ≡ errors.old)
         (λ fault. Prints E.contents errors.old errors.new (ends.fault_line fault)) }
     ensures status { result ≡ ends.status_of ended.now }
 {
     match last_fault(ended) {
-        Some(fault) => tell(errors, fault),
+        Some(fault) => report_fault(errors, fault),
         None => status_of(ended),
     }
 }

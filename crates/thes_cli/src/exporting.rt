@@ -1,17 +1,17 @@
-//! The vocabulary of a store, as N-Triples.
+//! Writes the store as N-Triples.
 ghost use Rattle.thes_base.specs.Pipe.{IsFresh};
 ghost use Rattle.thes_cli.specs.Exporting.{ExportsStore, WritesExport};
 
-use crate::ending::tell;
+use crate::ending::report_fault;
 use std::alloc::Global;
 use std::io::Write;
 use thes_base::fault::PipeFault;
 use thes_base::pipe::Pipe;
-use thes_export::written::export;
+use thes_export::writing::export;
 use thes_office::Office;
 use thes_store::keeper::Keeper;
 
-// Writes the export of the state that the tables show.
+// Writes the export of the state that the office's tables show.
 fn write_export<K: Keeper, W: Write>(
     alloc: Global,
     office: &mut Office<K>,
@@ -25,7 +25,7 @@ fn write_export<K: Keeper, W: Write>(
     export(alloc, core, output)
 }
 
-/// Writes the store's vocabulary as N-Triples, and returns the status.
+/// Writes the store as N-Triples, and returns the exit status.
 pub fn export_store<K: Keeper, W: Write, E: Write>(
     alloc: Global,
     office: &mut Office<K>,
@@ -34,11 +34,11 @@ pub fn export_store<K: Keeper, W: Write, E: Write>(
 ) -> u8
     requires output { IsFresh output.old }
     requires errors { IsFresh errors.old }
-    ensures { ExportsStore K.rows K.is_up K.failed W.contents E.contents office.old output.old output.new
-        errors.old errors.new result office.new }
+    ensures { ExportsStore K.rows K.is_up K.failed W.contents E.contents office.old output.old
+        output.new errors.old errors.new result office.new }
 {
     match write_export(alloc, office, output) {
         Ok(()) => 0,
-        Err(fault) => tell(errors, fault),
+        Err(fault) => report_fault(errors, fault),
     }
 }

@@ -1,26 +1,28 @@
-//! The program. It hands the words of the command line, its streams and its files on, and ends with a status.
+//! The program `thesaurus`: passes its arguments, streams and files to the commands, and exits with their status.
 #![tactic(auto)]
 
+mod arguments;
 mod checking;
 mod commands;
 mod displaying;
+mod early_exit;
 mod ending;
 mod exporting;
 mod importing;
 mod migrating;
-mod parting;
+mod progress;
 mod screen;
 mod scripting;
 mod serving;
 mod stores;
-mod words;
 mod work;
 
 ghost use Rattle.thes_base.specs.Pipe.{IsFresh};
 
-use ending::{tell, tell_net, tell_of};
-use migrating::{make_in_new_database, migrate_in_database, tell_version};
-use parting::part;
+use arguments::{EarlyExit, Job, ServeOptions, Task, plan_args};
+use early_exit::exit_early;
+use ending::{report_fault, report_in_file, report_net_fault};
+use migrating::{make_in_new_database, migrate_in_database, print_version};
 use screen::Screen;
 use serving::Listening;
 use sqlite::Connection;
@@ -36,25 +38,24 @@ use thes_base::fault::{Fault, PipeFault};
 use thes_base::pipe::Pipe;
 use thes_base::text::Base;
 use thes_sqlite::faults::fault_of;
-use words::{Job, Parting, Serving, Task, plan_args};
 use work::{Work, work_in_memory};
 
-// What the command line asks for.
-fn planned<R: Env + Alloc<A = Global>>(rt: &R) -> Result<Job, Parting> {
+// Parses the command line.
+fn plan_command_line<R: Env + Alloc<A = Global>>(rt: &R) -> Result<Job, EarlyExit> {
     plan_args(rt.alloc(), std::env::args(rt)?)
 }
 
-// How the store in a file is opened.
+// The way in which the store in a file is opened.
 #[derive(Clone, Copy)]
 enum Opening {
-    // It is made: the file is absent or empty.
+    // The store is made: the file is absent or empty.
     Make,
-    // It is taken as it stands.
+    // The store in the file is used.
     Adopt,
 }
 
-// How a store is opened for a task. None is made to be checked, nor in a file of one byte, which the database would take for an
-// empty one.
+// Chooses how a store is opened for a task. No store is made to be checked, nor in a file of one byte, which SQLite
+// takes for an empty database.
 fn opening_of(rt: &HostRuntime, task: &Task, file: &str) -> Result<Opening, Fault> {
     let is_blank = match fs::metadata(rt, file) {
         Ok(found) => {
@@ -74,36 +75,39 @@ fn opening_of(rt: &HostRuntime, task: &Task, file: &str) -> Result<Opening, Faul
     }
 }
 
-// What a task names, and can't be opened.
+// The thing named by a task that couldn't be opened.
 #[derive(Clone, Copy)]
-enum Unopened {
+enum OpenFailure {
     File,
     Socket,
 }
 
-// Prints what can't be opened, and returns the status for it.
-fn tell_unopened<E: Write>(errors: &mut Pipe<E>, unopened: Unopened) -> u8
+// Prints what couldn't be opened, and returns the exit status.
+fn report_open_failure<E: Write>(errors: &mut Pipe<E>, unopened: OpenFailure) -> u8
     requires { IsFresh errors.old }
 {
     match unopened {
-        Unopened::File => tell(errors, PipeFault::Read),
-        Unopened::Socket => tell_net(errors),
+        OpenFailure::File => report_fault(errors, PipeFault::Read),
+        OpenFailure::Socket => report_net_fault(errors),
     }
 }
 
-// Opens a socket on this machine alone.
-fn listening(rt: &HostRuntime, serving: Serving) -> Result<Listening<TcpListener>, Unopened> {
+// Opens a socket on this machine's loopback address.
+fn open_socket(
+    rt: &HostRuntime,
+    serving: ServeOptions,
+) -> Result<Listening<TcpListener>, OpenFailure> {
     match TcpListener::bind(rt, (Ipv4Addr::LOCALHOST, serving.port)) {
         Ok(listener) => Ok(Listening {
             listener,
             port: serving.port,
             count: serving.count,
         }),
-        Err(_) => Err(Unopened::Socket),
+        Err(_) => Err(OpenFailure::Socket),
     }
 }
 
-// What tells how far work has come, where standard error is a terminal.
+// Returns a listener for progress, if standard error is a terminal.
 fn screen_of<'a>(rt: &'a HostRuntime, task: &Task) -> Option<Screen<'a, HostRuntime>> {
     if rt.stderr().is_terminal() {
         Screen::new(rt, matches!(task, Task::Import(_)))
@@ -112,28 +116,29 @@ fn screen_of<'a>(rt: &'a HostRuntime, task: &Task) -> Option<Screen<'a, HostRunt
     }
 }
 
-// What a task is over a store, with the file or the socket that it names opened. None for one that loads no store.
-fn opened(
+// Opens the posting file of an import, whose counts are printed if `prints_it`, or the socket of a server. Returns
+// `None` for a migration, which loads no store.
+fn open_work(
     rt: &HostRuntime,
     task: Task,
-    tells: bool,
-) -> Result<Option<Work<File, TcpListener>>, Unopened> {
+    prints_it: bool,
+) -> Result<Option<Work<File, TcpListener>>, OpenFailure> {
     let work = match task {
         Task::Script => Work::Script,
         Task::Check => Work::Check,
         Task::Export => Work::Export,
         Task::Display(shown) => Work::Display(shown),
         Task::Import(file) => match File::open(rt, file.as_str()) {
-            Ok(file) => Work::Import(file, tells),
-            Err(_) => return Err(Unopened::File),
+            Ok(file) => Work::Import(file, prints_it),
+            Err(_) => return Err(OpenFailure::File),
         },
-        Task::Serve(serving) => Work::Serve(listening(rt, serving)?),
+        Task::Serve(serving) => Work::Serve(open_socket(rt, serving)?),
         Task::Migrate => return Ok(None),
     };
     Ok(Some(work))
 }
 
-// Works over the store in a file. Where the file is absent or empty the store is made.
+// Works over the store in a file, which is made where the file is absent or empty.
 fn work_in_file<R: Read, W: Write, E: Write>(
     rt: &HostRuntime,
     task: Task,
@@ -150,16 +155,16 @@ fn work_in_file<R: Read, W: Write, E: Write>(
     let alloc = rt.alloc();
     let opening = match opening_of(rt, &task, file) {
         Ok(opening) => opening,
-        Err(fault) => return tell_of(alloc, errors, file, fault),
+        Err(fault) => return report_in_file(alloc, errors, file, fault),
     };
     let conn = match Connection::open(rt, file) {
         Ok(conn) => conn,
-        Err(error) => return tell_of(alloc, errors, file, fault_of(error)),
+        Err(error) => return report_in_file(alloc, errors, file, fault_of(error)),
     };
     let screen = screen_of(rt, &task);
-    let task = match opened(rt, task, screen.is_some()) {
+    let task = match open_work(rt, task, screen.is_some()) {
         Ok(task) => task,
-        Err(unopened) => return tell_unopened(errors, unopened),
+        Err(unopened) => return report_open_failure(errors, unopened),
     };
     let (status, conn) = match (opening, task) {
         (Opening::Make, Some(task)) => work_in_new_database::<HostRuntime, _, _, _, _, _, _>(
@@ -171,12 +176,12 @@ fn work_in_file<R: Read, W: Write, E: Write>(
         (Opening::Make, None) => make_in_new_database(alloc, file, conn, base, output, errors),
         (Opening::Adopt, None) => migrate_in_database(alloc, file, conn, output, errors),
     };
-    // What was answered stands in the log; where it can't be copied now, the next program does that.
+    // Every answer is in the log already; if it can't be copied into the file now, the next run copies it.
     let _ = conn.close();
     status
 }
 
-// Does a job, and returns the exit status.
+// Performs a job, and returns the exit status.
 fn perform<R: Read, W: Write, E: Write>(
     rt: &HostRuntime,
     job: Job,
@@ -193,7 +198,7 @@ fn perform<R: Read, W: Write, E: Write>(
         return work_in_file(rt, task, file.as_str(), &base, input, output, errors);
     }
     let screen = screen_of(rt, &task);
-    match opened(rt, task, screen.is_some()) {
+    match open_work(rt, task, screen.is_some()) {
         Ok(Some(task)) => work_in_memory::<HostRuntime, _, _, _, _, _>(
             rt.alloc(),
             task,
@@ -204,8 +209,8 @@ fn perform<R: Read, W: Write, E: Write>(
             errors,
         ),
         // A new store in memory has this version.
-        Ok(None) => tell_version(output, errors),
-        Err(unopened) => tell_unopened(errors, unopened),
+        Ok(None) => print_version(output, errors),
+        Err(unopened) => report_open_failure(errors, unopened),
     }
 }
 
@@ -213,9 +218,9 @@ fn main(rt: HostRuntime) -> ExitCode {
     let mut input = Pipe::new(rt.stdin());
     let mut output = Pipe::new(rt.stdout());
     let mut errors = Pipe::new(rt.stderr());
-    let status = match planned(&rt) {
+    let status = match plan_command_line(&rt) {
         Ok(job) => perform(&rt, job, &mut input, &mut output, &mut errors),
-        Err(parting) => part(&mut output, &mut errors, &parting),
+        Err(early_exit) => exit_early(&mut output, &mut errors, &early_exit),
     };
     ExitCode::from(status)
 }

@@ -1,25 +1,25 @@
-//! How far work has come, told on a terminal.
+//! Prints progress on a terminal.
+use crate::progress::Progress;
 use std::rt::Clock;
 use std::time::Instant;
-use thes_watch::progress::Progress;
 
-// How many seconds work goes on before more is told of it.
+// The seconds between two lines.
 const PAUSE: u64 = 1;
 
-// Between readings of the clock so many rows are read.
+// The number of rows between two readings of the clock.
 const STRIDE: u64 = 1_024;
 
-/// Tells on standard error, at most once a second, how many rows of the tables were read, and how many of an import are done.
+/// Prints the number of rows read, or of rows imported, to standard error, at most once a second.
 #[derive_where(Clone, Copy)]
 pub struct Screen<'a, R> {
     rt: &'a R,
-    // When the work began, or when something was told of it last.
+    // The time of the last line, or of the start.
     last: Instant,
     is_import: bool,
 }
 
 impl<'a, R: Clock + Eprint> Screen<'a, R> {
-    /// Makes a screen for work that begins now, unless the clock fails.
+    /// Makes a listener for work that begins now, unless the clock fails.
     pub fn new(rt: &'a R, is_import: bool) -> Option<Screen<'a, R>> {
         match Instant::now(rt) {
             Ok(last) => Some(Screen {
@@ -31,7 +31,7 @@ impl<'a, R: Clock + Eprint> Screen<'a, R> {
         }
     }
 
-    // Whether something is to be told now. Then the next second begins.
+    // Returns whether a second has passed, and restarts the clock if so.
     fn is_due(&mut self) -> bool {
         match Instant::now(self.rt) {
             Ok(now) if now.duration_since(self.last).as_secs() >= PAUSE => {
@@ -44,14 +44,14 @@ impl<'a, R: Clock + Eprint> Screen<'a, R> {
 }
 
 impl<R: Clock + Eprint> Progress for Screen<'_, R> {
-    fn read(&mut self, rows: u64) {
+    fn report_rows(&mut self, rows: u64) {
         if rows % STRIDE == 0 && self.is_due() {
-            // What can't be told is left out.
+            // A line that can't be printed is dropped.
             let _ = eprintln!(self.rt; "thesaurus: {rows} rows read");
         }
     }
 
-    fn sought(&mut self, postings: u64) {
+    fn report_lookups(&mut self, postings: u64) {
         if self.is_import && self.is_due() {
             let _ = eprintln!(self.rt; "thesaurus: {postings} rows done");
         }

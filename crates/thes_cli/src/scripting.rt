@@ -1,17 +1,17 @@
-//! A script over a store.
+//! Answers a script over a store.
 ghost use Rattle.thes_base.specs.Pipe.{IsFresh};
 ghost use Rattle.thes_cli.specs.Scripting.{AnswersScript};
 ghost use Rattle.thes_cli.specs.Streams.{streams};
 
-use crate::ending::close;
+use crate::ending::report_script_end;
 use std::alloc::Global;
 use std::io::{Read, Write};
 use thes_base::pipe::Pipe;
 use thes_office::Office;
-use thes_service::{FrontDesk, office_script};
+use thes_service::{OfficeHandler, office_script};
 use thes_store::keeper::Keeper;
 
-/// Answers a script over an office, and returns the status with the office.
+/// Answers a script over an office, and returns the exit status with the office.
 pub fn answer_script<K: Keeper, R: Read, W: Write, E: Write>(
     alloc: Global,
     office: Office<K>,
@@ -26,7 +26,7 @@ pub fn answer_script<K: Keeper, R: Read, W: Write, E: Write>(
         office (streams input.old output.old errors.old)
         result.0 result.1 (streams input.new output.new errors.new) }
 {
-    let mut desk = FrontDesk::new(office);
-    let ended = office_script(alloc, input, output, &mut desk);
-    (close(errors, &ended), desk.into_office())
+    let mut handler = OfficeHandler::new(office);
+    let ended = office_script(alloc, input, output, &mut handler);
+    (report_script_end(errors, &ended), handler.into_office())
 }

@@ -1,10 +1,12 @@
-//! A store in a database.
+//! Works over a store in a database.
 ghost use Rattle.std.specs.Prelude.{◌≡◌, false};
 ghost use Rattle.thes_base.specs.Pipe.{IsFresh};
 ghost use Rattle.thes_cli.specs.Stores.{WorksInDatabase, WorksInNewDatabase};
 ghost use Rattle.thes_cli.specs.Streams.{streams};
 
-use crate::ending::tell_of;
+use crate::ending::report_in_file;
+use crate::progress::Progress;
+use crate::progress::reporting_keeper::ReportingKeeper;
 use crate::work::{Work, work_over};
 use sqlite::{Alter, Connection};
 use std::alloc::Global;
@@ -15,11 +17,9 @@ use thes_base::text::Base;
 use thes_sql::create::create_tables;
 use thes_sqlite::faults::fault_of;
 use thes_sqlite::keeper::SqlKeeper;
-use thes_watch::progress::Progress;
-use thes_watch::watched::Watched;
 
-/// Works over the store in a database, tells how far it has come, and returns the exit status with the connection. The file is
-/// named where the store can't be opened.
+/// Works over the store in a database, and returns the exit status with the connection. The fault of a store that can't
+/// be opened is printed with the name of its file.
 pub fn work_in_database<
     N: Net,
     S: Alter,
@@ -46,8 +46,8 @@ pub fn work_in_database<
         conn (streams input.old output.old errors.old)
         result.0 result.1 (streams input.new output.new errors.new) }
 {
-    let keeper = Watched::new(SqlKeeper::adopt(alloc, conn), progress);
-    let (status, keeper) = work_over::<N, Watched<SqlKeeper<S>, P>, F, R, W, E>(
+    let keeper = ReportingKeeper::new(SqlKeeper::adopt(alloc, conn), progress);
+    let (status, keeper) = work_over::<N, ReportingKeeper<SqlKeeper<S>, P>, F, R, W, E>(
         alloc,
         task,
         Some(file),
@@ -59,7 +59,8 @@ pub fn work_in_database<
     (status, keeper.into_keeper().into_connection())
 }
 
-/// Works over a new store with this base, in a database that has no tables yet.
+/// Works over a new store with this base, in a database without tables, and returns the exit status with the
+/// connection.
 pub fn work_in_new_database<
     N: Net,
     S: Alter,
@@ -83,14 +84,14 @@ pub fn work_in_new_database<
     requires input { IsFresh input.old }
     requires output { IsFresh output.old }
     requires errors { IsFresh errors.old }
-    ensures { WorksInNewDatabase S.Store F.remaining R.remaining W.contents E.contents task file.now base.now
-        conn (streams input.old output.old errors.old)
+    ensures { WorksInNewDatabase S.Store F.remaining R.remaining W.contents E.contents task file.now
+        base.now conn (streams input.old output.old errors.old)
         result.0 result.1 (streams input.new output.new errors.new) }
 {
     match create_tables(&mut conn, base) {
         Ok(_) => work_in_database::<N, S, P, F, R, W, E>(
             alloc, task, progress, file, conn, input, output, errors,
         ),
-        Err(error) => (tell_of(alloc, errors, file, fault_of(error)), conn),
+        Err(error) => (report_in_file(alloc, errors, file, fault_of(error)), conn),
     }
 }

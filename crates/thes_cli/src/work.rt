@@ -1,17 +1,19 @@
-//! What the program does over a store.
+//! Works over a store.
 ghost use Rattle.std.specs.Prelude.{option_copied};
 ghost use Rattle.thes_base.specs.Pipe.{IsFresh};
 ghost use Rattle.thes_cli.specs.Streams.{streams};
-ghost use Rattle.thes_cli.specs.Work.{Does, Works, WorksInMemory};
+ghost use Rattle.thes_cli.specs.Work.{DoesWork, WorksOverKeeper, WorksInMemory};
 
+use crate::arguments::DisplayOptions;
 use crate::checking::check_store;
 use crate::displaying::display_store;
-use crate::ending::tell_at;
+use crate::ending::report_fault_at;
 use crate::exporting::export_store;
 use crate::importing::import_file;
+use crate::progress::Progress;
+use crate::progress::reporting_keeper::ReportingKeeper;
 use crate::scripting::answer_script;
 use crate::serving::{Listening, serve_store};
-use crate::words::Shown;
 use std::alloc::Global;
 use std::io::{Read, Write};
 use std::net::Net;
@@ -21,27 +23,25 @@ use thes_base::text::Base;
 use thes_office::Office;
 use thes_store::keeper::Keeper;
 use thes_store::mem::MemKeeper;
-use thes_watch::progress::Progress;
-use thes_watch::watched::Watched;
 
-/// A task with the file or the socket that it names opened.
+/// A task whose file or socket is open.
 #[derive(Drop)]
 pub enum Work<F, L> {
     /// Answers a script.
     Script,
-    /// Tells how much the store holds.
+    /// Prints the sizes of the store.
     Check,
-    /// Writes the vocabulary as N-Triples.
+    /// Writes the store as N-Triples.
     Export,
     /// Writes a display.
-    Display(Shown),
-    /// Performs the postings of this file, and tells how many rows were new, again and refused where that is wanted.
+    Display(DisplayOptions),
+    /// Imports this posting file, and prints the counts of its rows where the second value is true.
     Import(F, bool),
-    /// Serves connections that come to this socket.
+    /// Serves connections to this socket.
     Serve(Listening<L>),
 }
 
-// Does it over an office, and returns the exit status with the office.
+// Performs a task over an office, and returns the exit status with the office.
 fn do_work<N: Net, K: Keeper, F: Read + Drop, R: Read, W: Write, E: Write>(
     alloc: Global,
     task: Work<F, N::Listener>,
@@ -53,7 +53,7 @@ fn do_work<N: Net, K: Keeper, F: Read + Drop, R: Read, W: Write, E: Write>(
     requires input { IsFresh input.old }
     requires output { IsFresh output.old }
     requires errors { IsFresh errors.old }
-    ensures { Does K.rows K.is_up K.failed F.remaining R.remaining W.contents E.contents task
+    ensures { DoesWork K.rows K.is_up K.failed F.remaining R.remaining W.contents E.contents task
         office (streams input.old output.old errors.old)
         result.0 result.1 (streams input.new output.new errors.new) }
 {
@@ -65,21 +65,21 @@ fn do_work<N: Net, K: Keeper, F: Read + Drop, R: Read, W: Write, E: Write>(
         Work::Check => check_store(alloc, &mut office, output, errors),
         Work::Export => export_store(alloc, &mut office, output, errors),
         Work::Display(
-            Shown {
+            DisplayOptions {
                 display,
                 scheme,
                 lang,
             },
         ) => display_store(alloc, &mut office, display, scheme, &lang, output, errors),
-        Work::Import(file, tells) => {
-            import_file(alloc, file, tells, &mut office, output, errors)
+        Work::Import(file, prints_it) => {
+            import_file(alloc, file, prints_it, &mut office, output, errors)
         }
     };
     (status, office)
 }
 
-/// Opens the store that a keeper has, with the usual limits, and works over it; and returns the exit status with the keeper.
-/// The file that the store is in is named where it can't be opened.
+/// Opens the store of a keeper with the default limits, works over it, and returns the exit status with the keeper. The
+/// fault of a store that can't be opened is printed with the name of its file, if it has one.
 pub fn work_over<N: Net, K: Keeper, F: Read + Drop, R: Read, W: Write, E: Write>(
     alloc: Global,
     task: Work<F, N::Listener>,
@@ -92,8 +92,8 @@ pub fn work_over<N: Net, K: Keeper, F: Read + Drop, R: Read, W: Write, E: Write>
     requires input { IsFresh input.old }
     requires output { IsFresh output.old }
     requires errors { IsFresh errors.old }
-    ensures { Works K.rows K.is_up K.failed F.remaining R.remaining W.contents E.contents task
-        (option_copied file.entry) keeper (streams input.old output.old errors.old)
+    ensures { WorksOverKeeper K.rows K.is_up K.failed F.remaining R.remaining W.contents E.contents
+        task (option_copied file.entry) keeper (streams input.old output.old errors.old)
         result.0 result.1 (streams input.new output.new errors.new) }
 {
     match Office::start(alloc, keeper, Limits::default()) {
@@ -103,11 +103,11 @@ pub fn work_over<N: Net, K: Keeper, F: Read + Drop, R: Read, W: Write, E: Write>
             );
             (status, office.into_keeper())
         }
-        Err((fault, keeper)) => (tell_at(alloc, errors, file, fault), keeper),
+        Err((fault, keeper)) => (report_fault_at(alloc, errors, file, fault), keeper),
     }
 }
 
-/// Works over a new store in memory, with the usual limits, tells how far it has come, and returns the exit status.
+/// Works over a new store in memory with the default limits, and returns the exit status.
 pub fn work_in_memory<N: Net, P: Progress + Copy, F: Read + Drop, R: Read, W: Write, E: Write>(
     alloc: Global,
     task: Work<F, N::Listener>,
@@ -123,10 +123,10 @@ pub fn work_in_memory<N: Net, P: Progress + Copy, F: Read + Drop, R: Read, W: Wr
     ensures { WorksInMemory F.remaining R.remaining W.contents E.contents task base
         (streams input.old output.old errors.old) result (streams input.new output.new errors.new) }
 {
-    // That the base has its form is known from here on.
+    // No effect; states that the base has its form for the proof.
     let _ = base.as_str();
-    let keeper = Watched::new(MemKeeper::new(alloc, base), progress);
-    let (status, _) = work_over::<N, Watched<MemKeeper, P>, F, R, W, E>(
+    let keeper = ReportingKeeper::new(MemKeeper::new(alloc, base), progress);
+    let (status, _) = work_over::<N, ReportingKeeper<MemKeeper, P>, F, R, W, E>(
         alloc, task, None, keeper, input, output, errors,
     );
     status

@@ -1,5 +1,7 @@
--- What the changes of the parts make of the whole.
-use Rattle.std.proofs.Common.{◌≡◌, ◌≢◌, ◌<◌, ◌^◌, ◌+◌, ℕ, length, List, [], ◌∷◌, ◌++◌, refl, sym, ap, ◌∙◌, subst, inr, arith, rules, zero, suc, ◌≤◌, Bool, true, false, length-append}
+-- Applying an accepted request to the parts of a thesaurus gives the machine's next state, its answer, and the counts
+-- of its postings.
+use Rattle.std.proofs.Common.{◌≡◌, ◌≢◌, ◌<◌, ◌^◌, ◌+◌, ℕ, length, List, [], ◌∷◌, ◌++◌, refl, sym, ap, ◌∙◌, subst, inr}
+use Rattle.std.proofs.Common.{arith, rules, zero, suc, ◌≤◌, Bool, true, false, length-append}
 use Rattle.std.specs.Prelude.{None, Some, Result, Ok, Err, OnOk, count_by}
 use Rattle.std.specs.Ordering.{nat_cmp}
 use Rattle.std.specs.FinSet as set
@@ -11,80 +13,115 @@ use Rattle.thes_base.specs.declared.request.Answer.{Answer}
 use Rattle.thes_base.specs.declared.request.Answer.TheVariants as reply
 use Rattle.thes_base.specs.declared.request.Command.{Command}
 use Rattle.thes_base.specs.declared.request.Command.TheVariants as request
-use Rattle.thes_base.specs.Rows.{accepted}
+use Rattle.thes_base.specs.RefusalRules.{accepted}
 use Rattle.thes_base.specs.Resources.{IsConcept, scheme_of, replacements, is_outside}
-use Rattle.thes_base.specs.Postings.{stands_at, standing_count, move_count}
+use Rattle.thes_base.specs.Postings.{is_assigned_to, assigned_count, move_count}
 use Rattle.thes_base.specs.State.{State, empty_state}
-use Rattle.thes_base.specs.Changes.{histories_split, histories_posted, new_history, scheme_resource, collection_resource, concept_resource, split_off, is_listed, next_number}
-use Rattle.thes_base.specs.Headline.{IsInOrder}
+use Rattle.thes_base.specs.Changes.{histories_after_split, histories_after_post, new_history, scheme_resource}
+use Rattle.thes_base.specs.Changes.{collection_resource, concept_resource, state_after_split, is_listed, next_number}
+use Rattle.thes_base.specs.Headline.{IsConsistentState}
 use Rattle.thes_base.specs.Legal.{Legal}
 use Rattle.thes_base.specs.Texts.{HasForms}
 use Rattle.thes_base.specs.Machine.{Step, next_state, answer_of}
-use Rattle.thes_base.specs.Refusals.{Setting, IsSetting, unless_unique, unless_listed}
-use Rattle.thes_base.proofs.Forwarding.{count_posted}
+use Rattle.thes_base.specs.Refusals.{Setting, IsSetting, unless_unique, unless_split_postings}
+use Rattle.thes_base.proofs.ForwardingLemmas.{count_posted}
 use Rattle.thes_base.proofs.ListedLemmas.{listed_count}
-use Rattle.thes_base.proofs.MachineLemmas.{legal_empty, legal_is_in_order}
+use Rattle.thes_base.proofs.MachineLemmas.{legal_empty, legal_is_consistent}
 use Rattle.thes_base.proofs.MoveLemmas.{count_moved}
 use Rattle.thes_base.proofs.NumberedLemmas.{numbered_bound}
-use Rattle.thes_base.proofs.RowLemmas.{passed_unless, passed_if}
-use Rattle.thes_base.proofs.Sound.{IsSound}
+use Rattle.thes_base.proofs.RefusalRuleLemmas.{passed_unless, passed_if}
+use Rattle.thes_base.proofs.SoundStateLemmas.{IsSound}
 use Rattle.thes_vocab.specs.Vocabulary.{Vocabulary, empty_vocabulary}
-use Rattle.thes_vocab.specs.Requests.{unless_new, with_new}
+use Rattle.thes_vocab.specs.NewResources.{unless_new, vocabulary_after_add}
 use Rattle.thes_graph.specs.Net.{Net}
-use Rattle.thes_post.specs.Sums.{Sums, AreSums, SomeMoved}
-use Rattle.thes_post.proofs.SumLemmas.{AllStand, all_stand, both_fit, fewer_than, sums_moved, sums_none}
+use Rattle.thes_post.specs.PostingCounts.{PostingCounts, ArePostingCounts, CountsAfterMoves}
+use Rattle.thes_post.proofs.PostingCountLemmas.{AllAssigned, all_assigned, both_fit, fewer_than, sums_moved, sums_none}
 use Rattle.thes_core.specs.declared.thesaurus.Thesaurus.{Thesaurus}
-use Rattle.thes_core.specs.Kept.{Kept, Holds, with_histories, without_postings}
-use Rattle.thes_core.specs.Decides.{Accepts, Makes, Performs}
+use Rattle.thes_core.specs.CoreView.{CoreView, IsViewOf, with_histories, without_postings}
+use Rattle.thes_core.specs.CoreDecisions.{IsAccepted, ApplyResult, CoreStepResult}
 use Rattle.thes_core.specs.declared.facts.Facts.{Facts}
 use Rattle.thes_core.specs.Facts.{AreFacts}
-use Rattle.thes_core.specs.Requests.{Allows, AreMeant, Becomes, Counts, MayChange, Remakes, command_of, is_foreign}
-use Rattle.thes_core.specs.View.{state_of, setting_of, kept_of, IsKept}
+use Rattle.thes_core.specs.Requests.{PartsAccept, AreMatching, PartsOfState, CountsAfter, MayChange, PartsAfter}
+use Rattle.thes_core.specs.Requests.{creation_request, is_foreign}
+use Rattle.thes_core.specs.PartsView.{parts_state, setting_of, parts_view, AreLegal}
 use Rattle.thes_core.proofs.FactLemmas.{listed_stand}
-use Rattle.thes_core.proofs.JudgeLemmas.{name_allowed}
-use Rattle.thes_core.proofs.NextLemmas.{next_sound, next_legal, step_of_accepted}
+use Rattle.thes_core.proofs.RequestCheckLemmas.{name_allowed}
+use Rattle.thes_core.proofs.NextStateLemmas.{next_sound, next_legal, step_of_accepted}
 use Rattle.thes_core.proofs.OutsideLemmas.{knows_pushed, knows_marked}
 
--- The parts after a change, each as it is known, make the state.
-pub becomes : {old new : Thesaurus} {s : State} {v : Vocabulary} {g : Net} → new.vocab ≡ v → new.graph ≡ g → new.limits ≡ old.limits
-    → record { resources = v.resources; iris = v.iris; labels = v.labels; links = g.links; histories = s.histories } ≡ s → v.base ≡ old.vocab.base → ((n : ℕ) → set.contains g.outside n ≡ is_outside v.resources n) → Becomes old s new
-becomes {old} {new} {s} {v} {g} is_v is_g is_l is_s base knows = record {
-  state = (λ i. record { resources = (is_v i).resources; iris = (is_v i).iris; labels = (is_v i).labels; links = (is_g i).links; histories = s.histories }) ∙ is_s;
-  setting = (λ i. record { base = (is_v i).base; limits = is_l i }) ∙ (λ i. record { base = base i; limits = old.limits });
-  outside = λ n. ap (λ (x : Net). set.contains x.outside n) is_g ∙ knows n ∙ ap (λ (x : Vocabulary). is_outside x.resources n) (sym is_v);
+-- If the new vocabulary and graph have the parts of a state, and the limits and the base are the old ones, the new
+-- parts have that state.
+pub parts_become_state : {old new : Thesaurus} {s : State} {v : Vocabulary} {g : Net} → new.vocab ≡ v → new.graph ≡ g
+    → new.limits ≡ old.limits
+    → record { resources = v.resources; iris = v.iris; labels = v.labels; links = g.links; histories = s.histories }
+    ≡ s → v.base ≡ old.vocab.base → ((n : ℕ) → set.contains g.outside n ≡ is_outside v.resources n)
+    → PartsOfState old s new
+parts_become_state {old} {new} {s} {v} {g} is_v is_g is_l is_s base knows = record {
+  state = (λ i. record {
+    resources = (is_v i).resources;
+    iris = (is_v i).iris;
+    labels = (is_v i).labels;
+    links =
+        (is_g i).links;
+    histories = s.histories;
+  }) ∙ is_s;
+  setting = (λ i. record { base = (is_v i).base; limits = is_l i })
+      ∙ (λ i. record { base = base i; limits = old.limits });
+  outside = λ n. ap (λ (x : Net). set.contains x.outside n) is_g ∙ knows n
+      ∙ ap (λ (x : Vocabulary). is_outside x.resources n) (sym is_v);
 }
 
--- the next state of an accepted request is sound
-sound_after : (t : Thesaurus) (hs : List History) (command : Command) → Allows t hs command → IsSound t.vocab.base (next_state command (state_of t hs))
-sound_after t hs command ok = next_sound (setting_of t) ok.kept.fit (state_of t hs) command ok.kept.legal ok.accepts
+-- The next state of an accepted request is sound.
+sound_after : (t : Thesaurus) (hs : List History) (command : Command) → PartsAccept t hs command
+    → IsSound t.vocab.base (next_state command (parts_state t hs))
+sound_after t hs command ok = next_sound (setting_of t) ok.kept.fit (parts_state t hs) command ok.kept.legal ok.accepts
 
--- What is kept where the parts stand for a legal state.
-pub kept_after : (old new : Thesaurus) (s : State) → IsSetting (setting_of old) → Legal old.vocab.base s → Becomes old s new → IsKept new s.histories
+-- Parts that have a legal state satisfy their invariant.
+pub kept_after : (old new : Thesaurus) (s : State) → IsSetting (setting_of old) → Legal old.vocab.base s
+    → PartsOfState old s new → AreLegal new s.histories
 kept_after old new s fit legal made = record {
   fit = subst IsSetting (sym made.setting) fit;
-  legal = subst (λ (x : List ℕ). Legal x (state_of new s.histories)) (sym (ap (λ (x : Setting). x.base) made.setting)) (subst (Legal old.vocab.base) (sym made.state) legal);
+  legal = subst (λ (x : List ℕ). Legal x (parts_state new s.histories))
+      (sym (ap (λ (x : Setting). x.base) made.setting)) (subst (Legal old.vocab.base) (sym made.state) legal);
   outside = made.outside;
 }
 
--- The next state of a request that may be applied is legal without its postings.
-bare_legal : (t : Thesaurus) (command : Command) → HasForms command → MayChange t command → Legal t.vocab.base (without_postings (next_state command (state_of t [])))
-bare_legal t (request.Scheme tag text) forms (kept, ok) = next_legal (setting_of t) kept.fit (state_of t []) (request.Scheme tag text) forms kept.legal ok
-bare_legal t (request.Concept scheme tag text) forms (kept, ok) = next_legal (setting_of t) kept.fit (state_of t []) (request.Concept scheme tag text) forms kept.legal ok
-bare_legal t (request.Collection scheme tag text) forms (kept, ok) = next_legal (setting_of t) kept.fit (state_of t []) (request.Collection scheme tag text) forms kept.legal ok
-bare_legal t (request.Outside iri) forms (kept, ok) = next_legal (setting_of t) kept.fit (state_of t []) (request.Outside iri) forms kept.legal ok
-bare_legal t (request.AddLabel owner l) forms (kept, ok) = next_legal (setting_of t) kept.fit (state_of t []) (request.AddLabel owner l) forms kept.legal ok
-bare_legal t (request.DropLabel owner l) forms (kept, ok) = next_legal (setting_of t) kept.fit (state_of t []) (request.DropLabel owner l) forms kept.legal ok
-bare_legal t (request.Relabel owner tag text keep) forms (kept, ok) = next_legal (setting_of t) kept.fit (state_of t []) (request.Relabel owner tag text keep) forms kept.legal ok
-bare_legal t (request.Link kind a b) forms (kept, ok) = next_legal (setting_of t) kept.fit (state_of t []) (request.Link kind a b) forms kept.legal ok
-bare_legal t (request.Unlink kind a b) forms (kept, ok) = next_legal (setting_of t) kept.fit (state_of t []) (request.Unlink kind a b) forms kept.legal ok
-bare_legal t (request.Deprecate concept) forms (kept, ok) = next_legal (setting_of t) kept.fit (state_of t []) (request.Deprecate concept) forms kept.legal ok
-bare_legal t (request.Merge source target) forms (kept, ok) = next_legal (setting_of t) kept.fit (state_of t []) (request.Merge source target) forms kept.legal ok
-bare_legal t (request.Split source tag text postings) forms (kept, ok) = next_legal (setting_of t) kept.fit (state_of t []) (request.Split source tag text []) forms kept.legal ok
+-- The next state of a request that may be applied, without its postings, is legal.
+bare_legal : (t : Thesaurus) (command : Command) → HasForms command → MayChange t command
+    → Legal t.vocab.base (without_postings (next_state command (parts_state t [])))
+bare_legal t (request.Scheme tag text) forms (kept, ok) = next_legal (setting_of t) kept.fit (parts_state t [])
+    (request.Scheme tag text) forms kept.legal ok
+bare_legal t (request.Concept scheme tag text) forms (kept, ok) =
+    next_legal (setting_of t) kept.fit (parts_state t []) (request.Concept scheme tag text) forms kept.legal ok
+bare_legal t (request.Collection scheme tag text) forms (kept, ok) =
+    next_legal (setting_of t) kept.fit (parts_state t []) (request.Collection scheme tag text) forms kept.legal ok
+bare_legal t (request.Outside iri) forms (kept, ok) = next_legal (setting_of t) kept.fit (parts_state t [])
+    (request.Outside iri) forms kept.legal ok
+bare_legal t (request.AddLabel owner l) forms (kept, ok) = next_legal (setting_of t) kept.fit (parts_state t [])
+    (request.AddLabel owner l) forms kept.legal ok
+bare_legal t (request.DropLabel owner l) forms (kept, ok) = next_legal (setting_of t) kept.fit (parts_state t [])
+    (request.DropLabel owner l) forms kept.legal ok
+bare_legal t (request.Relabel owner tag text keep) forms (kept, ok) =
+    next_legal (setting_of t) kept.fit (parts_state t []) (request.Relabel owner tag text keep) forms kept.legal ok
+bare_legal t (request.Link kind a b) forms (kept, ok) = next_legal (setting_of t) kept.fit (parts_state t [])
+    (request.Link kind a b) forms kept.legal ok
+bare_legal t (request.Unlink kind a b) forms (kept, ok) = next_legal (setting_of t) kept.fit (parts_state t [])
+    (request.Unlink kind a b) forms kept.legal ok
+bare_legal t (request.Deprecate concept) forms (kept, ok) = next_legal (setting_of t) kept.fit (parts_state t [])
+    (request.Deprecate concept) forms kept.legal ok
+bare_legal t (request.Merge source target) forms (kept, ok) = next_legal (setting_of t) kept.fit (parts_state t [])
+    (request.Merge source target) forms kept.legal ok
+bare_legal t (request.Split source tag text postings) forms (kept, ok) =
+    next_legal (setting_of t) kept.fit (parts_state t []) (request.Split source tag text []) forms kept.legal ok
 bare_legal t (request.Post key rec concept) forms (kept, ok) = kept.legal
 bare_legal t (request.Withdraw posting) forms (kept, ok) = kept.legal
 
--- What a request makes of a state, but for its postings, doesn't depend on them.
-next_parts : (t : Thesaurus) (hs : List History) (command : Command) → record (without_postings (next_state command (state_of t []))) { histories = (next_state command (state_of t hs)).histories } ≡ next_state command (state_of t hs)
+-- The next state, apart from its postings, doesn't depend on the postings of the state.
+next_parts : (t : Thesaurus) (hs : List History) (command : Command)
+    → record (without_postings (next_state command (parts_state t []))) {
+      histories =
+          (next_state command (parts_state t hs)).histories;
+    } ≡ next_state command (parts_state t hs)
 next_parts t hs (request.Scheme tag text) = refl
 next_parts t hs (request.Concept scheme tag text) = refl
 next_parts t hs (request.Collection scheme tag text) = refl
@@ -100,109 +137,135 @@ next_parts t hs (request.Split source tag text postings) = refl
 next_parts t hs (request.Post key rec concept) = refl
 next_parts t hs (request.Withdraw posting) = refl
 
--- So the parts stand for the next state of any histories.
-pub remade_for : (old new : Thesaurus) (hs : List History) (command : Command) → Remakes command old new → Becomes old (next_state command (state_of old hs)) new
+-- If the parts have the next state for no histories, they have it for any.
+pub remade_for : (old new : Thesaurus) (hs : List History) (command : Command) → PartsAfter command old new
+    → PartsOfState old (next_state command (parts_state old hs)) new
 remade_for old new hs command made = record {
-  state = ap (λ (x : State). record x { histories = (next_state command (state_of old hs)).histories }) made.state ∙ next_parts old hs command;
+  state = ap (λ (x : State). record x { histories = (next_state command (parts_state old hs)).histories }) made.state
+      ∙ next_parts old hs command;
   setting = made.setting;
   outside = made.outside;
 }
 
--- The numbers of a merge's moves fit, and so do those who stand at the target then.
-pub merge_fits : (t : Thesaurus) (hs : List History) (source target : ℕ) → Allows t hs (request.Merge source target) → move_count hs + standing_count source hs < 2 ^ 32
+-- The moves of a merge can be numbered within 32 bits, and the target's count of postings fits in 32 bits.
+pub merge_fits : (t : Thesaurus) (hs : List History) (source target : ℕ)
+    → PartsAccept t hs (request.Merge source target) → move_count hs + assigned_count source hs < 2 ^ 32
 merge_fits t hs source target ok =
     let few = (sound_after t hs (request.Merge source target) ok).postings.few_moves in
-    let count = count_moved (stands_at source) target (move_count hs + 1) hs in
+    let count = count_moved (is_assigned_to source) target (move_count hs + 1) hs in
     omega (arith, few, count)
 
-pub merge_apart : (t : Thesaurus) (hs : List History) (source target : ℕ) → Allows t hs (request.Merge source target) → source ≢ target
+pub merge_apart : (t : Thesaurus) (hs : List History) (source target : ℕ)
+    → PartsAccept t hs (request.Merge source target) → source ≢ target
 merge_apart t hs source target ok = (passed_if (passed_unless (passed_unless (passed_unless ok.accepts.row).1).1).1).0
 
-pub merge_there : (t : Thesaurus) (hs : List History) (source target : ℕ) → Allows t hs (request.Merge source target) → standing_count target hs + standing_count source hs < 2 ^ 32
+pub merge_there : (t : Thesaurus) (hs : List History) (source target : ℕ)
+    → PartsAccept t hs (request.Merge source target) → assigned_count target hs + assigned_count source hs < 2 ^ 32
 merge_there t hs source target ok =
     let apart = merge_apart t hs source target ok in
-    let fit = both_fit (stands_at source) source target apart (move_count hs + 1) hs (all_stand source target apart hs) in
+    let fit = both_fit (is_assigned_to source) source target apart (move_count hs + 1) hs
+    (all_assigned source target apart hs) in
     let few = ok.kept.legal.postings.few in
     omega (arith, fit, few)
 
--- One more posting, and its moves.
-pub post_fits : (t : Thesaurus) (hs : List History) (key rec : List ℕ) (concept : ℕ) → Allows t hs (request.Post key rec concept) → move_count hs + length (replacements t.vocab.resources concept) < 2 ^ 32
+-- The moves of a new posting can be numbered within 32 bits, and so can the posting.
+pub post_fits : (t : Thesaurus) (hs : List History) (key rec : List ℕ) (concept : ℕ)
+    → PartsAccept t hs (request.Post key rec concept) → move_count hs
+    + length (replacements t.vocab.resources concept) < 2 ^ 32
 post_fits t hs key rec concept ok =
     let few = (sound_after t hs (request.Post key rec concept) ok).postings.few_moves in
     let count = count_posted key rec concept (replacements t.vocab.resources concept) hs in
     omega (arith, few, count)
 
-pub post_more : (t : Thesaurus) (hs : List History) (key rec : List ℕ) (concept : ℕ) → Allows t hs (request.Post key rec concept) → length hs + 1 < 2 ^ 32
+pub post_more : (t : Thesaurus) (hs : List History) (key rec : List ℕ) (concept : ℕ)
+    → PartsAccept t hs (request.Post key rec concept) → length hs + 1 < 2 ^ 32
 post_more t hs key rec concept ok =
     let few = (sound_after t hs (request.Post key rec concept) ok).postings.few in
     let count = length-append hs (new_history key rec concept (replacements t.vocab.resources concept) hs ∷ []) in
     omega (arith, few, count)
 
-pub post_answer : (key rec : List ℕ) (concept : ℕ) (way : List ℕ) (hs : List History) → length (histories_posted key rec concept way hs) ≡ length hs + 1
+pub post_answer : (key rec : List ℕ) (concept : ℕ) (way : List ℕ) (hs : List History)
+    → length (histories_after_post key rec concept way hs) ≡ length hs + 1
 post_answer key rec concept way hs = length-append hs (new_history key rec concept way hs ∷ [])
 
--- What a posting makes of the parts doesn't depend on its key and its record.
-pub remade_post : {E : Type 0} (r : Result Answer E) (t new : Thesaurus) (command : Command) (key rec : List ℕ) (concept : ℕ) → command ≡ request.Post key rec concept
-    → OnOk r ((k m : List ℕ) → Remakes (request.Post k m concept) t new) → OnOk r (Remakes command t new)
-remade_post (Ok answer) t new command key rec concept is made = subst (λ (k : Command). Remakes k t new) (sym is) (made key rec)
+-- The effect of a posting on the parts doesn't depend on its key and its record.
+pub remade_post : {E : Type 0} (r : Result Answer E) (t new : Thesaurus) (command : Command) (key rec : List ℕ)
+    (concept : ℕ) → command ≡ request.Post key rec concept
+    → OnOk r ((k m : List ℕ) → PartsAfter (request.Post k m concept) t new) → OnOk r (PartsAfter command t new)
+remade_post (Ok answer) t new command key rec concept is made = subst (λ (k : Command). PartsAfter k t new) (sym is)
+    (made key rec)
 remade_post (Err fault) t new command key rec concept is made = tt
 
--- A new resource.
-module _ (t : Thesaurus) (kept : IsKept t []) where
-  pub made_other : (new : NewResource) (v : Vocabulary) → is_foreign new ≡ false → v ≡ with_new new t.vocab → Remakes (command_of new) t (record t { vocab = v })
-  made_other (Scheme tag text) v e is = becomes is refl refl refl refl (knows_pushed t kept.outside scheme_resource refl)
-  made_other (Concept scheme tag text) v e is = becomes is refl refl refl refl (knows_pushed t kept.outside (concept_resource (Some scheme)) refl)
-  made_other (Collection scheme tag text) v e is = becomes is refl refl refl refl (knows_pushed t kept.outside (collection_resource scheme) refl)
+-- A new resource gives the parts the machine's next state.
+module _ (t : Thesaurus) (kept : AreLegal t []) where
+  pub made_other : (new : NewResource) (v : Vocabulary) → is_foreign new ≡ false → v ≡ vocabulary_after_add new
+      t.vocab → PartsAfter (creation_request new) t (record t { vocab = v })
+  made_other (Scheme tag text) v e is = parts_become_state is refl refl refl refl
+      (knows_pushed t kept.outside scheme_resource refl)
+  made_other (Concept scheme tag text) v e is = parts_become_state is refl refl refl refl
+      (knows_pushed t kept.outside (concept_resource (Some scheme)) refl)
+  made_other (Collection scheme tag text) v e is = parts_become_state is refl refl refl refl
+      (knows_pushed t kept.outside (collection_resource scheme) refl)
   made_other (Outside iri) v e is = absurd (cc)
 
-  pub made_outside : (new : NewResource) (v : Vocabulary) (g : Net) (n : ℕ) → is_foreign new ≡ true → v ≡ with_new new t.vocab → n ≡ length t.vocab.resources + 1 → g ≡ record t.graph { outside = set.insert t.graph.outside n } → Remakes (command_of new) t (record t { vocab = v; graph = g })
-  made_outside (Outside iri) v g n e is number marked = becomes is (marked ∙ ap (λ (k : ℕ). record t.graph { outside = set.insert t.graph.outside k }) number) refl refl refl (knows_marked t kept.outside)
+  pub made_outside : (new : NewResource) (v : Vocabulary) (g : Net) (n : ℕ) → is_foreign new ≡ true → v
+      ≡ vocabulary_after_add new t.vocab → n ≡ length t.vocab.resources + 1 → g
+      ≡ record t.graph { outside = set.insert t.graph.outside n } → PartsAfter (creation_request new) t
+      (record t { vocab = v; graph = g })
+  made_outside (Outside iri) v g n e is number marked =
+      parts_become_state is (marked ∙ ap (λ (k : ℕ). record t.graph { outside = set.insert t.graph.outside k })
+      number) refl refl refl (knows_marked t kept.outside)
   made_outside (Scheme tag text) v g n e is number marked = absurd (cc)
   made_outside (Concept scheme tag text) v g n e is number marked = absurd (cc)
   made_outside (Collection scheme tag text) v g n e is number marked = absurd (cc)
 
--- its number is the answer, and no posting is touched
-pub made_counts : (t changed : Thesaurus) (hs : List History) (new : NewResource) {n : ℕ} → n ≡ length t.vocab.resources + 1 → AreSums hs changed.book → Counts (command_of new) hs t changed (reply.Number n)
+-- The answer to a request for a new resource is its number, and the counts of postings stay the same.
+pub made_counts : (t changed : Thesaurus) (hs : List History) (new : NewResource) {n : ℕ} → n
+    ≡ length t.vocab.resources + 1 → ArePostingCounts hs changed.book → CountsAfter (creation_request new) hs t
+    changed (reply.Number n)
 made_counts t changed hs (Scheme tag text) is are = record { answer_is = ap reply.Number is; sums = are }
 made_counts t changed hs (Concept scheme tag text) is are = record { answer_is = ap reply.Number is; sums = are }
 made_counts t changed hs (Collection scheme tag text) is are = record { answer_is = ap reply.Number is; sums = are }
 made_counts t changed hs (Outside iri) is are = record { answer_is = ap reply.Number is; sums = are }
 
--- A split.
-module _ (t : Thesaurus) (hs : List History) (source : ℕ) (tag text : List ℕ) (postings : List ℕ) (ok : Allows t hs (request.Split source tag text postings)) where
-  abbrev after : State
-  after = split_off source tag text postings (state_of t hs)
+-- A split: the facts on its source and its postings, the new counts, and the new state of the parts.
+module _ (t : Thesaurus) (hs : List History) (source : ℕ) (tag text : List ℕ) (postings : List ℕ)
+    (ok : PartsAccept t hs (request.Split source tag text postings)) where
+  abbrev split_state : State
+  split_state = state_after_split source tag text postings (parts_state t hs)
 
   pub split_source : IsConcept t.vocab.resources source
   split_source = (passed_unless (passed_unless ok.accepts.row).1).0
 
-  pub listed_row : unless_listed hs source postings accepted None
+  pub listed_row : unless_split_postings hs source postings accepted None
   listed_row = let row = ok.accepts.row in search rules depth 16
 
   pub split_count : count_by (is_listed postings) hs ≡ length postings
-  split_count = listed_count t.vocab.base (state_of t hs) source postings ok.kept.legal listed_row
+  split_count = listed_count t.vocab.base (parts_state t hs) source postings ok.kept.legal listed_row
 
   pub split_fits : move_count hs + length postings < 2 ^ 32
   split_fits =
       let few = (sound_after t hs (request.Split source tag text postings) ok).postings.few_moves in
-      let count = count_moved (is_listed postings) (next_number (state_of t hs)) (move_count hs + 1) hs in
+      let count = count_moved (is_listed postings) (next_number (parts_state t hs)) (move_count hs + 1) hs in
       let listed = split_count in
       omega (arith, few, count, listed)
 
   pub split_apart : (n : ℕ) → n ≡ length t.vocab.resources + 1 → source ≢ n
-  split_apart n e same = let b = numbered_bound t.vocab.resources source split_source.0 split_source.1 in omega (arith, b, e, same)
+  split_apart n e same = let b = numbered_bound t.vocab.resources source split_source.0 split_source.1 in
+      omega (arith, b, e, same)
 
-  pub all_listed : (n : ℕ) (apart : source ≢ n) → AllStand (is_listed postings) source n apart hs
-  all_listed n apart = listed_stand n apart hs postings (λ i h at. (ok.kept.legal.postings.sound (suc i) h at).number) listed_row
+  pub all_listed : (n : ℕ) (apart : source ≢ n) → AllAssigned (is_listed postings) source n apart hs
+  all_listed n apart = listed_stand n apart hs postings (λ i h at. (ok.kept.legal.postings.sound (suc i) h at).number)
+      listed_row
 
-  pub split_standing : (n : ℕ) → n ≡ length t.vocab.resources + 1 → length postings ≤ standing_count source hs
+  pub split_standing : (n : ℕ) → n ≡ length t.vocab.resources + 1 → length postings ≤ assigned_count source hs
   split_standing n e =
       let apart = split_apart n e in
       let less = fewer_than (is_listed postings) source n apart (move_count hs + 1) hs (all_listed n apart) in
       let listed = split_count in
       omega (arith, less, listed)
 
-  pub split_there : (n : ℕ) → n ≡ length t.vocab.resources + 1 → standing_count n hs + length postings < 2 ^ 32
+  pub split_there : (n : ℕ) → n ≡ length t.vocab.resources + 1 → assigned_count n hs + length postings < 2 ^ 32
   split_there n e =
       let apart = split_apart n e in
       let fit = both_fit (is_listed postings) source n apart (move_count hs + 1) hs (all_listed n apart) in
@@ -210,92 +273,118 @@ module _ (t : Thesaurus) (hs : List History) (source : ℕ) (tag text : List ℕ
       let listed = split_count in
       omega (arith, fit, few, listed)
 
-  pub split_sums : (n : ℕ) → n ≡ length t.vocab.resources + 1 → (old new : Sums) → AreSums hs old → SomeMoved source n (length postings) old new → AreSums after.histories new
-  split_sums n e old new are some = subst (λ (k : ℕ). AreSums (histories_split postings k hs) new) e
-      (let apart = split_apart n e in sums_moved (is_listed postings) source n apart (move_count hs + 1) hs (all_listed n apart) (length postings) (sym split_count) old new are some)
+  pub split_sums : (n : ℕ) → n ≡ length t.vocab.resources + 1 → (old new : PostingCounts) → ArePostingCounts hs old
+      → CountsAfterMoves source n (length postings) old new → ArePostingCounts split_state.histories new
+  split_sums n e old new are some = subst (λ (k : ℕ). ArePostingCounts (histories_after_split postings k hs) new) e
+      (let apart = split_apart n e in sums_moved (is_listed postings) source n apart (move_count hs + 1) hs
+      (all_listed n apart) (length postings) (sym split_count) old new are some)
 
   module _ (scheme : ℕ) (is : scheme_of t.vocab.resources source ≡ Some scheme) where
     pub split_allowed : unless_new t.vocab (Concept scheme tag text) accepted None
     split_allowed =
         let row = ok.accepts.row in
-        let unique : unless_unique after.resources after.labels accepted None = search rules depth 20 in
+        let unique : unless_unique split_state.resources split_state.labels accepted None = search rules depth 20 in
         name_allowed t hs ok.kept source scheme tag text split_source is unique
 
-    pub split_made : (v : Vocabulary) (b : Sums) → v ≡ with_new (Concept scheme tag text) t.vocab → Becomes t (without_postings after) (record t { vocab = v; book = b })
-    split_made v b is_v = becomes is_v refl refl
-        (λ i. record (without_postings after) { resources = t.vocab.resources ++ concept_resource (sym is i) ∷ [] })
+    pub split_made : (v : Vocabulary) (b : PostingCounts) → v ≡ vocabulary_after_add (Concept scheme tag text) t.vocab
+        → PartsOfState t (without_postings split_state) (record t { vocab = v; book = b })
+    split_made v b is_v = parts_become_state is_v refl refl
+        (λ i. record (without_postings split_state) {
+          resources = t.vocab.resources ++ concept_resource (sym is i)
+              ∷ [];
+        })
         refl (knows_pushed t ok.kept.outside (concept_resource (Some scheme)) refl)
 
--- What is kept is in order.
-pub held_in_order : (k : Kept) (s : State) → Holds k s → IsInOrder k.setting.base s
-held_in_order k s holds = legal_is_in_order k.setting.base s holds.legal
+-- A state that a core holds is consistent.
+pub held_in_order : (k : CoreView) (s : State) → IsViewOf k s → IsConsistentState k.setting.base s
+held_in_order k s holds = legal_is_consistent k.setting.base s holds.legal
 
--- What the parts show where they aren't spent.
-pub held_unspent : (t : Thesaurus) (spent : Bool) (k : Kept) → kept_of t spent ≡ k → k.spent ≡ false → kept_of t false ≡ k
-held_unspent t spent k is unspent = ap (kept_of t) (sym (ap (λ (x : Kept). x.spent) is ∙ unspent)) ∙ is
+-- The view of a usable core is that of its parts.
+pub held_unspent : (t : Thesaurus) (spent : Bool) (k : CoreView) → parts_view t spent ≡ k → k.spent ≡ false
+    → parts_view t false ≡ k
+held_unspent t spent k is unspent = ap (parts_view t) (sym (ap (λ (x : CoreView). x.spent) is ∙ unspent)) ∙ is
 
--- What a core holds, as its parts keep it; and back.
-module _ (t : Thesaurus) (spent : Bool) (k : Kept) (is : kept_of t spent ≡ k) (s : State) where
-  pub held_state : Holds k s → state_of t s.histories ≡ s
+-- A core holds a state exactly when its parts have it and count its histories.
+module _ (t : Thesaurus) (spent : Bool) (k : CoreView) (is : parts_view t spent ≡ k) (s : State) where
+  pub held_state : IsViewOf k s → parts_state t s.histories ≡ s
   held_state holds = ap (with_histories s.histories) is ∙ holds.state
 
   pub held_setting : setting_of t ≡ k.setting
-  held_setting = ap (λ (x : Kept). x.setting) is
+  held_setting = ap (λ (x : CoreView). x.setting) is
 
-  pub held_sums : Holds k s → AreSums s.histories t.book
-  held_sums holds = subst (AreSums s.histories) (ap (λ (x : Kept). x.sums) (sym is)) holds.sums
+  pub held_sums : IsViewOf k s → ArePostingCounts s.histories t.book
+  held_sums holds = subst (ArePostingCounts s.histories) (ap (λ (x : CoreView). x.sums) (sym is)) holds.sums
 
-  pub held_kept : IsKept t [] → Holds k s → IsKept t s.histories
+  pub held_kept : AreLegal t [] → IsViewOf k s → AreLegal t s.histories
   held_kept fit holds = record {
     fit = fit.fit;
-    legal = subst (λ (p : List ℕ × State). Legal p.0 p.1) (λ i. (ap (λ (x : Kept). x.setting.base) (sym is) i, sym (held_state holds) i)) holds.legal;
+    legal = subst (λ (p : List ℕ × State). Legal p.0 p.1)
+        (λ i. (ap (λ (x : CoreView). x.setting.base) (sym is) i, sym (held_state holds) i)) holds.legal;
     outside = fit.outside;
   }
 
-pub held_of : (t : Thesaurus) (spent : Bool) (s : State) → state_of t s.histories ≡ s → IsKept t s.histories → AreSums s.histories t.book → Holds (kept_of t spent) s
+pub held_of : (t : Thesaurus) (spent : Bool) (s : State) → parts_state t s.histories ≡ s → AreLegal t s.histories
+    → ArePostingCounts s.histories t.book → IsViewOf (parts_view t spent) s
 held_of t spent s is kept sums = record { state = is; sums = sums; legal = subst (Legal t.vocab.base) is kept.legal }
 
--- What an accepted request makes of a core.
-module _ (t : Thesaurus) (spent : Bool) (k : Kept) (is : kept_of t spent ≡ k) (s : State) (fit : IsKept t []) (holds : Holds k s) (command : Command) (accepts : Accepts k.setting s command) where
-  pub held_allows : Allows t s.histories command
+-- After an accepted request the core holds the machine's next state.
+module _ (t : Thesaurus) (spent : Bool) (k : CoreView) (is : parts_view t spent ≡ k) (s : State) (fit : AreLegal t [])
+    (holds : IsViewOf k s) (command : Command) (accepts : IsAccepted k.setting s command) where
+  pub held_allows : PartsAccept t s.histories command
   held_allows = record {
     kept = held_kept t spent k is s fit holds;
-    accepts = subst (λ (p : Setting × State). Accepts p.0 p.1 command) (λ i. (sym (held_setting t spent k is s) i, sym (held_state t spent k is s holds) i)) accepts;
+    accepts = subst (λ (p : Setting × State). IsAccepted p.0 p.1 command)
+        (λ i. (sym (held_setting t spent k is s) i, sym (held_state t spent k is s holds) i)) accepts;
   }
 
-  pub held_meant : (facts : Facts) → AreFacts command s.histories facts → AreMeant t command facts s.histories
-  held_meant facts are = record { allows = held_allows; sums = held_sums t spent k is s holds; told = are }
+  pub held_meant : (facts : Facts) → AreFacts command s.histories facts → AreMatching t command facts s.histories
+  held_meant facts are = record { allows = held_allows; sums = held_sums t spent k is s holds; are_facts = are }
 
-  module _ (new : Thesaurus) (answer : Answer) (forms : HasForms command) (made : Remakes command t new) (counts : Counts command s.histories t new answer) where
+  module _ (new : Thesaurus) (answer : Answer) (forms : HasForms command) (made : PartsAfter command t new)
+      (counts : CountsAfter command s.histories t new answer) where
     abbrev next : State
-    next = next_state command (state_of t s.histories)
+    next = next_state command (parts_state t s.histories)
 
-    made_next : Becomes t next new
+    made_next : PartsOfState t next new
     made_next = remade_for t new s.histories command made
 
-    kept_new : IsKept new next.histories
-    kept_new = kept_after t new next held_allows.kept.fit (next_legal (setting_of t) held_allows.kept.fit (state_of t s.histories) command forms held_allows.kept.legal held_allows.accepts) made_next
+    kept_new : AreLegal new next.histories
+    kept_new = kept_after t new next held_allows.kept.fit
+        (next_legal (setting_of t) held_allows.kept.fit (parts_state t s.histories) command forms
+        held_allows.kept.legal held_allows.accepts) made_next
 
-    pub makes_new : Makes k (next_state command s) (answer_of command s) (Ok answer) (kept_of new false)
+    pub makes_new : ApplyResult k (next_state command s) (answer_of command s) (Ok answer) (parts_view new false)
     makes_new =
         let same = held_state t spent k is s holds in (
           counts.answer_is ∙ ap (answer_of command) same,
-          subst (Holds (kept_of new false)) (ap (next_state command) same) (held_of new false next made_next.state kept_new counts.sums),
+          subst (IsViewOf (parts_view new false)) (ap (next_state command) same)
+              (held_of new false next made_next.state kept_new counts.sums),
           refl,
           made_next.setting ∙ held_setting t spent k is s,
         )
 
--- What is kept after a request that may be applied.
-pub fit_new : (t new : Thesaurus) (command : Command) → HasForms command → MayChange t command → Remakes command t new → IsKept new []
-fit_new t new command forms may made = kept_after t new (without_postings (next_state command (state_of t []))) may.0.fit (bare_legal t command forms may) made
+-- After a request that may be applied, the parts satisfy their invariant.
+pub fit_new : (t new : Thesaurus) (command : Command) → HasForms command → MayChange t command
+    → PartsAfter command t new → AreLegal new []
+fit_new t new command forms may made = kept_after t new (without_postings (next_state command (parts_state t [])))
+    may.0.fit (bare_legal t command forms may) made
 
--- So a step of the machine is made.
-pub performs_made : (old new : Kept) (s : State) (command : Command) (result : Result Answer Fault) → Accepts old.setting s command → Makes old (next_state command s) (answer_of command s) result new → Performs old s command result new
-performs_made old new s command (Ok answer) accepts makes =
-    (next_state command s, subst (λ (a : Answer). Step old.setting s command a (next_state command s)) (sym makes.0) (step_of_accepted old.setting s command accepts), makes.1, makes.2, makes.3)
+-- Applying an accepted request is a step of the machine.
+pub performs_made : (old new : CoreView) (s : State) (command : Command) (result : Result Answer Fault)
+    → IsAccepted old.setting s command → ApplyResult old (next_state command s) (answer_of command s) result new
+    → CoreStepResult old s command result new
+performs_made old new s command (Ok answer) accepts makes = (
+  next_state command s,
+  subst (λ (a : Answer). Step old.setting s command a (next_state command s)) (sym makes.0)
+      (step_of_accepted old.setting s command accepts),
+  makes.1,
+  makes.2,
+  makes.3,
+)
 performs_made old new s command (Err fault) accepts makes = (makes.0, inr makes.1)
 
-pub order_made : (k : Kept) (result : Result Answer Fault) → OnOk result ((s : State) → Holds k s → IsInOrder k.setting.base s)
+pub order_made : (k : CoreView) (result : Result Answer Fault)
+    → OnOk result ((s : State) → IsViewOf k s → IsConsistentState k.setting.base s)
 order_made k (Ok answer) = held_in_order k
 order_made k (Err fault) = tt
 
@@ -303,18 +392,37 @@ none_outside : (n : ℕ) → is_outside [] n ≡ false
 none_outside zero = refl
 none_outside (suc n) = refl
 
--- What is kept where there is nothing yet.
-module _ (t : Thesaurus) (base : List ℕ) (fit : IsSetting (record { base = base; limits = t.limits })) (vocab : t.vocab ≡ empty_vocabulary base) (graph : t.graph ≡ record { links = set.empty; outside = set.empty }) (book : t.book ≡ record { counts = []; accepted = 0; withdrawn = 0; moves = 0 }) where
-  pub fit_empty : IsKept t []
+-- The parts of a new core satisfy their invariant and have the empty state.
+module _ (t : Thesaurus) (base : List ℕ) (fit : IsSetting (record { base = base; limits = t.limits }))
+    (vocab : t.vocab ≡ empty_vocabulary base) (graph : t.graph ≡ record { links = set.empty; outside = set.empty })
+    (book : t.book ≡ record { counts = []; accepted = 0; withdrawn = 0; moves = 0 }) where
+  pub fit_empty : AreLegal t []
   fit_empty = record {
     fit = subst IsSetting (λ i. record { base = (sym vocab i).base; limits = t.limits }) fit;
-    outside = λ n. ap (λ (g : Net). set.contains g.outside n) graph ∙ set.contains-empty nat_cmp n ∙ sym (none_outside n) ∙ ap (λ (v : Vocabulary). is_outside v.resources n) (sym vocab);
-    legal = subst (λ (x : Vocabulary × Net). Legal x.0.base (record { resources = x.0.resources; iris = x.0.iris; labels = x.0.labels; links = x.1.links; histories = [] })) (λ i. (sym vocab i, sym graph i)) (legal_empty base fit.base_form);
+    outside = λ n. ap (λ (g : Net). set.contains g.outside n) graph ∙ set.contains-empty nat_cmp n
+        ∙ sym (none_outside n) ∙ ap (λ (v : Vocabulary). is_outside v.resources n) (sym vocab);
+    legal = subst (λ (x : Vocabulary × Net). Legal x.0.base
+        (record {
+          resources = x.0.resources;
+          iris = x.0.iris;
+          labels = x.0.labels;
+          links = x.1.links;
+          histories =
+              [];
+        })) (λ i. (sym vocab i, sym graph i)) (legal_empty base fit.base_form);
   }
 
-  pub held_empty : Holds (kept_of t false) empty_state
+  pub held_empty : IsViewOf (parts_view t false) empty_state
   held_empty = record {
-    state = λ i. record { resources = (vocab i).resources; iris = (vocab i).iris; labels = (vocab i).labels; links = (graph i).links; histories = [] };
-    sums = subst (AreSums []) (sym book) sums_none;
-    legal = subst (λ (x : List ℕ). Legal x empty_state) (ap (λ (v : Vocabulary). v.base) (sym vocab)) (legal_empty base fit.base_form);
+    state = λ i. record {
+      resources = (vocab i).resources;
+      iris = (vocab i).iris;
+      labels = (vocab i).labels;
+      links =
+          (graph i).links;
+      histories = [];
+    };
+    sums = subst (ArePostingCounts []) (sym book) sums_none;
+    legal = subst (λ (x : List ℕ). Legal x empty_state) (ap (λ (v : Vocabulary). v.base) (sym vocab))
+        (legal_empty base fit.base_form);
   }

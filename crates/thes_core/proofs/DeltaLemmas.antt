@@ -1,5 +1,6 @@
--- The changes that are listed are those of the request.
-use Rattle.std.proofs.Common.{◌≡◌, ◌≢◌, ◌<◌, ℕ, zero, suc, ◌+◌, length, List, [], ◌∷◌, ◌++◌, refl, sym, ap, ◌∙◌, subst, arith, map, take, false, inl, inr, Contains}
+-- The changes of rows listed for a request lead to the machine's next state.
+use Rattle.std.proofs.Common.{◌≡◌, ◌≢◌, ◌<◌, ℕ, zero, suc, ◌+◌, length, List, [], ◌∷◌, ◌++◌, refl, sym, ap, ◌∙◌}
+use Rattle.std.proofs.Common.{subst, arith, map, take, false, inl, inr, Contains}
 use Rattle.std.specs.Prelude.{Some, None, Result, IfOk, AllPairs, slice_get}
 use Rattle.std.specs.List.Sorted.{IsPermutation, IsNonDecreasing}
 use Rattle.std.proofs.lemmas.List.{append-nil}
@@ -9,89 +10,133 @@ use Rattle.thes_base.specs.declared.data.Link.{Link}
 use Rattle.thes_base.specs.declared.request.Command.{Command}
 use Rattle.thes_base.specs.declared.request.Command.TheVariants as request
 use Rattle.thes_base.specs.Resources.{scheme_of, replacements}
-use Rattle.thes_base.specs.Postings.{move_count, end_of, moves_along}
-use Rattle.thes_base.specs.Changes.{concept_resource, next_number, is_listed, deprecated}
-use Rattle.thes_base.specs.Links.{HeldIn, without_node, HasEnd}
+use Rattle.thes_base.specs.Postings.{move_count, path_end, moves_along}
+use Rattle.thes_base.specs.Changes.{concept_resource, next_number, is_listed, state_after_deprecation}
+use Rattle.thes_base.specs.Links.{HeldIn, links_after_deprecation, HasEnd}
 use Rattle.thes_base.specs.Machine.{next_state}
-use Rattle.thes_base.proofs.Forwarding.{along_led}
-use Rattle.thes_base.proofs.LinkSets.{links_total, links_exact, without_node_from, without_node_to}
-use Rattle.thes_base.proofs.ListMembers.{Contains-head, Contains-later, Contains-cons_cases, Contains-none}
+use Rattle.thes_base.proofs.ForwardingLemmas.{along_led}
+use Rattle.thes_base.proofs.LinkSetLemmas.{links_total, links_exact, without_node_from, without_node_to}
+use Rattle.thes_base.proofs.ListMemberLemmas.{Contains-head, Contains-later, Contains-cons_cases, Contains-none}
 use Rattle.thes_graph.specs.Reading.{IsRow}
 use Rattle.thes_graph.proofs.NormLemmas.{ends_or_not}
 use Rattle.thes_tables.specs.declared.rows.MoveRow.{MoveRow}
 use Rattle.thes_tables.specs.declared.change.Change.{Change}
 use Rattle.thes_tables.specs.declared.change.Change.TheVariants as change
-use Rattle.thes_tables.specs.Changes.{changes_of, changes_made, move_row, drop_link, new_moves}
-use Rattle.thes_tables.specs.Leads.{Leads}
-use Rattle.thes_tables.specs.Tables.{IsIn, Once, Lists}
-use Rattle.thes_tables.proofs.Leading.{leads, leads_deprecated}
-use Rattle.thes_tables.proofs.Sets.{absent_by, turned_by}
+use Rattle.thes_tables.specs.Changes.{changes_of, changes_of_new_resource, move_row, drop_link, new_moves}
+use Rattle.thes_tables.specs.ChangeLaw.{AreChangesBetween}
+use Rattle.thes_tables.specs.Tables.{IsIn, AreDistinct, IsListingOf}
+use Rattle.thes_tables.proofs.ChangeLawLemmas.{changes_of_request_lead, leads_deprecate}
+use Rattle.thes_tables.proofs.RowSetLemmas.{absent_by, turn_into_by}
 use Rattle.thes_core.specs.declared.thesaurus.Thesaurus.{Thesaurus}
-use Rattle.thes_core.specs.Deltas.{moves_from, placed_at}
+use Rattle.thes_core.specs.Deltas.{move_rows, place_change}
 use Rattle.thes_core.specs.declared.facts.Facts.{Facts}
-use Rattle.thes_core.specs.Requests.{Allows, AreMeant}
-use Rattle.thes_post.specs.Sums.{AreSums}
-use Rattle.thes_core.specs.View.{state_of, setting_of}
+use Rattle.thes_core.specs.Requests.{PartsAccept, AreMatching}
+use Rattle.thes_post.specs.PostingCounts.{ArePostingCounts}
+use Rattle.thes_core.specs.PartsView.{parts_state, setting_of}
 use Rattle.thes_core.proofs.ApplyLemmas.{all_listed, listed_row, split_apart}
-use Rattle.thes_core.proofs.MovingLemmas.{moves_passing, listed_sorted, places_of_moves}
+use Rattle.thes_core.proofs.RequestMoveLemmas.{moves_passing, listed_sorted, places_of_moves}
 
--- What the law says of the changes of a request, where another name for it is shown.
-module _ {E : Type 0} (t : Thesaurus) (facts : Facts) (command shown : Command) (is : command ≡ shown) (r : Result (List Change) E) where
+-- The changes of a request, carried over to an equal request.
+module _ {E : Type 0} (t : Thesaurus) (facts : Facts) (command shown : Command) (is : command ≡ shown)
+    (r : Result (List Change) E) where
   abbrev LeadsBy : Command → Type 0
-  LeadsBy k = IfOk r (λ delta. (hs : List History) → AreMeant t k facts hs → Leads t.vocab.base delta (state_of t hs) (next_state k (state_of t hs)))
+  LeadsBy k = IfOk r (λ delta. (hs : List History) → AreMatching t k facts hs → AreChangesBetween t.vocab.base delta
+      (parts_state t hs) (next_state k (parts_state t hs)))
 
   pub leads_at : LeadsBy shown → LeadsBy command
   leads_at lead = subst LeadsBy (sym is) lead
 
-  pub by_law_at : IfOk r (λ delta. (hs : List History) → Allows t hs shown → AreSums hs t.book → delta ≡ changes_of shown (state_of t hs)) → LeadsBy command
+  pub by_law_at : IfOk r (λ delta. (hs : List History) → PartsAccept t hs shown → ArePostingCounts hs t.book → delta
+      ≡ changes_of shown (parts_state t hs)) → LeadsBy command
   by_law_at are = leads_at (IfOk-weaker r _ _ (λ delta same hs meant.
       let ok = meant.allows in
-      subst (λ d. Leads t.vocab.base d (state_of t hs) (next_state shown (state_of t hs))) (sym (same hs ok meant.sums))
-      (leads (setting_of t) (state_of t hs) shown ok.kept.legal ok.accepts.fresh ok.accepts.row)) are)
+      subst (λ d. AreChangesBetween t.vocab.base d (parts_state t hs) (next_state shown (parts_state t hs)))
+      (sym (same hs ok meant.sums))
+      (changes_of_request_lead (setting_of t) (parts_state t hs) shown ok.kept.legal ok.accepts.fresh ok.accepts.row))
+      are)
 
--- A posting.
-pub posted_changes : (t : Thesaurus) (hs : List History) (key rec : List ℕ) (concept number place_is first : ℕ) (way : List ℕ) → way ≡ replacements t.vocab.resources concept → number ≡ length hs + 1 → place_is ≡ end_of concept (replacements t.vocab.resources concept) → first ≡ move_count hs + 1
-    → change.AddPosting (record { number = number; key = key; rec = rec; first = concept; place = place_is; withdrawn = false }) ∷ map change.AddMove (map (move_row number) (moves_along first concept way)) ≡ changes_of (request.Post key rec concept) (state_of t hs)
+-- The changes of a posting.
+pub posted_changes : (t : Thesaurus) (hs : List History) (key rec : List ℕ) (concept number place_is first : ℕ)
+    (way : List ℕ) → way ≡ replacements t.vocab.resources concept → number ≡ length hs + 1 → place_is
+    ≡ path_end concept (replacements t.vocab.resources concept) → first ≡ move_count hs + 1
+    → change.AddPosting (record {
+      number = number;
+      key = key;
+      rec = rec;
+      first = concept;
+      place =
+          place_is;
+      withdrawn = false;
+    }) ∷ map change.AddMove (map (move_row number) (moves_along first concept way))
+    ≡ changes_of (request.Post key rec concept) (parts_state t hs)
 posted_changes t hs key rec concept number place_is first way is_way is_number is_place is_first =
-    (λ i. change.AddPosting (record { number = is_number i; key = key; rec = rec; first = concept; place = (is_place ∙ sym (along_led (move_count hs + 1) concept (replacements t.vocab.resources concept))) i; withdrawn = false }) ∷ map change.AddMove (map (move_row (is_number i)) (moves_along (is_first i) concept (is_way i))))
+    (λ i. change.AddPosting (record {
+      number = is_number i;
+      key = key;
+      rec = rec;
+      first = concept;
+      place =
+          (is_place ∙ sym (along_led (move_count hs + 1) concept (replacements t.vocab.resources concept))) i;
+      withdrawn = false;
+    })
+    ∷ map change.AddMove (map (move_row (is_number i)) (moves_along (is_first i) concept (is_way i))))
 
--- A split.
-module _ (t : Thesaurus) (hs : List History) (source : ℕ) (tag text postings : List ℕ) (ok : Allows t hs (request.Split source tag text postings)) (moving : List ℕ) (same : IsPermutation postings moving) (up : IsNonDecreasing moving) where
+-- The changes of a split.
+module _ (t : Thesaurus) (hs : List History) (source : ℕ) (tag text postings : List ℕ)
+    (ok : PartsAccept t hs (request.Split source tag text postings)) (moving : List ℕ)
+    (same : IsPermutation postings moving) (up : IsNonDecreasing moving) where
   abbrev n : ℕ
-  n = next_number (state_of t hs)
+  n = next_number (parts_state t hs)
 
   abbrev first : ℕ
   first = move_count hs + 1
 
-  rows_are : new_moves (is_listed postings) n first hs ≡ moves_from first source n moving
+  rows_are : new_moves (is_listed postings) n first hs ≡ move_rows first source n moving
   rows_are =
       let apart = split_apart t hs source tag text postings ok n refl in
       moves_passing (is_listed postings) source n apart first hs (all_listed t hs source tag text postings ok n apart)
-      ∙ ap (moves_from first source n) (listed_sorted hs source postings moving (λ i h at. (ok.kept.legal.postings.sound (suc i) h at).number) (listed_row t hs source tag text postings ok) same up)
+      ∙ ap (move_rows first source n)
+      (listed_sorted hs source postings moving (λ i h at. (ok.kept.legal.postings.sound (suc i) h at).number)
+      (listed_row t hs source tag text postings ok) same up)
 
-  pub split_changes : (changes_made (concept_resource (scheme_of t.vocab.resources source)) tag text (state_of t hs) ++ map (placed_at n) moving) ++ map change.AddMove (moves_from first source n moving) ≡ changes_of (request.Split source tag text postings) (state_of t hs)
+  pub split_changes : (changes_of_new_resource (concept_resource (scheme_of t.vocab.resources source)) tag text
+      (parts_state t hs) ++ map (place_change n) moving) ++ map change.AddMove (move_rows first source n moving)
+      ≡ changes_of (request.Split source tag text postings) (parts_state t hs)
   split_changes =
-      (λ i. (changes_made (concept_resource (scheme_of t.vocab.resources source)) tag text (state_of t hs) ++ (sym (places_of_moves first source n moving) ∙ sym (ap (map (λ (m : MoveRow). change.SetPlace m.posting m.target)) rows_are)) i) ++ map change.AddMove (rows_are' i))
+      (λ i. (changes_of_new_resource (concept_resource (scheme_of t.vocab.resources source)) tag text
+      (parts_state t hs)
+      ++ (sym (places_of_moves first source n moving)
+      ∙ sym (ap (map (λ (m : MoveRow). change.SetPlace m.posting m.target)) rows_are)) i)
+      ++ map change.AddMove (rows_are' i))
     where
-      rows_are' : moves_from first source n moving ≡ new_moves (is_listed postings) n first hs
+      rows_are' : move_rows first source n moving ≡ new_moves (is_listed postings) n first hs
       rows_are' = sym rows_are
 
--- Lists of links.
+-- Lists and their prefixes.
 
 pub contains_in : {A : Type 0} (xs : List A) (x : A) → Contains xs x → IsIn x xs
 contains_in [] x has = absurd (Contains-none x has)
-contains_in (y ∷ xs) x has = elim (Contains-cons_cases y xs x has) [ inl same ↦ inl (sym same) | inr later ↦ inr (contains_in xs x later) ]
+contains_in (y ∷ xs) x has = elim (Contains-cons_cases y xs x has) [
+  | inl same ↦ inl (sym same)
+  | inr later ↦ inr (contains_in xs x later)
+]
 
 pub in_contains : {A : Type 0} (xs : List A) (x : A) → IsIn x xs → Contains xs x
 in_contains [] x h = absurd h
-in_contains {A} (y ∷ xs) x (inl same) = let Q : A → Type 0 = Contains (y ∷ xs) in subst Q (sym same) (Contains-head y xs)
+in_contains {A} (y ∷ xs) x (inl same) = let Q : A → Type 0 = Contains (y ∷ xs) in
+    subst Q (sym same) (Contains-head y xs)
 in_contains (y ∷ xs) x (inr later) = Contains-later y xs x (in_contains xs x later)
 
--- one more that is read
-pub take_got : {A : Type 0} (xs : List A) (i : ℕ) (x : A) → slice_get xs i ≡ Some x → (i < length xs) × (take (i + 1) xs ≡ take i xs ++ x ∷ [])
+-- The prefix that ends with the item at index `i`.
+pub take_got : {A : Type 0} (xs : List A) (i : ℕ) (x : A) → slice_get xs i ≡ Some x → (i < length xs)
+    × (take (i + 1) xs ≡ take i xs ++ x ∷ [])
 take_got [] i x e = absurd (cc)
 take_got (y ∷ xs) zero x e = (omega arith, (let same : y ≡ x = cc in ap (λ z. z ∷ []) same))
-take_got {A} (y ∷ xs) (suc i) x e = let r = take_got xs i x e in ((let l = r.0 in omega arith), ap (λ (k : ℕ). take k (y ∷ xs)) (let q : suc i + 1 ≡ suc (i + 1) = omega arith in q) ∙ ap (λ (l : List A). y ∷ l) r.1)
+take_got {A} (y ∷ xs) (suc i) x e = let r = take_got xs i x e in (
+  (let l = r.0 in omega arith),
+  ap (λ (k : ℕ). take k (y ∷ xs)) (let q : suc i + 1 ≡ suc (i + 1) = omega arith in
+      q) ∙ ap (λ (l : List A). y ∷ l) r.1,
+)
 
 pub take_none : {A : Type 0} (xs : List A) (i : ℕ) → slice_get xs i ≡ None → take i xs ≡ xs
 take_none [] zero e = refl
@@ -99,27 +144,49 @@ take_none [] (suc i) e = refl
 take_none (y ∷ xs) zero e = absurd (cc)
 take_none {A} (y ∷ xs) (suc i) e = ap (λ (l : List A). y ∷ l) (take_none xs i e)
 
-pub once_apart : {A : Type 0} (xs : List A) → AllPairs (λ x y. x ≢ y) xs → Once xs
+pub once_apart : {A : Type 0} (xs : List A) → AllPairs (λ x y. x ≢ y) xs → AreDistinct xs
 once_apart [] apart = tt
-once_apart (x ∷ xs) apart = (λ h. (let c = in_contains xs x h in apart 0 (suc c.0) x (omega arith) (let l = c.1 in omega arith) (sym c.2)), once_apart xs (λ i j d l m. apart (suc i) (suc j) d (omega arith) (omega arith)))
+once_apart (x ∷ xs) apart = (
+  λ h. (let c = in_contains xs x h in apart 0 (suc c.0) x (omega arith) (let l = c.1 in omega arith) (sym c.2)),
+  once_apart xs (λ i j d l m. apart (suc i) (suc j) d (omega arith) (omega arith)),
+)
 
--- A deprecation: the links at the concept go.
-module _ (t : Thesaurus) (hs : List History) (concept : ℕ) (ok : Allows t hs (request.Deprecate concept)) (gone : List Link) (row : IsRow t.graph.links concept gone) where
-  goes : Lists (λ q. HeldIn t.graph.links q × (HeldIn (without_node concept t.graph.links) q → ⊥)) gone
-  goes = record {
-    sound = λ q h. let at = row.sound q (in_contains gone q h) in (at.0, λ kept. (without_node_from concept t.graph.links q kept).1 at.1);
+-- The changes of a deprecation: the links at the concept are removed.
+module _ (t : Thesaurus) (hs : List History) (concept : ℕ) (ok : PartsAccept t hs (request.Deprecate concept))
+    (gone : List Link) (row : IsRow t.graph.links concept gone) where
+  links_removed : IsListingOf (λ q. HeldIn t.graph.links q × (HeldIn (links_after_deprecation concept t.graph.links) q
+      → ⊥)) gone
+  links_removed = record {
+    sound = λ q h. let at = row.sound q (in_contains gone q h) in
+        (at.0, λ kept. (without_node_from concept t.graph.links q kept).1 at.1);
     complete = λ q h. contains_in gone q (row.complete q h.0 (ends q h));
     once = once_apart gone row.once;
   }
     where
-      ends : (q : Link) → HeldIn t.graph.links q × (HeldIn (without_node concept t.graph.links) q → ⊥) → HasEnd concept q
-      ends q h = elim (ends_or_not concept q) [ inl at ↦ at | inr off ↦ absurd (h.1 (without_node_to concept t.graph.links q (h.0, off))) ]
+      ends : (q : Link) → HeldIn t.graph.links q × (HeldIn (links_after_deprecation concept t.graph.links) q → ⊥)
+          → HasEnd concept q
+      ends q h =
+          elim (ends_or_not concept q)
+          [ inl at ↦ at | inr off ↦ absurd (h.1 (without_node_to concept t.graph.links q (h.0, off))) ]
 
-  comes : Lists (λ q. HeldIn (without_node concept t.graph.links) q × (HeldIn t.graph.links q → ⊥)) []
-  comes = record { sound = λ q h. absurd h; complete = λ q h. absurd (h.1 (without_node_from concept t.graph.links q h.0).0); once = tt }
+  links_inserted : IsListingOf (λ q. HeldIn (links_after_deprecation concept t.graph.links) q
+      × (HeldIn t.graph.links q → ⊥)) []
+  links_inserted =
+      record {
+        sound = λ q h. absurd h;
+        complete =
+            λ q h. absurd (h.1 (without_node_from concept t.graph.links q h.0).0);
+        once = tt;
+      }
 
-  pub deprecated_leads : Leads t.vocab.base (change.Retire concept ∷ map drop_link gone) (state_of t hs) (deprecated concept (state_of t hs))
-  deprecated_leads = subst (λ d. Leads t.vocab.base d (state_of t hs) (deprecated concept (state_of t hs))) (ap (λ l. change.Retire concept ∷ l) (append-nil (map drop_link gone)))
-      (leads_deprecated t.vocab.base (state_of t hs) ok.kept.legal concept gone []
-      (absent_by links_total links_exact t.graph.links (without_node concept t.graph.links) gone [] comes)
-      (turned_by links_total links_exact t.graph.links (without_node concept t.graph.links) gone [] goes comes))
+  pub deprecated_leads : AreChangesBetween t.vocab.base (change.Retire concept ∷ map drop_link gone)
+      (parts_state t hs) (state_after_deprecation concept (parts_state t hs))
+  deprecated_leads =
+      subst (λ d. AreChangesBetween t.vocab.base d (parts_state t hs)
+      (state_after_deprecation concept (parts_state t hs)))
+      (ap (λ l. change.Retire concept ∷ l) (append-nil (map drop_link gone)))
+      (leads_deprecate t.vocab.base (parts_state t hs) ok.kept.legal concept gone []
+      (absent_by links_total links_exact t.graph.links (links_after_deprecation concept t.graph.links) gone []
+      links_inserted)
+      (turn_into_by links_total links_exact t.graph.links (links_after_deprecation concept t.graph.links) gone []
+      links_removed links_inserted))

@@ -1,4 +1,4 @@
--- A link within a scheme joins live concepts of one scheme.
+-- A link within a scheme has two live concepts of one scheme as its ends.
 use Rattle.std.proofs.Common.{◌≡◌, ◌∙◌, sym, ap, subst, ℕ, List, ◌↔◌}
 use Rattle.std.proofs.lemmas.Bool.{and_from}
 use Rattle.std.proofs.lemmas.Option.{same_Some}
@@ -12,7 +12,7 @@ use Rattle.thes_base.specs.Resources.{IsConcept, IsLive, IsLiveConcept, is_conce
 use Rattle.thes_base.specs.State.{State}
 use Rattle.thes_base.specs.Views.{HasLink}
 use Rattle.thes_vocab.specs.Vocabulary.{IsConceptOf}
-use Rattle.thes_core.specs.Kept.{Kept, Holds, with_histories}
+use Rattle.thes_core.specs.CoreView.{CoreView, IsViewOf, with_histories}
 
 module _ (s : State) (base : List ℕ) (legal : Legal base s) where
   live_concept : (n : ℕ) → IsConcept s.resources n → IsLive s.resources n → IsLiveConcept s.resources n
@@ -20,12 +20,16 @@ module _ (s : State) (base : List ℕ) (legal : Legal base s) where
       let same = same_Some q r (sym at_q ∙ at) in
       (r, at, and_from (is_concept_kind r.kind) r.live kind (sym (ap (λ (x : Resource). x.live) same) ∙ live))
 
-  pub within : (scheme : ℕ) (kind : LinkKind) (a b : ℕ) → form_of kind ≡ Within → HasLink s.links kind a b → IsConceptOf s.resources scheme a ↔ IsConceptOf s.resources scheme b
-  within scheme kind a b f h =
+  pub same_scheme_within : (scheme : ℕ) (kind : LinkKind) (a b : ℕ) → form_of kind ≡ Within → HasLink s.links kind a b
+      → IsConceptOf s.resources scheme a ↔ IsConceptOf s.resources scheme b
+  same_scheme_within scheme kind a b f h =
       let l = legal.links.each (record { kind = kind; a = a; b = b }) h in
       let ends = subst (λ form. AreEnds s.resources form a b) f l.ends in
       let schemes = subst (λ form. HaveSchemes s.resources form a b) f l.schemes in
       (λ c. (live_concept b ends.1 l.live.1, sym schemes ∙ c.1), λ c. (live_concept a ends.0 l.live.0, schemes ∙ c.1))
 
-pub closed : (k : Kept) (s : State) → Holds k s → (scheme : ℕ) (kind : LinkKind) (a b : ℕ) → form_of kind ≡ Within → HasLink k.links kind a b → IsConceptOf k.resources scheme a ↔ IsConceptOf k.resources scheme b
-closed k s holds = within (with_histories s.histories k) k.setting.base (subst (Legal k.setting.base) (sym holds.state) holds.legal)
+pub concepts_closed_under_links : (k : CoreView) (s : State) → IsViewOf k s → (scheme : ℕ) (kind : LinkKind) (a b : ℕ)
+    → form_of kind ≡ Within → HasLink k.links kind a b → IsConceptOf k.resources scheme a ↔ IsConceptOf k.resources
+    scheme b
+concepts_closed_under_links k s holds = same_scheme_within (with_histories s.histories k) k.setting.base
+    (subst (Legal k.setting.base) (sym holds.state) holds.legal)

@@ -1,5 +1,6 @@
--- How much each request adds, and so when the limits leave room for it.
-use Rattle.std.proofs.Common.{◌≡◌, ◌⊎◌, ◌≤◌, ℕ, zero, suc, ◌+◌, ◌-◌, length, List, [], ◌∷◌, ◌++◌, refl, sym, ap, ◌∙◌, arith, inl, inr, Bool, true, false, cond, length-append}
+-- The growth that each request causes, and the limits on it.
+use Rattle.std.proofs.Common.{◌≡◌, ◌⊎◌, ◌≤◌, ℕ, zero, suc, ◌+◌, ◌-◌, length, List, [], ◌∷◌, ◌++◌, refl, sym, ap, ◌∙◌}
+use Rattle.std.proofs.Common.{arith, inl, inr, Bool, true, false, cond, length-append}
 use Rattle.std.specs.Prelude.{Option, None, Some, count_by, if◌then◌else◌}
 use Rattle.std.specs.FinSet as set
 use Rattle.thes_base.specs.declared.data.Resource.{Resource}
@@ -7,27 +8,30 @@ use Rattle.thes_base.specs.declared.data.LabelKind.TheVariants.{Pref, Alt}
 use Rattle.thes_base.specs.declared.data.Link.{Link}
 use Rattle.thes_base.specs.declared.data.History.{History}
 use Rattle.thes_base.specs.declared.data.Limits.{Limits}
-use Rattle.thes_base.specs.Resources.{CanOwn, numbered, is_outside, set_numbered, replacements}
-use Rattle.thes_base.specs.Links.{HeldIn, norm, contracted}
-use Rattle.thes_base.proofs.LinkSets.{links_total, links_exact}
-use Rattle.thes_base.proofs.SetMembers as sets
+use Rattle.thes_base.specs.Resources.{CanOwn, entry_at, is_outside, set_entry_at, replacements}
+use Rattle.thes_base.specs.Links.{HeldIn, normal_form, links_after_merge}
+use Rattle.thes_base.proofs.LinkSetLemmas.{links_total, links_exact}
+use Rattle.thes_base.proofs.SetMemberLemmas as sets
 use Rattle.thes_base.specs.Labels.{Label, Labels, HasLabel, label_cmp, S13, S14}
-use Rattle.thes_base.specs.Postings.{move_count, stands_at, standing_count}
-use Rattle.thes_base.specs.State.{State, IsWithin, Fits}
-use Rattle.thes_base.specs.Changes.{label, made, label_added, labels_relabelled, relabelled, renamed, next_number, link_added, merged, taken_labels, split_off, is_listed, posted, marked_dead, dead}
+use Rattle.thes_base.specs.Postings.{move_count, is_assigned_to, assigned_count}
+use Rattle.thes_base.specs.State.{State, IsWithinLimits, IsWithinLimit}
+use Rattle.thes_base.specs.Changes.{label, state_after_creation, state_after_add_label, labels_after_relabel}
+use Rattle.thes_base.specs.Changes.{state_after_relabel, replace_preferred, next_number, state_after_link}
+use Rattle.thes_base.specs.Changes.{state_after_merge, copied_labels, state_after_split, is_listed, state_after_post}
+use Rattle.thes_base.specs.Changes.{resources_after_death, dead}
 use Rattle.thes_base.specs.Legal.{Legal, LegalLabels}
-use Rattle.thes_base.proofs.LabelSets.{len_inserted, labels_total, inserted_cases, removed_cases}
+use Rattle.thes_base.proofs.LabelSetLemmas.{len_inserted, labels_total, inserted_cases, removed_cases}
 use Rattle.thes_base.proofs.PreferredLemmas.{preferred_found, preferred_of_label}
 use Rattle.thes_base.proofs.ResourceLemmas.{marked_dead_at}
 use Rattle.std.proofs.lemmas.Bool.{false_from_ne_true}
 use Rattle.std.proofs.lemmas.List.{length-set}
-use Rattle.thes_base.proofs.Forwarding.{count_posted}
+use Rattle.thes_base.proofs.ForwardingLemmas.{count_posted}
 use Rattle.thes_base.proofs.MoveLemmas.{count_moved, length_moved}
 use Rattle.thes_base.proofs.NumberedLemmas.{numbered_bound}
 use Rattle.thes_core.specs.declared.room.Growth.{Growth}
-use Rattle.thes_core.specs.Room.{HasRoom, counts_of}
+use Rattle.thes_core.specs.Room.{HasRoomForGrowth, amounts_of_state}
 
--- a count that rises by so many, or doesn't rise where it is to rise by none
+-- The count grows by `more`, or doesn't grow and `more` is 0.
 abbrev pub Rises : ℕ → ℕ → ℕ → Type 0
 Rises before after more = (after ≡ before + more) ⊎ ((more ≡ 0) × (after ≤ before))
 
@@ -38,16 +42,18 @@ pub record Grows (s t : State) (growth : Growth) : Type 0 where
   pub postings : Rises (length s.histories) (length t.histories) growth.postings
   pub moves : Rises (move_count s.histories) (move_count t.histories) growth.moves
 
-fits_to : (limit before after more : ℕ) → Rises before after more → Fits limit before (before + more) → Fits limit before after
+fits_to : (limit before after more : ℕ) → Rises before after more → IsWithinLimit limit before (before + more)
+    → IsWithinLimit limit before after
 fits_to limit before after more (inl e) fits = omega arith
 fits_to limit before after more (inr (none, less)) fits = omega arith
 
-fits_from : (limit before after more : ℕ) → Rises before after more → Fits limit before after → Fits limit before (before + more)
+fits_from : (limit before after more : ℕ) → Rises before after more → IsWithinLimit limit before after
+    → IsWithinLimit limit before (before + more)
 fits_from limit before after more (inl e) fits = omega arith
 fits_from limit before after more (inr (none, less)) fits = omega arith
 
 module _ (limits : Limits) (s t : State) (growth : Growth) (grows : Grows s t growth) where
-  pub within_of_room : HasRoom limits (counts_of s) growth → IsWithin limits s t
+  pub within_of_room : HasRoomForGrowth limits (amounts_of_state s) growth → IsWithinLimits limits s t
   within_of_room room = record {
     resources = fits_to _ _ _ _ grows.resources room.for_resources;
     labels = fits_to _ _ _ _ grows.labels room.for_labels;
@@ -56,7 +62,7 @@ module _ (limits : Limits) (s t : State) (growth : Growth) (grows : Grows s t gr
     moves = fits_to _ _ _ _ grows.moves room.for_moves;
   }
 
-  pub room_of_within : IsWithin limits s t → HasRoom limits (counts_of s) growth
+  pub room_of_within : IsWithinLimits limits s t → HasRoomForGrowth limits (amounts_of_state s) growth
   room_of_within within = record {
     for_resources = fits_from _ _ _ _ grows.resources within.resources;
     for_labels = fits_from _ _ _ _ grows.labels within.labels;
@@ -65,15 +71,16 @@ module _ (limits : Limits) (s t : State) (growth : Growth) (grows : Grows s t gr
     for_moves = fits_from _ _ _ _ grows.moves within.moves;
   }
 
--- A count that stays.
-same : (n : ℕ) → Rises n n 0
-same n = inl (omega arith)
+-- A count that doesn't change, and a list with another item.
+no_rise : (n : ℕ) → Rises n n 0
+no_rise n = inl (omega arith)
 
 one_more : (A : Type 0) (xs : List A) (x : A) → Rises (length xs) (length (xs ++ x ∷ [])) 1
 one_more A xs x = inl (let e = length-append xs (x ∷ []) in omega (arith, e))
 
--- an owner is a resource
-owner_bound : (s : State) → LegalLabels s.resources s.labels → (l : Label) → set.contains s.labels l ≡ true → l.owner ≤ length s.resources
+-- The owner of a label is the number of a resource.
+owner_bound : (s : State) → LegalLabels s.resources s.labels → (l : Label) → set.contains s.labels l ≡ true → l.owner
+    ≤ length s.resources
 owner_bound s legal l held = go (legal.owners l held)
   where
     go : CanOwn s.resources l.owner → l.owner ≤ length s.resources
@@ -81,121 +88,181 @@ owner_bound s legal l held = go (legal.owners l held)
     go (inr (inl (r, at, _))) = (numbered_bound s.resources l.owner r at).1
     go (inr (inr (r, at, _))) = (numbered_bound s.resources l.owner r at).1
 
--- a new resource has no label yet
-new_label : (s : State) → LegalLabels s.resources s.labels → (tag text : List ℕ) → set.contains s.labels (label (next_number s) Pref tag text) ≡ false
-new_label s legal tag text = false_from_ne_true _ (λ held. let b = owner_bound s legal (label (next_number s) Pref tag text) held in omega (arith, b))
+-- A new resource has no label yet.
+new_label : (s : State) → LegalLabels s.resources s.labels → (tag text : List ℕ)
+    → set.contains s.labels (label (next_number s) Pref tag text) ≡ false
+new_label s legal tag text =
+    false_from_ne_true _ (λ held. let b = owner_bound s legal (label (next_number s) Pref tag text) held in
+    omega (arith, b))
 
 abbrev pub growth_of : ℕ → ℕ → ℕ → ℕ → ℕ → Growth
-growth_of resources labels links postings moves = record { resources = resources; labels = labels; links = links; postings = postings; moves = moves }
+growth_of resources labels links postings moves = record {
+  resources = resources;
+  labels = labels;
+  links =
+      links;
+  postings = postings;
+  moves = moves;
+}
 
 module _ (s : State) (base : List ℕ) (legal : Legal base s) where
-  pub made_grows : (r : Resource) (tag text : List ℕ) → Grows s (made r tag text s) (growth_of 1 1 0 0 0)
+  pub made_grows : (r : Resource) (tag text : List ℕ) → Grows s (state_after_creation r tag text s)
+      (growth_of 1 1 0 0 0)
   made_grows r tag text = record {
     resources = one_more Resource s.resources r;
     labels = inl (len_inserted s.labels (label (next_number s) Pref tag text) (new_label s legal.labels tag text));
-    links = same _;
-    postings = same _;
-    moves = same _;
+    links = no_rise _;
+    postings = no_rise _;
+    moves = no_rise _;
   }
 
-  pub label_grows : (l : Label) → ¬ (set.contains s.labels l ≡ true) → Grows s (label_added l s) (growth_of 0 1 0 0 0)
-  label_grows l new = record { resources = same _; labels = inl (len_inserted s.labels l (false_from_ne_true _ new)); links = same _; postings = same _; moves = same _ }
+  pub label_grows : (l : Label) → ¬ (set.contains s.labels l ≡ true) → Grows s (state_after_add_label l s)
+      (growth_of 0 1 0 0 0)
+  label_grows l new =
+      record {
+        resources = no_rise _;
+        labels = inl (len_inserted s.labels l (false_from_ne_true _ new));
+        links =
+            no_rise _;
+        postings = no_rise _;
+        moves = no_rise _;
+      }
 
--- A relabelling replaces a label by another, and adds one more where it keeps the old one.
+-- A relabel request replaces one label by another, and adds one if it keeps the old text.
 
 len_positive : (labels : Labels) (l : Label) → set.contains labels l ≡ true → 1 ≤ set.len labels
 len_positive labels l held = go (set.len labels) refl
   where
     go : (n : ℕ) → set.len labels ≡ n → 1 ≤ set.len labels
-    go zero e = absurd (let none = sym held ∙ ap (λ (s : Labels). set.contains s l) (set.empty_of_len labels e) ∙ set.contains-empty label_cmp l in cc)
+    go zero e = absurd (let none = sym held ∙ ap (λ (s : Labels). set.contains s l) (set.empty_of_len labels e)
+        ∙ set.contains-empty label_cmp l in cc)
     go (suc n) e = omega arith
 
-len_removed : (labels : Labels) (l : Label) → set.contains labels l ≡ true → set.len (set.remove labels l) + 1 ≡ set.len labels
+len_removed : (labels : Labels) (l : Label) → set.contains labels l ≡ true → set.len (set.remove labels l) + 1
+    ≡ set.len labels
 len_removed labels l held =
     let e = set.len-remove labels_total labels l ∙ ap (λ b. cond b (set.len labels - 1) (set.len labels)) held in
     let p = len_positive labels l held in
     omega (arith, e, p)
 
--- how many labels a relabelling adds
+-- The number of labels that a relabel request adds.
 abbrev pub keep_growth : Bool → ℕ
 keep_growth keep = if keep then 1 else 0
 
-module _ (labels : Labels) (owner : ℕ) (tag text old : List ℕ) (s13 : S13 labels) (s14 : S14 labels) (held : HasLabel labels owner Pref tag old) where
-  abbrev without : Labels
-  without = set.remove labels (label owner Pref tag old)
+module _ (labels : Labels) (owner : ℕ) (tag text old : List ℕ) (s13 : S13 labels) (s14 : S14 labels)
+    (held : HasLabel labels owner Pref tag old) where
+  abbrev labels_without_old : Labels
+  labels_without_old = set.remove labels (label owner Pref tag old)
 
-  abbrev with_new : Labels
-  with_new = set.insert without (label owner Pref tag text)
+  abbrev labels_with_new : Labels
+  labels_with_new = set.insert labels_without_old (label owner Pref tag text)
 
-  not_new : ¬ (set.contains without (label owner Pref tag text) ≡ true)
+  not_new : ¬ (set.contains labels_without_old (label owner Pref tag text) ≡ true)
   not_new has =
       let was = removed_cases labels (label owner Pref tag old) (label owner Pref tag text) has in
-      let same = s14 owner tag text old was.1 held in
-      was.0 (ap (label owner Pref tag) same)
+      let no_rise = s14 owner tag text old was.1 held in
+      was.0 (ap (label owner Pref tag) no_rise)
 
-  len_with_new : set.len with_new ≡ set.len labels
-  len_with_new = len_inserted without (label owner Pref tag text) (false_from_ne_true _ not_new) ∙ len_removed labels (label owner Pref tag old) held
+  len_with_new : set.len labels_with_new ≡ set.len labels
+  len_with_new = len_inserted labels_without_old (label owner Pref tag text) (false_from_ne_true _ not_new)
+      ∙ len_removed labels (label owner Pref tag old) held
 
-  not_alternative : ¬ (set.contains with_new (label owner Alt tag old) ≡ true)
-  not_alternative has = go (inserted_cases without (label owner Pref tag text) (label owner Alt tag old) has)
+  not_alternative : ¬ (set.contains labels_with_new (label owner Alt tag old) ≡ true)
+  not_alternative has = go (inserted_cases labels_without_old (label owner Pref tag text) (label owner Alt tag old) has)
     where
-      go : (label owner Alt tag old ≡ label owner Pref tag text) ⊎ (set.contains without (label owner Alt tag old) ≡ true) → ⊥
+      go : (label owner Alt tag old ≡ label owner Pref tag text)
+          ⊎ (set.contains labels_without_old (label owner Alt tag old) ≡ true) → ⊥
       go (inl is) = let bad : Alt ≡ Pref = ap (λ (l : Label). l.kind) is in cc
-      go (inr was) = let bad : Alt ≡ Pref = s13 owner Alt Pref tag old refl refl (removed_cases labels _ _ was).1 held in cc
+      go (inr was) = let bad : Alt ≡ Pref = s13 owner Alt Pref tag old refl refl (removed_cases labels _ _ was).1
+          held in cc
 
-  pub len_renamed : (keep : Bool) → set.len (renamed owner tag text keep old labels) ≡ set.len labels + keep_growth keep
+  pub len_renamed : (keep : Bool) → set.len (replace_preferred owner tag text keep old labels) ≡ set.len labels
+      + keep_growth keep
   len_renamed false = len_with_new ∙ (let z : set.len labels ≡ set.len labels + 0 = omega arith in z)
-  len_renamed true = len_inserted with_new (label owner Alt tag old) (false_from_ne_true _ not_alternative) ∙ ap (λ n. n + 1) len_with_new
+  len_renamed true = len_inserted labels_with_new (label owner Alt tag old) (false_from_ne_true _ not_alternative)
+      ∙ ap (λ n. n + 1) len_with_new
 
 module _ (s : State) (legal : LegalLabels s.resources s.labels) where
-  pub relabelled_grows : (owner : ℕ) (tag text : List ℕ) (keep : Bool) (more : ℕ) → more ≡ keep_growth keep → (old : List ℕ) × HasLabel s.labels owner Pref tag old → Grows s (relabelled owner tag text keep s) (growth_of 0 more 0 0 0)
+  pub relabelled_grows : (owner : ℕ) (tag text : List ℕ) (keep : Bool) (more : ℕ) → more ≡ keep_growth keep
+      → (old : List ℕ) × HasLabel s.labels owner Pref tag old → Grows s (state_after_relabel owner tag text keep s)
+      (growth_of 0 more 0 0 0)
   relabelled_grows owner tag text keep more is_more (old, held) =
       let found = preferred_of_label s.labels owner tag old held in
       let is = preferred_found s.labels owner tag found.0 found.1 in
-      let made : labels_relabelled owner tag text keep s.labels ≡ renamed owner tag text keep found.0 s.labels = ap (λ (o : Option (List ℕ)). elim o [ None ↦ s.labels | Some x ↦ renamed owner tag text keep x s.labels ]) found.1 in
-      record { resources = same _; labels = inl (ap set.len made ∙ len_renamed s.labels owner tag text found.0 legal.disjoint legal.one_preferred is keep ∙ ap (λ n. set.len s.labels + n) (sym is_more)); links = same _; postings = same _; moves = same _ }
+      let state_after_creation : labels_after_relabel owner tag text keep s.labels ≡ replace_preferred owner tag text
+      keep found.0 s.labels =
+      ap (λ (o : Option (List ℕ)). elim o [
+        | None ↦ s.labels
+        | Some x ↦ replace_preferred owner tag text keep x
+            s.labels
+      ]) found.1 in
+      record {
+        resources = no_rise _;
+        labels =
+            inl (ap set.len state_after_creation ∙ len_renamed s.labels owner tag text found.0 legal.disjoint
+            legal.one_preferred is keep ∙ ap (λ n. set.len s.labels + n) (sym is_more));
+        links = no_rise _;
+        postings =
+            no_rise _;
+        moves = no_rise _;
+      }
 
--- A link, a merge, a split and a posting.
+-- The growth of a link, a merge, a split and a posting.
 
-pub link_grows : (s : State) (l : Link) → ¬ HeldIn s.links (norm (is_outside s.resources) l) → Grows s (link_added l s) (growth_of 0 0 1 0 0)
+pub link_grows : (s : State) (l : Link) → ¬ HeldIn s.links (normal_form (is_outside s.resources) l)
+    → Grows s (state_after_link l s) (growth_of 0 0 1 0 0)
 link_grows s l new = record {
-  resources = same _;
-  labels = same _;
-  links = inl (sets.len_inserted links_total links_exact s.links (norm (is_outside s.resources) l) (false_from_ne_true _ new));
-  postings = same _;
-  moves = same _;
+  resources = no_rise _;
+  labels = no_rise _;
+  links = inl (sets.len_inserted links_total links_exact s.links (normal_form (is_outside s.resources) l)
+      (false_from_ne_true _ new));
+  postings = no_rise _;
+  moves = no_rise _;
 }
 
-length_marked_dead : (rs : List Resource) (n : ℕ) (rep : Option ℕ) → length (marked_dead n rep rs) ≡ length rs
-length_marked_dead rs n rep = go (numbered rs n) refl
+length_marked_dead : (rs : List Resource) (n : ℕ) (rep : Option ℕ) → length (resources_after_death n rep rs) ≡ length rs
+length_marked_dead rs n rep = go (entry_at rs n) refl
   where
-    go : (o : Option Resource) → numbered rs n ≡ o → length (marked_dead n rep rs) ≡ length rs
-    go None e = ap (λ (o : Option Resource). length {A = Resource} (elim o [ None ↦ rs | Some x ↦ set_numbered rs n (dead rep x) ])) e
+    go : (o : Option Resource) → entry_at rs n ≡ o → length (resources_after_death n rep rs) ≡ length rs
+    go None e =
+        ap (λ (o : Option Resource). length {A = Resource}
+        (elim o [ None ↦ rs | Some x ↦ set_entry_at rs n (dead rep x) ])) e
     go (Some r) e = ap length (marked_dead_at rs n rep r e) ∙ length-set rs (n - 1) (dead rep r)
 
-pub merged_grows : (s : State) (source target taken : ℕ) → set.len (set.union s.labels (taken_labels source target s.labels)) ≡ set.len s.labels + taken → set.len (contracted (is_outside s.resources) source target s.links) ≤ set.len s.links → Grows s (merged source target s) (growth_of 0 taken 0 0 (standing_count source s.histories))
+pub merged_grows : (s : State) (source target taken : ℕ)
+    → set.len (set.union s.labels (copied_labels source target s.labels)) ≡ set.len s.labels + taken
+    → set.len (links_after_merge (is_outside s.resources) source target s.links) ≤ set.len s.links
+    → Grows s (state_after_merge source target s) (growth_of 0 taken 0 0 (assigned_count source s.histories))
 merged_grows s source target taken labels links = record {
-  resources = inl (length_marked_dead s.resources source (Some target) ∙ (let z : length s.resources ≡ length s.resources + 0 = omega arith in z));
+  resources =
+      inl (length_marked_dead s.resources source (Some target) ∙ (let z : length s.resources ≡ length s.resources
+      + 0 = omega arith in z));
   labels = inl labels;
   links = inr (refl, links);
-  postings = inl (length_moved (stands_at source) target (move_count s.histories + 1) s.histories ∙ (let z : length s.histories ≡ length s.histories + 0 = omega arith in z));
-  moves = inl (count_moved (stands_at source) target (move_count s.histories + 1) s.histories);
+  postings = inl (length_moved (is_assigned_to source) target (move_count s.histories + 1) s.histories
+      ∙ (let z : length s.histories ≡ length s.histories + 0 = omega arith in z));
+  moves = inl (count_moved (is_assigned_to source) target (move_count s.histories + 1) s.histories);
 }
 
-pub split_grows : (s : State) (source : ℕ) (tag text : List ℕ) (postings : List ℕ) → LegalLabels s.resources s.labels → count_by (is_listed postings) s.histories ≡ length postings → Grows s (split_off source tag text postings s) (growth_of 1 1 0 0 (length postings))
+pub split_grows : (s : State) (source : ℕ) (tag text : List ℕ) (postings : List ℕ) → LegalLabels s.resources s.labels
+    → count_by (is_listed postings) s.histories ≡ length postings
+    → Grows s (state_after_split source tag text postings s) (growth_of 1 1 0 0 (length postings))
 split_grows s source tag text postings legal listed = record {
   resources = one_more Resource s.resources _;
   labels = inl (len_inserted s.labels (label (next_number s) Pref tag text) (new_label s legal tag text));
-  links = same _;
-  postings = inl (length_moved (is_listed postings) (next_number s) (move_count s.histories + 1) s.histories ∙ (let z : length s.histories ≡ length s.histories + 0 = omega arith in z));
-  moves = inl (count_moved (is_listed postings) (next_number s) (move_count s.histories + 1) s.histories ∙ ap (λ n. move_count s.histories + n) listed);
+  links = no_rise _;
+  postings = inl (length_moved (is_listed postings) (next_number s) (move_count s.histories + 1) s.histories
+      ∙ (let z : length s.histories ≡ length s.histories + 0 = omega arith in z));
+  moves = inl (count_moved (is_listed postings) (next_number s) (move_count s.histories + 1) s.histories
+      ∙ ap (λ n. move_count s.histories + n) listed);
 }
 
-pub posted_grows : (s : State) (key rec : List ℕ) (concept : ℕ) → Grows s (posted key rec concept s) (growth_of 0 0 0 1 (length (replacements s.resources concept)))
+pub posted_grows : (s : State) (key rec : List ℕ) (concept : ℕ) → Grows s (state_after_post key rec concept s)
+    (growth_of 0 0 0 1 (length (replacements s.resources concept)))
 posted_grows s key rec concept = record {
-  resources = same _;
-  labels = same _;
-  links = same _;
+  resources = no_rise _;
+  labels = no_rise _;
+  links = no_rise _;
   postings = one_more History s.histories _;
   moves = inl (count_posted key rec concept (replacements s.resources concept) s.histories);
 }

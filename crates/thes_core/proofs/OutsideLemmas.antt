@@ -1,19 +1,20 @@
--- Which resources are outside concepts, after a change.
-use Rattle.std.proofs.Common.{◌≡◌, ◌⊎◌, ◌+◌, ℕ, length, List, [], ◌∷◌, ◌++◌, refl, sym, ap, ◌∙◌, inl, inr, Bool, true, false}
+-- The graph marks exactly the outside concepts, also when a resource is added or marked as dead.
+use Rattle.std.proofs.Common.{◌≡◌, ◌⊎◌, ◌+◌, ℕ, length, List, [], ◌∷◌, ◌++◌, refl, sym, ap, ◌∙◌, inl, inr, Bool, true}
+use Rattle.std.proofs.Common.{false}
 use Rattle.std.specs.Prelude.{Option, None, Some}
 use Rattle.std.specs.Option.{option_map_or}
 use Rattle.std.specs.Cmp.{both_ways, nat_cmp_total}
 use Rattle.std.specs.FinSet as set
 use Rattle.std.proofs.lemmas.Map.Lookups.{exact_unsigned}
 use Rattle.thes_base.specs.declared.data.Resource.{Resource}
-use Rattle.thes_base.specs.Resources.{numbered, set_numbered, IsOutside, is_outside, is_outside_kind}
-use Rattle.thes_base.specs.Changes.{marked_dead, dead, outside_resource}
+use Rattle.thes_base.specs.Resources.{entry_at, set_entry_at, IsOutside, is_outside, is_outside_kind}
+use Rattle.thes_base.specs.Changes.{resources_after_death, dead, outside_resource}
 use Rattle.thes_base.proofs.NumberedLemmas.{push_new}
 use Rattle.thes_base.proofs.ResourceLemmas.{marked_dead_at, passes_push, passes_pop, passes_dead, passes_before}
-use Rattle.thes_base.proofs.SetMembers.{inserted_cases, inserted_kept, inserted_new}
-use Rattle.thes_base.proofs.LinksKept.{outside_test}
+use Rattle.thes_base.proofs.SetMemberLemmas.{inserted_cases, inserted_kept, inserted_new}
+use Rattle.thes_base.proofs.LegalLinkLemmas.{outside_test}
 use Rattle.thes_core.specs.declared.thesaurus.Thesaurus.{Thesaurus}
-use Rattle.thes_core.specs.View.{KnowsOutside}
+use Rattle.thes_core.specs.PartsView.{KnowsOutside}
 
 abbrev is_out : Resource → Bool
 is_out r = is_outside_kind r.kind
@@ -22,44 +23,59 @@ abbrev test_of : Option Resource → Bool
 test_of o = option_map_or is_out o false
 
 test_passed : (rs : List Resource) (n : ℕ) → is_outside rs n ≡ true → IsOutside rs n
-test_passed rs n e = go (numbered rs n) refl
+test_passed rs n e = go (entry_at rs n) refl
   where
-    go : (o : Option Resource) → numbered rs n ≡ o → IsOutside rs n
+    go : (o : Option Resource) → entry_at rs n ≡ o → IsOutside rs n
     go None none = absurd (let bad = sym (ap test_of none) ∙ e in cc)
     go (Some r) at = (r, at, sym (ap test_of at) ∙ e)
 
-same_outside : (rs ss : List Resource) (n : ℕ) → (IsOutside rs n → IsOutside ss n) → (IsOutside ss n → IsOutside rs n) → is_outside rs n ≡ is_outside ss n
-same_outside rs ss n there back = both_ways _ _ (λ e. outside_test ss n (there (test_passed rs n e))) (λ e. outside_test rs n (back (test_passed ss n e)))
+same_outside : (rs ss : List Resource) (n : ℕ) → (IsOutside rs n → IsOutside ss n) → (IsOutside ss n → IsOutside rs n)
+    → is_outside rs n ≡ is_outside ss n
+same_outside rs ss n there back = both_ways _ _ (λ e. outside_test ss n (there (test_passed rs n e)))
+    (λ e. outside_test rs n (back (test_passed ss n e)))
 
--- a death changes no kind
-pub outside_marked_dead : (rs : List Resource) (n : ℕ) (rep : Option ℕ) (m : ℕ) → is_outside (marked_dead n rep rs) m ≡ is_outside rs m
-outside_marked_dead rs n rep m = go (numbered rs n) refl
+-- Marking a resource as dead changes no kind.
+pub outside_marked_dead : (rs : List Resource) (n : ℕ) (rep : Option ℕ) (m : ℕ)
+    → is_outside (resources_after_death n rep rs) m ≡ is_outside rs m
+outside_marked_dead rs n rep m = go (entry_at rs n) refl
   where
-    go : (o : Option Resource) → numbered rs n ≡ o → is_outside (marked_dead n rep rs) m ≡ is_outside rs m
-    go None none = ap (λ (o : Option Resource). is_outside (elim o [ None ↦ rs | Some r ↦ set_numbered rs n (dead rep r) ]) m) none
+    go : (o : Option Resource) → entry_at rs n ≡ o → is_outside (resources_after_death n rep rs) m ≡ is_outside rs m
+    go None none =
+        ap (λ (o : Option Resource). is_outside (elim o [ None ↦ rs | Some r ↦ set_entry_at rs n (dead rep r) ]) m)
+        none
     go (Some r) at = ap (λ (xs : List Resource). is_outside xs m) (marked_dead_at rs n rep r at)
-        ∙ same_outside _ rs m (passes_before rs n rep r at is_out (λ q. refl) m) (passes_dead rs n rep r at is_out (λ q. refl) m)
+        ∙ same_outside _ rs m (passes_before rs n rep r at is_out (λ q. refl) m)
+        (passes_dead rs n rep r at is_out (λ q. refl) m)
 
 module _ (t : Thesaurus) (knows : KnowsOutside t) where
   abbrev rs : List Resource
   rs = t.vocab.resources
 
-  -- another resource than an outside concept leaves them as they are
-  pub knows_pushed : (r : Resource) → is_outside_kind r.kind ≡ false → (n : ℕ) → set.contains t.graph.outside n ≡ is_outside (rs ++ r ∷ []) n
-  knows_pushed r kind n = knows n ∙ same_outside rs (rs ++ r ∷ []) n (passes_push rs r is_out n) (λ p. elim (passes_pop rs r is_out n p) [ inl old ↦ old | inr new ↦ absurd (let bad = sym kind ∙ new.1 in cc) ])
+  -- Adding a resource of another kind changes no mark.
+  pub knows_pushed : (r : Resource) → is_outside_kind r.kind ≡ false → (n : ℕ) → set.contains t.graph.outside n
+      ≡ is_outside (rs ++ r ∷ []) n
+  knows_pushed r kind n = knows n ∙ same_outside rs (rs ++ r ∷ []) n (passes_push rs r is_out n)
+      (λ p. elim (passes_pop rs r is_out n p) [ inl old ↦ old | inr new ↦ absurd (let bad = sym kind ∙ new.1 in cc) ])
 
-  abbrev after : List Resource
-  after = rs ++ outside_resource ∷ []
+  abbrev resources_with_new : List Resource
+  resources_with_new = rs ++ outside_resource ∷ []
 
-  -- a new outside concept is marked
-  pub knows_marked : (n : ℕ) → set.contains (set.insert t.graph.outside (length rs + 1)) n ≡ is_outside after n
-  knows_marked n = both_ways _ _ (λ e. outside_test after n (there (inserted_cases nat_cmp_total exact_unsigned t.graph.outside (length rs + 1) n e)))
-      (λ e. back (passes_pop rs outside_resource is_out n (test_passed after n e)))
+  -- Adding an outside concept adds its mark.
+  pub knows_marked : (n : ℕ) → set.contains (set.insert t.graph.outside (length rs + 1)) n
+      ≡ is_outside resources_with_new n
+  knows_marked n =
+      both_ways _ _
+      (λ e. outside_test resources_with_new n
+      (there (inserted_cases nat_cmp_total exact_unsigned t.graph.outside (length rs + 1) n e)))
+      (λ e. back (passes_pop rs outside_resource is_out n (test_passed resources_with_new n e)))
     where
-      there : (n ≡ length rs + 1) ⊎ (set.contains t.graph.outside n ≡ true) → IsOutside after n
-      there (inl new) = (outside_resource, ap (numbered after) new ∙ push_new rs outside_resource, refl)
+      there : (n ≡ length rs + 1) ⊎ (set.contains t.graph.outside n ≡ true) → IsOutside resources_with_new n
+      there (inl new) = (outside_resource, ap (entry_at resources_with_new) new ∙ push_new rs outside_resource, refl)
       there (inr old) = passes_push rs outside_resource is_out n (test_passed rs n (sym (knows n) ∙ old))
 
-      back : IsOutside rs n ⊎ ((n ≡ length rs + 1) × (true ≡ true)) → set.contains (set.insert t.graph.outside (length rs + 1)) n ≡ true
-      back (inl old) = inserted_kept nat_cmp_total exact_unsigned t.graph.outside (length rs + 1) n (knows n ∙ outside_test rs n old)
-      back (inr (new, _)) = ap (set.contains (set.insert t.graph.outside (length rs + 1))) new ∙ inserted_new nat_cmp_total exact_unsigned t.graph.outside (length rs + 1)
+      back : IsOutside rs n ⊎ ((n ≡ length rs + 1) × (true ≡ true))
+          → set.contains (set.insert t.graph.outside (length rs + 1)) n ≡ true
+      back (inl old) = inserted_kept nat_cmp_total exact_unsigned t.graph.outside (length rs + 1) n
+          (knows n ∙ outside_test rs n old)
+      back (inr (new, _)) = ap (set.contains (set.insert t.graph.outside (length rs + 1))) new
+          ∙ inserted_new nat_cmp_total exact_unsigned t.graph.outside (length rs + 1)

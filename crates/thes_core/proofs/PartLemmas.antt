@@ -1,18 +1,19 @@
--- A legal state is legal without its postings.
+-- A legal state without its postings is legal.
 use Rattle.std.proofs.Common.{◌≡◌, ℕ, zero, suc, List, []}
 use Rattle.std.specs.Prelude.{Some}
 use Rattle.thes_base.specs.declared.data.History.{History}
-use Rattle.thes_base.specs.Resources.{numbered}
+use Rattle.thes_base.specs.Resources.{entry_at}
 use Rattle.thes_base.specs.Legal.{Legal}
 use Rattle.thes_base.specs.State.{State}
 use Rattle.thes_base.proofs.MachineLemmas.{legal_empty}
-use Rattle.thes_base.proofs.Sound.{legal_of_sound, forms_of_legal}
-use Rattle.thes_core.specs.Kept.{without_postings}
+use Rattle.thes_base.proofs.SoundStateLemmas.{legal_of_sound, forms_of_legal}
+use Rattle.thes_core.specs.CoreView.{without_postings}
 
-none_numbered : (n : ℕ) (h : History) → numbered [] n ≡ Some h → ⊥
+none_numbered : (n : ℕ) (h : History) → entry_at [] n ≡ Some h → ⊥
 none_numbered zero h at = cc
 none_numbered (suc n) h at = cc
 
+-- Without its postings a legal state meets all conditions on a state.
 pub legal_without : (base : List ℕ) (s : State) → Legal base s → Legal base (without_postings s)
 legal_without base s legal =
     let forms = forms_of_legal base s legal in
@@ -22,6 +23,18 @@ legal_without base s legal =
       resources = legal.resources;
       labels = legal.labels;
       links = legal.links;
-      postings = record { few = none.few; few_moves = none.few_moves; sound = λ n h at. absurd (none_numbered n h at); keys = none.keys; numbers = none.numbers };
+      postings = record {
+        few = none.few;
+        few_moves = none.few_moves;
+        sound = λ n h at. absurd (none_numbered n h at);
+        keys = none.keys;
+        numbers = none.numbers;
+      };
     })
-    (record { base_form = forms.base_form; iris = forms.iris; labels = forms.labels; postings = λ n h at. absurd (none_numbered n h at) })
+    (record {
+      base_form = forms.base_form;
+      iris = forms.iris;
+      labels = forms.labels;
+      postings =
+          λ n h at. absurd (none_numbered n h at);
+    })

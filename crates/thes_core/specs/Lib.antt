@@ -1,11 +1,11 @@
 pub mod Deltas
-pub mod Named
+pub mod NamedPostings
 pub mod Facts
 pub mod Room
-pub mod Kept
+pub mod CoreView
 pub mod Parts
-pub mod Decides
+pub mod CoreDecisions
 pub mod Requests
-pub mod View
-pub mod Shown
+pub mod PartsView
+pub mod LabelLists
 pub mod Terms

@@ -1,4 +1,4 @@
--- What the parts of a thesaurus say of a request, and what it makes of them.
+-- Requests in terms of the parts of a thesaurus: their checks and their effect.
 use Rattle.std.specs.Prelude.{◌≡◌, ℕ, Bool, true, false, List, []}
 use Rattle.std.specs.FinSet as set
 use Rattle.thes_base.specs.declared.data.History.{History}
@@ -9,73 +9,74 @@ use Rattle.thes_base.specs.declared.request.Answer.{Answer}
 use Rattle.thes_base.specs.declared.request.Command.{Command}
 use Rattle.thes_base.specs.declared.request.Command.TheVariants as request
 use Rattle.thes_base.specs.declared.fault.Refusal.TheVariants.{LinkThere}
-use Rattle.thes_base.specs.Rows.{Row, refused_if, accepted}
-use Rattle.thes_base.specs.Links.{Links, HeldIn, norm, unless_consistent}
+use Rattle.thes_base.specs.RefusalRules.{RefusalRule, refused_if, accepted}
+use Rattle.thes_base.specs.Links.{Links, HeldIn, normal_form, unless_links_consistent}
 use Rattle.thes_base.specs.State.{State}
-use Rattle.thes_base.specs.Machine.{next_state, answer_of, row_of}
-use Rattle.thes_post.specs.Sums.{AreSums}
+use Rattle.thes_base.specs.Machine.{next_state, answer_of, refusal_rule_of}
+use Rattle.thes_post.specs.PostingCounts.{ArePostingCounts}
 use Rattle.thes_core.specs.declared.thesaurus.Thesaurus.{Thesaurus}
 use Rattle.thes_core.specs.declared.facts.Facts.{Facts}
-use Rattle.thes_core.specs.Decides.{Accepts, MayApply}
+use Rattle.thes_core.specs.CoreDecisions.{IsAccepted, MayApply}
 use Rattle.thes_core.specs.Facts.{AreFacts}
-use Rattle.thes_core.specs.Kept.{without_postings}
-use Rattle.thes_core.specs.View.{state_of, setting_of, kept_of, IsKept, KnowsOutside}
+use Rattle.thes_core.specs.CoreView.{without_postings}
+use Rattle.thes_core.specs.PartsView.{parts_state, setting_of, parts_view, AreLegal, KnowsOutside}
 
--- what refuses the request in the state that the parts stand for
-abbrev pub Judges : Thesaurus → List History → Command → Row
-Judges t histories command =
-    let s = state_of t histories in row_of (setting_of t) s (next_state command s) command
+-- The refusal of a request in the state of the parts, if there is one.
+abbrev pub RefusalByParts : Thesaurus → List History → Command → RefusalRule
+RefusalByParts t histories command =
+    let s = parts_state t histories in refusal_rule_of (setting_of t) s (next_state command s) command
 
--- what the links held say against one more, in the order of its ends in which it is kept
-abbrev pub unless_linkable : (ℕ → Bool) → Links → Link → Row
+-- The checks of a new link against the links held, in its normal form.
+abbrev pub unless_linkable : (ℕ → Bool) → Links → Link → RefusalRule
 unless_linkable outside links l =
-    let kept = norm outside l in
-    refused_if (HeldIn links kept) LinkThere (unless_consistent (HeldIn (set.insert links kept)) accepted)
+    let kept = normal_form outside l in
+    refused_if (HeldIn links kept) LinkThere (unless_links_consistent (HeldIn (set.insert links kept)) accepted)
 
--- The parts are what they keep, and nothing refuses the request.
-pub record Allows (t : Thesaurus) (histories : List History) (command : Command) : Type 0 where
-  pub kept : IsKept t histories
-  pub accepts : Accepts (setting_of t) (state_of t histories) command
+-- The parts are legal, and the request passes all checks.
+pub record PartsAccept (t : Thesaurus) (histories : List History) (command : Command) : Type 0 where
+  pub kept : AreLegal t histories
+  pub accepts : IsAccepted (setting_of t) (parts_state t histories) command
 
--- Nothing but what is told of postings can refuse the request.
+-- The parts are legal, and the request passes all checks but those on postings.
 abbrev pub MayChange : Thesaurus → Command → Type 0
-MayChange t command = IsKept t [] × MayApply (kept_of t false) command
+MayChange t command = AreLegal t [] × MayApply (parts_view t false) command
 
--- The parts stand for this state, with its histories, and are set as before.
-pub record Becomes (old : Thesaurus) (s : State) (new : Thesaurus) : Type 0 where
-  pub state : state_of new s.histories ≡ s
+-- The new parts have the state `s`, with its histories, and the base and limits of the old ones.
+pub record PartsOfState (old : Thesaurus) (s : State) (new : Thesaurus) : Type 0 where
+  pub state : parts_state new s.histories ≡ s
   pub setting : setting_of new ≡ setting_of old
   pub outside : KnowsOutside new
 
--- The answer is the machine's, and the book has the sums of the machine's next histories.
-pub record Counts (command : Command) (histories : List History) (old new : Thesaurus) (answer : Answer) : Type 0 where
-  pub answer_is : answer ≡ answer_of command (state_of old histories)
-  pub sums : AreSums (next_state command (state_of old histories)).histories new.book
+-- The answer is the machine's, and the new parts count the histories of the machine's next state.
+pub record CountsAfter (command : Command) (histories : List History) (old new : Thesaurus) (answer : Answer) : Type
+    0 where
+  pub answer_is : answer ≡ answer_of command (parts_state old histories)
+  pub sums : ArePostingCounts (next_state command (parts_state old histories)).histories new.book
 
--- The parts stand for the machine's next state without its postings.
-abbrev pub Remakes : Command → Thesaurus → Thesaurus → Type 0
-Remakes command old new = Becomes old (without_postings (next_state command (state_of old []))) new
+-- The new parts have the machine's next state, without its postings.
+abbrev pub PartsAfter : Command → Thesaurus → Thesaurus → Type 0
+PartsAfter command old new = PartsOfState old (without_postings (next_state command (parts_state old []))) new
 
--- They count the postings of all histories that allow the request.
-abbrev pub CountsAll : Command → Thesaurus → Thesaurus → Answer → Type 0
-CountsAll command old new answer =
-    (histories : List History) → Allows old histories command → AreSums histories old.book
-    → Counts command histories old new answer
+-- For all histories with which the request is accepted, the new parts count those of the machine's next state.
+abbrev pub CountsAfterAny : Command → Thesaurus → Thesaurus → Answer → Type 0
+CountsAfterAny command old new answer =
+    (histories : List History) → PartsAccept old histories command → ArePostingCounts histories old.book
+    → CountsAfter command histories old new answer
 
--- The histories allow the request, the book has their sums, and the facts are of them.
-pub record AreMeant (t : Thesaurus) (command : Command) (facts : Facts) (histories : List History) : Type 0 where
-  pub allows : Allows t histories command
-  pub sums : AreSums histories t.book
-  pub told : AreFacts command histories facts
+-- The request is accepted with these histories, the parts count them, and the facts agree with them.
+pub record AreMatching (t : Thesaurus) (command : Command) (facts : Facts) (histories : List History) : Type 0 where
+  pub allows : PartsAccept t histories command
+  pub sums : ArePostingCounts histories t.book
+  pub are_facts : AreFacts command histories facts
 
--- the request that makes the resource
-abbrev pub command_of : NewResource → Command
-command_of (Scheme tag text) = request.Scheme tag text
-command_of (Concept scheme tag text) = request.Concept scheme tag text
-command_of (Collection scheme tag text) = request.Collection scheme tag text
-command_of (Outside iri) = request.Outside iri
+-- The request for a new resource.
+abbrev pub creation_request : NewResource → Command
+creation_request (Scheme tag text) = request.Scheme tag text
+creation_request (Concept scheme tag text) = request.Concept scheme tag text
+creation_request (Collection scheme tag text) = request.Collection scheme tag text
+creation_request (Outside iri) = request.Outside iri
 
--- an outside concept
+-- Whether the new resource is an outside concept.
 abbrev pub is_foreign : NewResource → Bool
 is_foreign (Outside iri) = true
 is_foreign _ = false

@@ -1,13 +1,13 @@
--- What a request adds, and whether the limits leave room for it.
+-- The growth that a request causes, and the room that the limits leave.
 use Rattle.std.specs.Prelude.{ℕ, ◌+◌, length}
 use Rattle.std.specs.FinSet as set
 use Rattle.thes_base.specs.declared.data.Limits.{Limits}
 use Rattle.thes_base.specs.Postings.{move_count}
-use Rattle.thes_base.specs.State.{State, Fits}
+use Rattle.thes_base.specs.State.{State, IsWithinLimit}
 use Rattle.thes_core.specs.declared.room.Growth.{Growth}
 use Rattle.thes_core.specs.declared.thesaurus.Thesaurus.{Thesaurus}
 
--- how many there are of each sort that a limit binds
+-- The numbers of resources, labels, links, postings and moves.
 pub record Amounts : Type 0 where
   pub resources : ℕ
   pub labels : ℕ
@@ -15,8 +15,9 @@ pub record Amounts : Type 0 where
   pub postings : ℕ
   pub moves : ℕ
 
-abbrev pub counts_of : State → Amounts
-counts_of s =
+-- The numbers of a state.
+abbrev pub amounts_of_state : State → Amounts
+amounts_of_state s =
     record {
       resources = length s.resources;
       labels = set.len s.labels;
@@ -25,9 +26,9 @@ counts_of s =
       moves = move_count s.histories;
     }
 
--- the same by the parts
-abbrev pub counts_in : Thesaurus → Amounts
-counts_in t =
+-- The same in terms of the parts.
+abbrev pub amounts_of_parts : Thesaurus → Amounts
+amounts_of_parts t =
     record {
       resources = length t.vocab.resources;
       labels = set.len t.vocab.labels;
@@ -36,10 +37,10 @@ counts_in t =
       moves = t.book.moves;
     }
 
--- no count rises past its limit with so many more
-pub record HasRoom (limits : Limits) (held : Amounts) (growth : Growth) : Type 0 where
-  pub for_resources : Fits limits.resources held.resources (held.resources + growth.resources)
-  pub for_labels : Fits limits.labels held.labels (held.labels + growth.labels)
-  pub for_links : Fits limits.links held.links (held.links + growth.links)
-  pub for_postings : Fits limits.postings held.postings (held.postings + growth.postings)
-  pub for_moves : Fits limits.moves held.moves (held.moves + growth.moves)
+-- No number grows past its limit.
+pub record HasRoomForGrowth (limits : Limits) (held : Amounts) (growth : Growth) : Type 0 where
+  pub for_resources : IsWithinLimit limits.resources held.resources (held.resources + growth.resources)
+  pub for_labels : IsWithinLimit limits.labels held.labels (held.labels + growth.labels)
+  pub for_links : IsWithinLimit limits.links held.links (held.links + growth.links)
+  pub for_postings : IsWithinLimit limits.postings held.postings (held.postings + growth.postings)
+  pub for_moves : IsWithinLimit limits.moves held.moves (held.moves + growth.moves)

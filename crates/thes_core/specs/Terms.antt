@@ -1,11 +1,11 @@
--- What stands for a concept in a language.
+-- The terms of concepts in displays.
 use Rattle.std.specs.Prelude.{ℕ, List, [], ◌∷◌, ◌++◌, decimal, unwrap_or}
-use Rattle.thes_base.specs.Labels.{Labels, preferred_in}
+use Rattle.thes_base.specs.Labels.{Labels, preferred_label_in}
 
--- the number in brackets
-abbrev pub bracketed : ℕ → List ℕ
-bracketed n = 91 ∷ (decimal n ++ 93 ∷ [])
+-- The number of a concept in brackets.
+abbrev pub number_in_brackets : ℕ → List ℕ
+number_in_brackets n = 91 ∷ (decimal n ++ 93 ∷ [])
 
--- the preferred label in the language, or the number in brackets where there is none
+-- The preferred label of a concept in the language, or its number in brackets if it has none.
 abbrev pub term_text : Labels → List ℕ → ℕ → List ℕ
-term_text labels tag n = unwrap_or (preferred_in labels n tag) (bracketed n)
+term_text labels tag n = unwrap_or (preferred_label_in labels n tag) (number_in_brackets n)

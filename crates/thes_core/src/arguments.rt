@@ -1,18 +1,18 @@
-//! What a request's arguments are refused for: numbers that name nothing, the wrong kind of resource, a dead
-//! concept, one resource twice, or the wrong schemes.
+//! Checks of a request's arguments: resources that exist, are of the right kind, live, different,
+//! and of the right schemes.
 ghost use Rattle.std.specs.Prelude.{◌≡◌};
-ghost use Rattle.thes_base.specs.Rows.{accepted};
+ghost use Rattle.thes_base.specs.RefusalRules.{accepted};
 ghost use Rattle.thes_base.specs.Resources.{replacements};
-ghost use Rattle.thes_base.specs.Postings.{end_of};
-ghost use Rattle.thes_base.specs.Refusals.{unless_owner, unless_live_concept, unless_forwarded, unless_ends, unless_pair};
+ghost use Rattle.thes_base.specs.Postings.{path_end};
+ghost use Rattle.thes_base.specs.Refusals.{unless_owner, unless_live_concept, unless_forwardable, unless_ends, unless_pair};
 
 use thes_base::data::{Link, ResourceKind};
 use thes_base::fault::Refusal;
 use thes_base::number::ResNo;
 use thes_vocab::Vocab;
 
-/// Judges whether labels may be given to this resource, or taken from it.
-pub fn judge_owner(vocab: &Vocab, owner: ResNo) -> Option<Refusal>
+/// Checks whether the labels of this resource may be changed.
+pub fn check_owner(vocab: &Vocab, owner: ResNo) -> Option<Refusal>
     ensures { unless_owner vocab.now.resources owner accepted result }
 {
     let Some(resource) = vocab.resource(owner).copied() else {
@@ -27,8 +27,8 @@ pub fn judge_owner(vocab: &Vocab, owner: ResNo) -> Option<Refusal>
     None
 }
 
-/// Judges whether this is a live concept.
-pub fn judge_live_concept(vocab: &Vocab, concept: ResNo) -> Option<Refusal>
+/// Checks whether this is a live concept.
+pub fn check_live_concept(vocab: &Vocab, concept: ResNo) -> Option<Refusal>
     ensures { unless_live_concept vocab.now.resources concept accepted result }
 {
     let Some(resource) = vocab.resource(concept).copied() else {
@@ -43,10 +43,11 @@ pub fn judge_live_concept(vocab: &Vocab, concept: ResNo) -> Option<Refusal>
     None
 }
 
-/// Judges whether this is a concept whose replacements lead to a live one, here `place`.
-pub fn judge_forwarded(vocab: &Vocab, concept: ResNo, place: ResNo) -> Option<Refusal>
-    requires { place ≡ end_of concept (replacements vocab.now.resources concept) }
-    ensures { unless_forwarded vocab.now.resources concept accepted result }
+/// Checks whether this is a concept whose chain of replacements ends at a live one; `place` is that
+/// end.
+pub fn check_forwarding(vocab: &Vocab, concept: ResNo, place: ResNo) -> Option<Refusal>
+    requires { place ≡ path_end concept (replacements vocab.now.resources concept) }
+    ensures { unless_forwardable vocab.now.resources concept accepted result }
 {
     let Some(named) = vocab.resource(concept).copied() else {
         return Some(Refusal::UnknownResource);
@@ -60,8 +61,8 @@ pub fn judge_forwarded(vocab: &Vocab, concept: ResNo, place: ResNo) -> Option<Re
     None
 }
 
-/// Judges whether these are two live concepts of one scheme.
-pub fn judge_pair(vocab: &Vocab, source: ResNo, target: ResNo) -> Option<Refusal>
+/// Checks whether these are two live concepts of one scheme.
+pub fn check_pair(vocab: &Vocab, source: ResNo, target: ResNo) -> Option<Refusal>
     ensures { unless_pair vocab.now.resources source target accepted result }
 {
     let Some(from) = vocab.resource(source).copied() else {
@@ -85,8 +86,8 @@ pub fn judge_pair(vocab: &Vocab, source: ResNo, target: ResNo) -> Option<Refusal
     None
 }
 
-/// Judges whether a link may join these two, by its kind.
-pub fn judge_ends(vocab: &Vocab, link: &Link) -> Option<Refusal>
+/// Checks whether a link of this kind may have these two ends.
+pub fn check_ends(vocab: &Vocab, link: &Link) -> Option<Refusal>
     ensures { unless_ends vocab.now.resources link.now accepted result }
 {
     let Some(a) = vocab.resource(link.a).copied() else {

@@ -1,16 +1,16 @@
-//! The changes of rows that an accepted request makes.
+//! The changes of rows for an accepted request.
 ghost use Rattle.std.specs.Prelude.{◌≡◌, ◌<◌, ◌+◌, ◌^◌, ◌∷◌, [], IfOk, List, length};
 ghost use Rattle.thes_base.specs.declared.data.History.{History};
 ghost use Rattle.thes_base.specs.declared.data.LabelKind.TheVariants.{Pref, Alt};
 ghost use Rattle.thes_base.specs.declared.request.Command.TheVariants as request;
 ghost use Rattle.thes_base.specs.Changes.{label};
-ghost use Rattle.thes_base.specs.Links.{norm};
+ghost use Rattle.thes_base.specs.Links.{normal_form};
 ghost use Rattle.thes_base.specs.Machine.{next_state, link};
 ghost use Rattle.thes_base.specs.Resources.{is_outside};
-ghost use Rattle.thes_core.specs.Requests.{AreMeant, MayChange};
-ghost use Rattle.thes_core.specs.View.{IsKept, state_of};
-ghost use Rattle.thes_tables.specs.Changes.{add_link, drop_link, changes_made, changes_of, changes_relabelled};
-ghost use Rattle.thes_tables.specs.Leads.{Leads};
+ghost use Rattle.thes_core.specs.Requests.{AreMatching, MayChange};
+ghost use Rattle.thes_core.specs.PartsView.{AreLegal, parts_state};
+ghost use Rattle.thes_tables.specs.Changes.{add_link, drop_link, changes_of_new_resource, changes_of, changes_of_relabel};
+ghost use Rattle.thes_tables.specs.ChangeLaw.{AreChangesBetween};
 ghost use Rattle.thes_tables.specs.Tables.{hier_type};
 
 mod answers;
@@ -24,12 +24,12 @@ use thes_base::data::{Label, LabelValue, Link, LinkKind, Resource, ResourceKind}
 use thes_base::number::ResNo;
 use thes_base::request::Command;
 use thes_base::text::{Iri, Tag, Text};
-use thes_graph::judge::in_order;
+use thes_graph::judge::normalize_ends;
 use thes_tables::change::Change;
 use thes_tables::delta::Delta;
 use thes_tables::rows::{HierRow, HierType, LabelRow};
 
-// A delta of one change.
+// Returns a delta of one change.
 fn one(alloc: Global, change: Change) -> Result<Delta, AllocError>
     ensures { IfOk result (λ delta. delta ≡ change ∷ []) }
 {
@@ -38,7 +38,7 @@ fn one(alloc: Global, change: Change) -> Result<Delta, AllocError>
     Ok(delta)
 }
 
-// The row of a preferred label.
+// Returns the row of a preferred label.
 fn preferred_row(
     alloc: Global,
     owner: ResNo,
@@ -54,7 +54,7 @@ fn preferred_row(
     Ok(LabelRow { owner, label })
 }
 
-// The row of an alternative label.
+// Returns the row of an alternative label.
 fn alternative_row(
     alloc: Global,
     owner: ResNo,
@@ -70,7 +70,7 @@ fn alternative_row(
     Ok(LabelRow { owner, label })
 }
 
-// The type of a hierarchical kind of link.
+// Returns the type of a hierarchical kind of link.
 fn hier_type(kind: LinkKind) -> Option<HierType>
     ensures { result ≡ hier_type kind }
 {
@@ -89,8 +89,8 @@ fn hier_type(kind: LinkKind) -> Option<HierType>
     }
 }
 
-// A link comes to the table of its kind.
-fn coming(link: &Link) -> Change
+// Returns the insertion of a link into the table of its kind.
+fn link_insertion(link: &Link) -> Change
     ensures { result ≡ add_link link.now }
 {
     match hier_type(link.kind) {
@@ -103,8 +103,8 @@ fn coming(link: &Link) -> Change
     }
 }
 
-// A link leaves the table of its kind.
-fn going(link: &Link) -> Change
+// Returns the deletion of a link from the table of its kind.
+fn link_removal(link: &Link) -> Change
     ensures { result ≡ drop_link link.now }
 {
     match hier_type(link.kind) {
@@ -118,33 +118,33 @@ fn going(link: &Link) -> Change
 }
 
 impl Thesaurus {
-    // The changes of rows that an accepted request makes.
+    // Returns the changes of rows for an accepted request.
     fn changes(&self, command: &Command, facts: &Facts) -> Result<Delta, AllocError>
         requires { MayChange self.now command.now }
         ensures { IfOk result (λ delta. (histories : List History)
-            → AreMeant self.now command.now facts.now histories
-            → Leads self.now.vocab.base delta (state_of self.now histories)
-            (next_state command.now (state_of self.now histories))) }
+            → AreMatching self.now command.now facts.now histories
+            → AreChangesBetween self.now.vocab.base delta (parts_state self.now histories)
+            (next_state command.now (parts_state self.now histories))) }
     {
         match command {
             Command::Scheme(tag, text) => {
-                self.changes_made(Resource::new(ResourceKind::Scheme, None), tag, text)
+                self.changes_of_new_resource(Resource::new(ResourceKind::Scheme, None), tag, text)
             }
             Command::Concept(scheme, tag, text) => {
-                self.changes_made(
+                self.changes_of_new_resource(
                     Resource::new(ResourceKind::Concept, Some(*scheme)),
                     tag,
                     text,
                 )
             }
             Command::Collection(scheme, tag, text) => {
-                self.changes_made(
+                self.changes_of_new_resource(
                     Resource::new(ResourceKind::Collection, Some(*scheme)),
                     tag,
                     text,
                 )
             }
-            Command::Outside(iri) => self.changes_outside(iri),
+            Command::Outside(iri) => self.changes_of_outside(iri),
             Command::AddLabel(owner, label) => one(
                 self.alloc,
                 Change::AddLabel(LabelRow {
@@ -160,63 +160,77 @@ impl Thesaurus {
                 }),
             ),
             Command::Relabel(owner, tag, text, keep) => {
-                self.changes_relabelled(*owner, tag, text, *keep)
+                self.changes_of_relabel(*owner, tag, text, *keep)
             }
-            Command::Link(kind, a, b) => one(self.alloc, coming(&self.normal(*kind, *a, *b))),
-            Command::Unlink(kind, a, b) => one(self.alloc, going(&self.normal(*kind, *a, *b))),
-            Command::Deprecate(concept) => self.changes_deprecated(*concept),
-            Command::Merge(source, target) => self.changes_merged(*source, *target, facts),
+            Command::Link(kind, a, b) => one(
+                self.alloc,
+                link_insertion(&self.normal(*kind, *a, *b)),
+            ),
+            Command::Unlink(kind, a, b) => one(
+                self.alloc,
+                link_removal(&self.normal(*kind, *a, *b)),
+            ),
+            Command::Deprecate(concept) => self.changes_of_deprecate(*concept),
+            Command::Merge(source, target) => self.changes_of_merge(*source, *target, facts),
             Command::Split(source, tag, text, postings) => {
-                self.changes_split(*source, tag, text, postings.as_slice())
+                self.changes_of_split(*source, tag, text, postings.as_slice())
             }
-            Command::Post(key, rec, concept) => self.changes_posted(key, rec, *concept),
+            Command::Post(key, rec, concept) => self.changes_of_post(key, rec, *concept),
             Command::Withdraw(posting) => one(self.alloc, Change::Withdraw(*posting)),
         }
     }
 
-    // The number that a new resource gets.
-    fn next(&self) -> ResNo
+    // Returns the number that a new resource gets.
+    fn next_resource_number(&self) -> ResNo
         requires { length self.now.vocab.resources + 1 < 2 ^ 32 }
         ensures { result ≡ length self.now.vocab.resources + 1 }
     {
         ResNo::new(self.vocab.resource_count() as u32 + 1)
     }
 
-    // A new resource with its preferred label.
-    fn changes_made(&self, resource: Resource, tag: &Tag, text: &Text) -> Result<Delta, AllocError>
+    // Returns the rows of a new resource and its preferred label.
+    fn changes_of_new_resource(
+        &self,
+        resource: Resource,
+        tag: &Tag,
+        text: &Text,
+    ) -> Result<Delta, AllocError>
         requires { length self.now.vocab.resources + 1 < 2 ^ 32 }
         ensures { IfOk result (λ delta. (histories : List History)
-            → delta ≡ changes_made resource tag.now text.now (state_of self.now histories)) }
+            → delta ≡ changes_of_new_resource resource tag.now text.now
+            (parts_state self.now histories)) }
     {
-        let number = self.next();
+        let number = self.next_resource_number();
         let mut delta = one(self.alloc, Change::AddResource(number, resource))?;
         let row = preferred_row(self.alloc, number, tag, text)?;
         delta.push(Change::AddLabel(row))?;
         Ok(delta)
     }
 
-    // A new outside concept with its IRI.
-    fn changes_outside(&self, iri: &Iri) -> Result<Delta, AllocError>
+    // Returns the rows of a new outside concept and its IRI.
+    fn changes_of_outside(&self, iri: &Iri) -> Result<Delta, AllocError>
         requires { length self.now.vocab.resources + 1 < 2 ^ 32 }
         ensures { IfOk result (λ delta. (histories : List History)
-            → delta ≡ changes_of (request.Outside iri.now) (state_of self.now histories)) }
+            → delta ≡ changes_of (request.Outside iri.now) (parts_state self.now histories)) }
     {
-        let number = self.next();
+        let number = self.next_resource_number();
         let resource = Resource::new(ResourceKind::Outside, None);
         let mut delta = one(self.alloc, Change::AddResource(number, resource))?;
         delta.push(Change::AddOutside(number, iri.try_clone(self.alloc)?))?;
         Ok(delta)
     }
 
-    // A preferred label in place of another.
-    fn changes_relabelled(
+    // Returns the changes of rows that replace a preferred label, and keep the old one as an
+    // alternative label if `keep` is true.
+    fn changes_of_relabel(
         &self,
         owner: ResNo,
         tag: &Tag,
         text: &Text,
         keep: bool,
     ) -> Result<Delta, AllocError>
-        ensures { let changes = changes_relabelled owner tag.now text.now keep self.now.vocab.labels in
+        ensures { let changes =
+            changes_of_relabel owner tag.now text.now keep self.now.vocab.labels in
             IfOk result (λ delta. delta ≡ changes) }
     {
         let Some(old) = self.vocab.preferred(owner, tag) else {
@@ -233,12 +247,12 @@ impl Thesaurus {
         Ok(delta)
     }
 
-    // The link as it is kept.
+    // Returns the normal form of a link, in which it is stored.
     fn normal(&self, kind: LinkKind, a: ResNo, b: ResNo) -> Link
-        requires { IsKept self.now [] }
-        ensures { result ≡ norm (is_outside self.now.vocab.resources) (link kind a b) }
+        requires { AreLegal self.now [] }
+        ensures { result ≡ normal_form (is_outside self.now.vocab.resources) (link kind a b) }
     {
         let outside = self.graph.is_outside(a) || self.graph.is_outside(b);
-        in_order(&Link { kind, a, b }, outside)
+        normalize_ends(&Link { kind, a, b }, outside)
     }
 }

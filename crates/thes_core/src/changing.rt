@@ -1,12 +1,13 @@
-//! What an accepted request makes of the parts. After running out of memory they may be at odds.
+//! Applies accepted requests to the parts of a thesaurus. Running out of memory may leave these
+//! inconsistent.
 ghost use Rattle.std.specs.Prelude.{◌≡◌, ℕ, IfOk, OnOk, List, []};
 ghost use Rattle.thes_base.specs.declared.data.History.{History};
 ghost use Rattle.thes_base.specs.declared.request.Command.TheVariants as request;
-ghost use Rattle.thes_core.specs.Requests.{Allows, AreMeant, Counts, CountsAll, MayChange, Remakes, command_of, is_foreign};
-ghost use Rattle.thes_core.specs.View.{IsKept};
+ghost use Rattle.thes_core.specs.Requests.{PartsAccept, AreMatching, CountsAfter, CountsAfterAny, MayChange, PartsAfter, creation_request, is_foreign};
+ghost use Rattle.thes_core.specs.PartsView.{AreLegal};
 
 use crate::facts::Facts;
-use crate::named::count_named;
+use crate::named_postings::count_named;
 use crate::thesaurus::Thesaurus;
 use std::alloc::AllocError;
 use thes_base::data::{Label, Link, LinkKind, NewResource};
@@ -14,7 +15,7 @@ use thes_base::number::{PostNo, ResNo};
 use thes_base::request::{Answer, Command};
 use thes_base::text::{Tag, Text};
 
-// Whether the new resource is an outside concept.
+// Checks whether the new resource is an outside concept.
 fn is_outside(new: &NewResource) -> bool
     ensures { result ≡ is_foreign new.now }
 {
@@ -22,13 +23,13 @@ fn is_outside(new: &NewResource) -> bool
 }
 
 impl Thesaurus {
-    // Makes what an accepted request asks for, and answers it.
+    // Applies an accepted request, and returns its answer.
     pub(crate) fn change(&mut self, command: &Command, facts: &Facts) -> Result<Answer, AllocError>
         requires { MayChange self.old command.now }
-        ensures becomes { OnOk result (Remakes command.now self.old self.new) }
+        ensures becomes { OnOk result (PartsAfter command.now self.old self.new) }
         ensures counts { IfOk result (λ answer. (histories : List History)
-            → AreMeant self.old command.now facts.now histories
-            → Counts command.now histories self.old self.new answer) }
+            → AreMatching self.old command.now facts.now histories
+            → CountsAfter command.now histories self.old self.new answer) }
     {
         let alloc = self.alloc;
         match command {
@@ -62,11 +63,11 @@ impl Thesaurus {
         }
     }
 
-    // Makes a resource.
+    // Adds a resource.
     fn make(&mut self, new: NewResource) -> Result<Answer, AllocError>
-        requires { Allows self.old [] (command_of new) }
-        ensures becomes { OnOk result (Remakes (command_of new) self.old self.new) }
-        ensures counts { IfOk result (CountsAll (command_of new) self.old self.new) }
+        requires { PartsAccept self.old [] (creation_request new) }
+        ensures becomes { OnOk result (PartsAfter (creation_request new) self.old self.new) }
+        ensures counts { IfOk result (CountsAfterAny (creation_request new) self.old self.new) }
     {
         let is_outside = is_outside(&new);
         let number = self.vocab.add_resource(new)?;
@@ -78,9 +79,11 @@ impl Thesaurus {
 
     // Adds a label.
     fn add_label(&mut self, owner: ResNo, label: &Label) -> Result<Answer, AllocError>
-        requires { Allows self.old [] (request.AddLabel owner label.now) }
-        ensures becomes { OnOk result (Remakes (request.AddLabel owner label.now) self.old self.new) }
-        ensures counts { IfOk result (CountsAll (request.AddLabel owner label.now) self.old self.new) }
+        requires { PartsAccept self.old [] (request.AddLabel owner label.now) }
+        ensures becomes { OnOk result
+            (PartsAfter (request.AddLabel owner label.now) self.old self.new) }
+        ensures counts { IfOk result
+            (CountsAfterAny (request.AddLabel owner label.now) self.old self.new) }
     {
         self.vocab.add_label(owner, label)?;
         Ok(Answer::Done)
@@ -88,9 +91,10 @@ impl Thesaurus {
 
     // Removes a label.
     fn drop_label(&mut self, owner: ResNo, label: &Label) -> Answer
-        requires { Allows self.old [] (request.DropLabel owner label.now) }
-        ensures becomes { Remakes (request.DropLabel owner label.now) self.old self.new }
-        ensures counts { CountsAll (request.DropLabel owner label.now) self.old self.new result }
+        requires { PartsAccept self.old [] (request.DropLabel owner label.now) }
+        ensures becomes { PartsAfter (request.DropLabel owner label.now) self.old self.new }
+        ensures counts { CountsAfterAny
+            (request.DropLabel owner label.now) self.old self.new result }
     {
         self.vocab.drop_label(owner, label);
         Answer::Done
@@ -104,9 +108,11 @@ impl Thesaurus {
         text: &Text,
         keep: bool,
     ) -> Result<Answer, AllocError>
-        requires { Allows self.old [] (request.Relabel owner tag.now text.now keep) }
-        ensures becomes { OnOk result (Remakes (request.Relabel owner tag.now text.now keep) self.old self.new) }
-        ensures counts { IfOk result (CountsAll (request.Relabel owner tag.now text.now keep) self.old self.new) }
+        requires { PartsAccept self.old [] (request.Relabel owner tag.now text.now keep) }
+        ensures becomes { OnOk result
+            (PartsAfter (request.Relabel owner tag.now text.now keep) self.old self.new) }
+        ensures counts { IfOk result
+            (CountsAfterAny (request.Relabel owner tag.now text.now keep) self.old self.new) }
     {
         self.vocab.relabel(owner, tag, text, keep)?;
         Ok(Answer::Done)
@@ -114,9 +120,9 @@ impl Thesaurus {
 
     // Adds a link.
     fn link(&mut self, kind: LinkKind, a: ResNo, b: ResNo) -> Result<Answer, AllocError>
-        requires { Allows self.old [] (request.Link kind a b) }
-        ensures becomes { OnOk result (Remakes (request.Link kind a b) self.old self.new) }
-        ensures counts { IfOk result (CountsAll (request.Link kind a b) self.old self.new) }
+        requires { PartsAccept self.old [] (request.Link kind a b) }
+        ensures becomes { OnOk result (PartsAfter (request.Link kind a b) self.old self.new) }
+        ensures counts { IfOk result (CountsAfterAny (request.Link kind a b) self.old self.new) }
     {
         self.graph.add(&Link { kind, a, b })?;
         Ok(Answer::Done)
@@ -124,30 +130,31 @@ impl Thesaurus {
 
     // Removes a link.
     fn unlink(&mut self, kind: LinkKind, a: ResNo, b: ResNo) -> Answer
-        requires { Allows self.old [] (request.Unlink kind a b) }
-        ensures becomes { Remakes (request.Unlink kind a b) self.old self.new }
-        ensures counts { CountsAll (request.Unlink kind a b) self.old self.new result }
+        requires { PartsAccept self.old [] (request.Unlink kind a b) }
+        ensures becomes { PartsAfter (request.Unlink kind a b) self.old self.new }
+        ensures counts { CountsAfterAny (request.Unlink kind a b) self.old self.new result }
     {
         self.graph.remove(&Link { kind, a, b });
         Answer::Done
     }
 
-    // Marks a concept as dead.
+    // Marks a concept as dead, and removes its links.
     fn deprecate(&mut self, concept: ResNo) -> Answer
-        requires { Allows self.old [] (request.Deprecate concept) }
-        ensures becomes { Remakes (request.Deprecate concept) self.old self.new }
-        ensures counts { CountsAll (request.Deprecate concept) self.old self.new result }
+        requires { PartsAccept self.old [] (request.Deprecate concept) }
+        ensures becomes { PartsAfter (request.Deprecate concept) self.old self.new }
+        ensures counts { CountsAfterAny (request.Deprecate concept) self.old self.new result }
     {
         self.vocab.mark_dead(concept, None);
         self.graph.drop_all(concept);
         Answer::Done
     }
 
-    // Joins two concepts. Answers how many postings moved.
+    // Merges the source into the target. The answer has the number of moves.
     fn merge(&mut self, source: ResNo, target: ResNo) -> Result<Answer, AllocError>
-        requires { Allows self.old [] (request.Merge source target) }
-        ensures becomes { OnOk result (Remakes (request.Merge source target) self.old self.new) }
-        ensures counts { IfOk result (CountsAll (request.Merge source target) self.old self.new) }
+        requires { PartsAccept self.old [] (request.Merge source target) }
+        ensures becomes { OnOk result (PartsAfter (request.Merge source target) self.old self.new) }
+        ensures counts { IfOk result
+            (CountsAfterAny (request.Merge source target) self.old self.new) }
     {
         self.vocab.take_labels(source, target)?;
         self.graph.contract(source, target)?;
@@ -156,7 +163,8 @@ impl Thesaurus {
         Ok(Answer::Moved(moved))
     }
 
-    // Makes a concept that takes postings of another. Answers its number, and how many postings moved.
+    // Adds a concept, and moves the postings listed to it. The answer has its number and the number
+    // of moves.
     fn split(
         &mut self,
         source: ResNo,
@@ -164,11 +172,11 @@ impl Thesaurus {
         text: &Text,
         postings: &[PostNo],
     ) -> Result<Answer, AllocError>
-        requires { Allows self.old [] (request.Split source tag.now text.now []) }
+        requires { PartsAccept self.old [] (request.Split source tag.now text.now []) }
         ensures becomes { let command = request.Split source tag.now text.now postings.now in
-            OnOk result (Remakes command self.old self.new) }
+            OnOk result (PartsAfter command self.old self.new) }
         ensures counts { let command = request.Split source tag.now text.now postings.now in
-            IfOk result (CountsAll command self.old self.new) }
+            IfOk result (CountsAfterAny command self.old self.new) }
     {
         let scheme = self.scheme(source);
         let new = NewResource::Concept(
@@ -182,13 +190,13 @@ impl Thesaurus {
         Ok(Answer::Parted(concept.get(), count))
     }
 
-    // Accepts a posting of a new key, and forwards it along the replacements of its concept.
+    // Accepts a posting with a new key, and forwards it along the replacements of its concept.
     fn post(&mut self, concept: ResNo) -> Result<Answer, AllocError>
-        requires { IsKept self.old [] }
+        requires { AreLegal self.old [] }
         ensures becomes { OnOk result ((key rec : List ℕ)
-            → Remakes (request.Post key rec concept) self.old self.new) }
+            → PartsAfter (request.Post key rec concept) self.old self.new) }
         ensures counts { IfOk result (λ answer. (key rec : List ℕ)
-            → CountsAll (request.Post key rec concept) self.old self.new answer) }
+            → CountsAfterAny (request.Post key rec concept) self.old self.new answer) }
     {
         let way = self.vocab.forwarding(concept);
         let number = self.book.post(way.place, way.steps)?;
@@ -197,10 +205,11 @@ impl Thesaurus {
 
     // Withdraws a posting.
     fn withdraw(&mut self, posting: PostNo, facts: &Facts) -> Answer
-        requires { IsKept self.old [] }
-        ensures becomes { Remakes (request.Withdraw posting) self.old self.new }
-        ensures counts { (histories : List History) → AreMeant self.old (request.Withdraw posting) facts.now histories
-            → Counts (request.Withdraw posting) histories self.old self.new result }
+        requires { AreLegal self.old [] }
+        ensures becomes { PartsAfter (request.Withdraw posting) self.old self.new }
+        ensures counts { (histories : List History)
+            → AreMatching self.old (request.Withdraw posting) facts.now histories
+            → CountsAfter (request.Withdraw posting) histories self.old self.new result }
     {
         let Some(row) = facts.first() else {
             return Answer::Done;

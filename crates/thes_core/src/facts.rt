@@ -1,41 +1,42 @@
-//! What is told of the postings that a request concerns, by those who keep them.
+//! Facts on the postings that a request concerns, from the storage that has the postings.
 ghost use Rattle.std.specs.Prelude.{◌≡◌, None, [], IfOk};
 ghost use Rattle.std.specs.Option.{option_copied};
-ghost use Rattle.thes_core.specs.Named.{first_of};
+ghost use Rattle.thes_core.specs.NamedPostings.{first_named};
 
 use std::alloc::Global;
 use thes_base::number::PostNo;
 use thes_tables::rows::PostingRow;
 
-/// Facts that a request has to be told of postings before it can be decided.
+/// The facts on postings that the decision on a request needs.
 #[derive(Debug, Drop)]
 pub struct Facts {
-    /// For a Post, the posting of its key, if there is one.
+    /// For a Post, the posting with its key, if there is one.
     pub known: Option<PostingRow>,
-    /// For a Withdraw or a Split, the postings that it names, in its order, as far as they are known.
-    pub named: Vec<Option<PostingRow>>,
-    /// For a Merge, the numbers of the postings that stand at its source, rising.
+    /// For a Withdraw or a Split, the postings that it lists, in its order; `None` for an unknown
+    /// one.
+    pub named_postings: Vec<Option<PostingRow>>,
+    /// For a Merge, the numbers of the postings assigned to its source, in ascending order.
     pub standing: Vec<PostNo>,
 }
 
 impl Facts {
-    /// Makes the facts of a request that concerns no postings.
+    /// Creates the facts for a request that concerns no postings.
     pub fn new(alloc: Global) -> Facts
         ensures known { result.known ≡ None }
-        ensures named { result.named.items ≡ [] }
+        ensures named_postings { result.named_postings.items ≡ [] }
         ensures standing { result.standing.items ≡ [] }
     {
         Facts {
             known: None,
-            named: Vec::new(alloc),
+            named_postings: Vec::new(alloc),
             standing: Vec::new(alloc),
         }
     }
 
-    // The first posting that is named, if it is known.
+    // Returns the first posting listed, if it is known.
     pub(crate) fn first(&self) -> Option<&PostingRow>
-        ensures { option_copied result ≡ first_of self.now.named.items }
+        ensures { option_copied result ≡ first_named self.now.named_postings.items }
     {
-        self.named.first()?.as_ref()
+        self.named_postings.first()?.as_ref()
     }
 }

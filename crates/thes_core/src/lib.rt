@@ -1,19 +1,20 @@
-//! The machine over a vocabulary, links and sums of postings: the answer to each request, and the state that it leaves.
+//! The machine over a vocabulary, links and counts of postings: the answer to each request, and the
+//! state after it.
 #![tactic(auto)]
 
 mod arguments;
 mod changes;
 mod changing;
-mod displayed;
-mod exported;
+mod checking;
+mod display_readers;
+mod export_readers;
 mod facts;
-mod judging;
+mod labels_by_kind;
 mod machine;
-mod named;
+mod named_postings;
 mod parts;
 pub mod reading;
 mod room;
-mod shown;
 mod thesaurus;
 mod verdict;
 

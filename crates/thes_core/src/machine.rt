@@ -1,14 +1,15 @@
-//! The machine: what each request is answered with, and the state that it leaves, but for the histories of postings.
+//! The machine: the answer to each request, and the state after it, without the histories of
+//! postings.
 ghost use Rattle.std.specs.Prelude.{◌≡◌, false, true, IfOk, IfErr, IfNone, OnOk};
 ghost use Rattle.thes_base.specs.State.{State, empty_state};
-ghost use Rattle.thes_base.specs.Headline.{IsInOrder};
+ghost use Rattle.thes_base.specs.Headline.{IsConsistentState};
 ghost use Rattle.thes_base.specs.Machine.{next_state, answer_of};
 ghost use Rattle.thes_core.specs.Facts.{AreFacts};
-ghost use Rattle.thes_core.specs.Kept.{Holds};
-ghost use Rattle.thes_core.specs.Decides.{Accepts, Decides, Makes, MayApply, Performs, Permits, Settles};
+ghost use Rattle.thes_core.specs.CoreView.{IsViewOf};
+ghost use Rattle.thes_core.specs.CoreDecisions.{IsAccepted, IsVerdict, ApplyResult, MayApply, CoreStepResult, VerdictMayApply, SettledOrAccepted};
 
+use crate::checking::known;
 use crate::facts::Facts;
-use crate::judging::known;
 use crate::thesaurus::Thesaurus;
 use crate::verdict::Verdict;
 use std::alloc::Global;
@@ -21,11 +22,11 @@ use thes_graph::graph::Graph;
 use thes_post::book::Book;
 use thes_vocab::Vocab;
 
-/// The state of a thesaurus: its vocabulary, its links and the sums of its postings.
+/// The state of a thesaurus: its vocabulary, its links and the counts of its postings.
 #[derive(Drop)]
 pub struct Core {
     pub(crate) thesaurus: Thesaurus,
-    // Running out of memory has left the parts at odds.
+    // Whether running out of memory has left the parts inconsistent.
     pub(crate) spent: bool,
 }
 
@@ -34,27 +35,27 @@ impl Model for Core {
     ghost use Rattle.std.specs.Coded.{codes};
     ghost use Rattle.std.specs.FinSet as set;
     ghost use Rattle.std.specs.FinMap as dict;
-    ghost use Rattle.thes_core.specs.Kept.{Kept};
-    ghost use Rattle.thes_core.specs.View.{kept_of, IsKept};
+    ghost use Rattle.thes_core.specs.CoreView.{CoreView};
+    ghost use Rattle.thes_core.specs.PartsView.{parts_view, AreLegal};
 
-    ghost Value = { Kept };
+    ghost Value = { CoreView };
 
     ghost coded = { Prim.hlevel (codes, set.code, dict.code) };
 
-    ghost view = { λ a. kept_of a.thesaurus a.spent };
+    ghost view = { λ a. parts_view a.thesaurus a.spent };
 
-    ghost invariant = { λ a. a.spent ≡ false → IsKept a.thesaurus [] };
+    ghost invariant = { λ a. a.spent ≡ false → AreLegal a.thesaurus [] };
 }
 
 impl Core {
-    /// Makes a core that holds the empty state.
+    /// Creates a core that holds the empty state.
     pub fn new(alloc: Global, base: Base, limits: Limits) -> Core
-        ensures holds { Holds result empty_state }
+        ensures holds { IsViewOf result empty_state }
         ensures base { result.setting.base ≡ base }
         ensures limits { result.setting.limits ≡ limits }
         ensures spent { result.spent ≡ false }
     {
-        // That the base has its form is known from here on.
+        // No effect; states the form of the base for the proof.
         let _ = base.as_str();
         Core {
             thesaurus: Thesaurus {
@@ -68,52 +69,60 @@ impl Core {
         }
     }
 
-    /// Answers a request that leaves the state as it is: with a refusal, or with what a repeated key was answered before.
-    /// Where there is no such answer, the request may be applied.
-    pub fn settled(&self, command: &Command, facts: &Facts) -> Result<Option<Answer>, Fault>
+    /// Returns the answer to a request that changes nothing: a refusal, or the answer to a repeated
+    /// key. If there is none, the request may be applied.
+    pub fn settled_answer(&self, command: &Command, facts: &Facts) -> Result<Option<Answer>, Fault>
         requires { self.now.spent ≡ false }
-        ensures ok { IfOk result (λ answer. (s : State) → Holds self.now s
-            → AreFacts command.now s.histories facts.now → Settles self.now.setting s command.now answer) }
+        ensures ok { IfOk result (λ answer. (s : State) → IsViewOf self.now s
+            → AreFacts command.now s.histories facts.now
+            → SettledOrAccepted self.now.setting s command.now answer) }
         ensures may { IfOk result (λ answer. IfNone answer (MayApply self.now command.now)) }
         ensures err { IfErr result (λ fault. fault ≡ Fault.OutOfMemory) }
     {
         if let Some(answer) = known(command, facts) {
             return Ok(Some(answer));
         }
-        match self.thesaurus.judge(command, facts)? {
+        match self.thesaurus.check_request(command, facts)? {
             Some(refusal) => Ok(Some(Answer::No(refusal))),
             None => Ok(None),
         }
     }
 
-    /// Decides what a request is answered with, and the changes of rows that it makes where it is accepted; another answer
-    /// changes nothing. The facts tell what the request concerns of the postings: where they are so, the verdict is right.
+    /// Decides a request without changing anything, and returns its answer and, if it is accepted,
+    /// its changes of rows. The verdict is right if the facts are those of the postings.
     pub fn decide(&self, command: &Command, facts: &Facts) -> Result<Verdict, Fault>
         requires { self.now.spent ≡ false }
-        ensures ok { IfOk result (λ verdict. (s : State) → Holds self.now s
-            → AreFacts command.now s.histories facts.now → Decides self.now.setting s command.now verdict) }
-        ensures may { IfOk result (Permits self.now command.now) }
+        ensures ok { IfOk result (λ verdict. (s : State) → IsViewOf self.now s
+            → AreFacts command.now s.histories facts.now
+            → IsVerdict self.now.setting s command.now verdict) }
+        ensures may { IfOk result (VerdictMayApply self.now command.now) }
         ensures err { IfErr result (λ fault. fault ≡ Fault.OutOfMemory) }
-        ensures in_order { (s : State) → Holds self.now s → IsInOrder self.now.setting.base s }
+        ensures in_order { (s : State) → IsViewOf self.now s
+            → IsConsistentState self.now.setting.base s }
     {
-        match self.settled(command, facts)? {
+        match self.settled_answer(command, facts)? {
             Some(answer) => Ok(Verdict::Settled(answer)),
             None => Ok(self.thesaurus.accepted(command, facts)?),
         }
     }
 
-    /// Makes what an accepted request asks for, and answers it. Running out of memory leaves the core spent.
+    /// Applies an accepted request, and returns its answer. Running out of memory leaves the core
+    /// unusable (`is_spent`).
     pub fn apply(&mut self, command: &Command, facts: &Facts) -> Result<Answer, Fault>
         requires unspent { self.old.spent ≡ false }
         requires may { MayApply self.old command.now }
-        ensures made { (s : State) → Holds self.old s → AreFacts command.now s.histories facts.now
-            → Accepts self.old.setting s command.now
-            → Makes self.old (next_state command.now s) (answer_of command.now s) result self.new }
-        ensures ok { OnOk result ((self.new.spent ≡ false) × (self.new.setting ≡ self.old.setting)) }
-        ensures err { IfErr result (λ fault. (fault ≡ Fault.OutOfMemory) × (self.new.spent ≡ true)) }
+        ensures made { (s : State) → IsViewOf self.old s
+            → AreFacts command.now s.histories facts.now
+            → IsAccepted self.old.setting s command.now
+            → ApplyResult self.old (next_state command.now s)
+            (answer_of command.now s) result self.new }
+        ensures ok { OnOk result ((self.new.spent ≡ false)
+            × (self.new.setting ≡ self.old.setting)) }
+        ensures err { IfErr result (λ fault. (fault ≡ Fault.OutOfMemory)
+            × (self.new.spent ≡ true)) }
     {
-        // That its texts have their forms is known from here on.
-        command.forms();
+        // No effect; states the form of each text for the proof.
+        command.learn_forms();
         self.spent = true;
         match self.thesaurus.change(command, facts) {
             Ok(answer) => {
@@ -124,16 +133,19 @@ impl Core {
         }
     }
 
-    /// Performs a request, and answers it. In the state after it each posting that isn't withdrawn stands at exactly one
-    /// live concept, the counts add up, and the triples meet the conditions of SKOS. Running out of memory changes
-    /// nothing, or leaves the core spent.
+    /// Performs a request, and returns its answer. In the state after it each posting that isn't
+    /// withdrawn is assigned to exactly one live concept, the counts add up, and the triples meet
+    /// the conditions of SKOS. Running out of memory changes nothing, or leaves the core unusable
+    /// (`is_spent`).
     pub fn step(&mut self, command: &Command, facts: &Facts) -> Result<Answer, Fault>
         requires { self.old.spent ≡ false }
-        ensures performs { (s : State) → Holds self.old s → AreFacts command.now s.histories facts.now
-            → Performs self.old s command.now result self.new }
-        ensures in_order { OnOk result ((s : State) → Holds self.new s → IsInOrder self.new.setting.base s) }
+        ensures performs { (s : State) → IsViewOf self.old s
+            → AreFacts command.now s.histories facts.now
+            → CoreStepResult self.old s command.now result self.new }
+        ensures in_order { OnOk result ((s : State) → IsViewOf self.new s
+            → IsConsistentState self.new.setting.base s) }
     {
-        match self.settled(command, facts)? {
+        match self.settled_answer(command, facts)? {
             Some(answer) => Ok(answer),
             None => self.apply(command, facts),
         }

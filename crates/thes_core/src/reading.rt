@@ -1,20 +1,20 @@
-//! Look-ups in a core. Of a spent one only `is_spent` may be asked.
+//! Look-ups in a core. On an unusable one only `is_spent` may be called.
 ghost use Rattle.std.specs.Prelude.{◌≡◌, ◌↔◌, ◌⊎◌, ◌-◌, ℕ, Some, false, true, length, IfOk, IsTrue, MatchOption};
 ghost use Rattle.std.specs.FinMap as dict;
 ghost use Rattle.std.specs.FinSet as set;
 ghost use Rattle.std.specs.Option.{option_copied};
 ghost use Rattle.std.specs.Ordering.{nat_cmp};
 ghost use Rattle.thes_base.specs.declared.data.LinkKind.TheVariants as kinds;
-ghost use Rattle.thes_base.specs.Headline.{IsInOrder};
-ghost use Rattle.thes_base.specs.Labels.{IsTaken, preferred_in};
-ghost use Rattle.thes_base.specs.Links.{HeldIn, norm};
+ghost use Rattle.thes_base.specs.Headline.{IsConsistentState};
+ghost use Rattle.thes_base.specs.Labels.{IsPreferredTaken, preferred_label_in};
+ghost use Rattle.thes_base.specs.Links.{HeldIn, normal_form};
 ghost use Rattle.thes_base.specs.Listing.{IsListing};
-ghost use Rattle.thes_base.specs.Resources.{is_outside, numbered, replacements, IsLive};
+ghost use Rattle.thes_base.specs.Resources.{is_outside, entry_at, replacements, IsLive};
 ghost use Rattle.thes_base.specs.State.{State};
-ghost use Rattle.thes_base.specs.Views.{HasLink, HasBroader, IsMapping, IsTyped, mapping_cmp, typed_cmp};
-ghost use Rattle.thes_core.specs.Kept.{Holds};
-ghost use Rattle.thes_post.specs.Sums.{count_of};
-ghost use Rattle.thes_vocab.specs.LabelData.{AreLabelsOf};
+ghost use Rattle.thes_base.specs.Views.{HasLink, HasBroader, IsMapping, IsTypedLink, mapping_cmp, typed_cmp};
+ghost use Rattle.thes_core.specs.CoreView.{IsViewOf};
+ghost use Rattle.thes_post.specs.PostingCounts.{count_of};
+ghost use Rattle.thes_vocab.specs.OwnLabels.{AreLabelsOf};
 ghost use Rattle.thes_vocab.specs.Vocabulary.{IsHolder};
 
 use crate::machine::Core;
@@ -35,17 +35,19 @@ pub struct Sizes {
 }
 
 impl Core {
-    /// Tells whether running out of memory has left the state half changed. A spent core answers nothing more. In any
-    /// other each posting that isn't withdrawn stands at exactly one live concept, the counts add up, and the triples
-    /// meet the conditions.
+    /// Checks whether running out of memory has left the state half changed, so that the core is
+    /// unusable until it is loaded again. In a usable core each posting that isn't withdrawn is
+    /// assigned to exactly one live concept, the counts add up, and the triples meet the conditions
+    /// of SKOS.
     pub fn is_spent(&self) -> bool
         ensures value { result ≡ self.now.spent }
-        ensures in_order { result ≡ false → (s : State) → Holds self.now s → IsInOrder self.now.setting.base s }
+        ensures in_order { result ≡ false → (s : State) → IsViewOf self.now s
+            → IsConsistentState self.now.setting.base s }
     {
         self.spent
     }
 
-    /// Tells how much is held. Withdrawn postings count among those accepted.
+    /// Returns the sizes of the state. Withdrawn postings count among those accepted.
     pub fn sizes(&self) -> Sizes
         requires { self.now.spent ≡ false }
         ensures resources { result.resources ≡ length self.now.resources }
@@ -66,7 +68,7 @@ impl Core {
         }
     }
 
-    /// Counts the postings that were accepted, that of these are withdrawn, and that stand.
+    /// Returns the numbers of postings accepted, of those withdrawn, and of the rest.
     pub fn totals(&self) -> Totals
         requires { self.now.spent ≡ false }
         ensures accepted { result.accepted ≡ self.now.sums.accepted }
@@ -76,7 +78,7 @@ impl Core {
         self.thesaurus.book.totals()
     }
 
-    /// Counts the postings that stand at a concept.
+    /// Returns the number of postings assigned to a concept.
     pub fn count(&self, concept: ResNo) -> u64
         requires { self.now.spent ≡ false }
         ensures { result ≡ count_of self.now.sums concept }
@@ -84,15 +86,16 @@ impl Core {
         self.thesaurus.book.count(concept)
     }
 
-    /// Finds the resource of a number.
+    /// Returns the resource with this number.
     pub fn resource(&self, n: ResNo) -> Option<&Resource>
         requires { self.now.spent ≡ false }
-        ensures { option_copied result ≡ numbered self.now.resources n }
+        ensures { option_copied result ≡ entry_at self.now.resources n }
     {
         self.thesaurus.vocab.resource(n)
     }
 
-    /// Lists the replacements of a concept: its replacement, the replacement of that, and so on.
+    /// Returns the chain of replacements of a concept: its replacement, the replacement of that,
+    /// and so on.
     pub fn replacements(&self, alloc: Global, concept: ResNo) -> Result<Vec<ResNo>, AllocError>
         requires { self.now.spent ≡ false }
         ensures { IfOk result (λ way. way.items ≡ replacements self.now.resources concept) }
@@ -100,7 +103,7 @@ impl Core {
         self.thesaurus.vocab.replacements(alloc, concept)
     }
 
-    /// Tells whether the number is a live resource's.
+    /// Checks whether the number is a live resource's.
     pub fn is_live(&self, n: ResNo) -> bool
         requires { self.now.spent ≡ false }
         ensures { IsTrue result ↔ IsLive self.now.resources n }
@@ -108,15 +111,15 @@ impl Core {
         self.thesaurus.vocab.is_live(n)
     }
 
-    /// Finds the owner's preferred label in the language.
+    /// Returns the owner's preferred label in the language.
     pub fn preferred(&self, owner: ResNo, tag: &Tag) -> Option<&Text>
         requires { self.now.spent ≡ false }
-        ensures { option_copied result ≡ preferred_in self.now.labels owner tag.now }
+        ensures { option_copied result ≡ preferred_label_in self.now.labels owner tag.now }
     {
         self.thesaurus.vocab.preferred(owner, tag)
     }
 
-    /// Lists the labels of an owner, by kind, language and text.
+    /// Returns the owner's labels, sorted by kind, language and text.
     pub fn labels_of(&self, owner: ResNo) -> &[Label]
         requires { self.now.spent ≡ false }
         ensures { AreLabelsOf self.now.labels owner result.now }
@@ -124,17 +127,17 @@ impl Core {
         self.thesaurus.vocab.labels_of(owner)
     }
 
-    /// Finds the live concept of the scheme that has this preferred label.
+    /// Returns the live concept of the scheme that has this preferred label.
     pub fn holder(&self, scheme: ResNo, tag: &Tag, text: &Text) -> Option<ResNo>
         requires { self.now.spent ≡ false }
         ensures { let s = self.now in
-            MatchOption result (¬ IsTaken s.resources s.labels scheme tag.now text.now)
+            MatchOption result (¬ IsPreferredTaken s.resources s.labels scheme tag.now text.now)
             (IsHolder s.resources s.labels scheme tag.now text.now) }
     {
         self.thesaurus.vocab.holder(scheme, tag, text)
     }
 
-    /// Finds the number of the outside concept with this IRI.
+    /// Returns the number of the outside concept with this IRI.
     pub fn outside(&self, iri: &Iri) -> Option<ResNo>
         requires { self.now.spent ≡ false }
         ensures { let has_iri = λ (n : ℕ). dict.get self.now.iris n ≡ Some iri.now in
@@ -143,7 +146,7 @@ impl Core {
         self.thesaurus.vocab.outside(iri)
     }
 
-    /// Finds the IRI of an outside concept.
+    /// Returns the IRI of an outside concept.
     pub fn outside_iri(&self, n: ResNo) -> Option<&Iri>
         requires { self.now.spent ≡ false }
         ensures { option_copied result ≡ dict.get self.now.iris n }
@@ -151,16 +154,17 @@ impl Core {
         self.thesaurus.vocab.outside_iri(n)
     }
 
-    /// Tells whether the link is held, in the order of its ends in which it is kept.
+    /// Checks whether the normal form of the link is held.
     pub fn has(&self, link: &Link) -> bool
         requires { self.now.spent ≡ false }
         ensures { let s = self.now in
-            IsTrue result ↔ HeldIn s.links (norm (is_outside s.resources) link.now) }
+            IsTrue result ↔ HeldIn s.links (normal_form (is_outside s.resources) link.now) }
     {
         self.thesaurus.graph.has(link)
     }
 
-    /// Lists the concepts that are broader than this one in its own scheme, by a link of whatever type, rising.
+    /// Returns the concepts broader than this one in its own scheme, by links of any type, in
+    /// ascending order.
     pub fn broader_of(&self, alloc: Global, n: ResNo) -> Result<Vec<ResNo>, AllocError>
         requires { self.now.spent ≡ false }
         ensures { let is_broader = HasBroader self.now.links n in
@@ -169,7 +173,8 @@ impl Core {
         self.thesaurus.graph.broader_of(alloc, n)
     }
 
-    /// Lists the concepts that are narrower than this one in its own scheme, by a link of whatever type, rising.
+    /// Returns the concepts narrower than this one in its own scheme, by links of any type, in
+    /// ascending order.
     pub fn narrower_of(&self, alloc: Global, n: ResNo) -> Result<Vec<ResNo>, AllocError>
         requires { self.now.spent ≡ false }
         ensures { let is_narrower = λ (a : ℕ). HasBroader self.now.links a n in
@@ -178,7 +183,7 @@ impl Core {
         self.thesaurus.graph.narrower_of(alloc, n)
     }
 
-    /// Lists the concepts related to this one in its own scheme, rising.
+    /// Returns the concepts related to this one in its own scheme, in ascending order.
     pub fn related_of(&self, alloc: Global, n: ResNo) -> Result<Vec<ResNo>, AllocError>
         requires { self.now.spent ≡ false }
         ensures { let has = HasLink self.now.links kinds.Related in
@@ -187,7 +192,7 @@ impl Core {
         self.thesaurus.graph.related_of(alloc, n)
     }
 
-    /// Lists the collections that the concept is a member of, rising.
+    /// Returns the collections that have the concept as a member, in ascending order.
     pub fn collections_of(&self, alloc: Global, n: ResNo) -> Result<Vec<ResNo>, AllocError>
         requires { self.now.spent ≡ false }
         ensures { let has_member = λ (c : ℕ). HasLink self.now.links kinds.Member c n in
@@ -196,19 +201,21 @@ impl Core {
         self.thesaurus.graph.collections_of(alloc, n)
     }
 
-    /// Lists the mappings of the concept as seen from it, by the words of their kinds and then by number.
-    pub fn mapped(&self, alloc: Global, n: ResNo) -> Result<Vec<(LinkKind, ResNo)>, AllocError>
+    /// Returns the mappings of the concept as seen from it, sorted by the names of their kinds and
+    /// then by number.
+    pub fn mappings(&self, alloc: Global, n: ResNo) -> Result<Vec<(LinkKind, ResNo)>, AllocError>
         requires { self.now.spent ≡ false }
         ensures { let is_mapping = IsMapping self.now.links n in
             IfOk result (λ found. IsListing mapping_cmp is_mapping found.items) }
     {
-        self.thesaurus.graph.mapped(alloc, n)
+        self.thesaurus.graph.mappings(alloc, n)
     }
 
-    /// Lists the typed hierarchical links of the concept as seen from it, by their words and then by number.
+    /// Returns the typed hierarchical links of the concept as seen from it, sorted by the names of
+    /// their kinds and then by number.
     pub fn typed_of(&self, alloc: Global, n: ResNo) -> Result<Vec<(TypedKind, ResNo)>, AllocError>
         requires { self.now.spent ≡ false }
-        ensures { let is_typed = IsTyped self.now.links n in
+        ensures { let is_typed = IsTypedLink self.now.links n in
             IfOk result (λ found. IsListing typed_cmp is_typed found.items) }
     {
         self.thesaurus.graph.typed_of(alloc, n)

@@ -1,8 +1,8 @@
-//! Whether what a request adds stays within the limits.
+//! The growth that a request causes, and the limits on it.
 ghost use Rattle.std.specs.Prelude.{◌+◌, ◌≤◌, ◌↔◌, IsTrue, max};
-ghost use Rattle.thes_base.specs.State.{Fits};
+ghost use Rattle.thes_base.specs.State.{IsWithinLimit};
 
-/// The counts by which each sort grows with a request.
+/// The numbers of resources, labels, links, postings and moves that a request adds.
 #[derive(Clone, Copy)]
 pub struct Growth {
     pub resources: u64,
@@ -13,7 +13,7 @@ pub struct Growth {
 }
 
 impl Growth {
-    /// Nothing more.
+    /// No growth.
     pub const NONE: Growth = Growth {
         resources: 0,
         labels: 0,
@@ -30,9 +30,10 @@ impl Growth {
     };
 }
 
-/// Tells whether a count may rise by so many: to its limit at most, and not at all if it is past the limit already.
+/// Checks whether a count may grow by `more`: to its limit at most. A count past its limit may only
+/// stay as it is.
 pub fn may_rise(limit: u32, count: u64, more: u64) -> bool
-    ensures { IsTrue result ↔ Fits limit count (count + more) }
+    ensures { IsTrue result ↔ IsWithinLimit limit count (count + more) }
 {
     let limit = u64::from(limit);
     more == 0 || (count <= limit && more <= limit - count)

@@ -5,7 +5,7 @@ use thes_graph::graph::Graph;
 use thes_post::book::Book;
 use thes_vocab::Vocab;
 
-/// A vocabulary, its links and its postings, and the limits that bind requests.
+/// A vocabulary, its links, the counts of its postings, and the limits on requests.
 #[derive(Drop)]
 pub struct Thesaurus {
     pub alloc: Global,

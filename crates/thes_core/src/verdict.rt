@@ -1,12 +1,12 @@
-//! What a core decides of a request.
+//! Decisions on requests.
 use thes_base::request::Answer;
 use thes_tables::delta::Delta;
 
 /// A core's decision on a request, before anything changes.
 #[derive(Debug, Drop)]
 pub enum Verdict {
-    /// The answer, which changes nothing: a refusal, or what a repeated key was answered before.
+    /// The answer to a request that changes nothing: a refusal, or the answer to a repeated key.
     Settled(Answer),
-    /// Nothing refuses the request, which may be applied: its answer, and the changes of rows that it makes.
+    /// The answer to an accepted request, and its changes of rows.
     Accepted(Answer, Delta),
 }

@@ -1,5 +1,6 @@
--- The home broader of a concept is the least key of those broader than it.
-use Rattle.std.proofs.Common.{◌≡◌, ◌∙◌, ◌≤◌, sym, ap, refl, subst, ℕ, List, [], ◌∷◌, length, Option, Some, None, arith, inl, inr}
+-- Proves that the least key among those of the broader concepts is the home.
+use Rattle.std.proofs.Common.{◌≡◌, ◌∙◌, ◌≤◌, sym, ap, refl, subst, ℕ, List, [], ◌∷◌, length, Option, Some, None}
+use Rattle.std.proofs.Common.{arith, inl, inr}
 use Rattle.std.specs.Prelude.{Contains, MatchOption}
 use Rattle.std.specs.List.{filter_map, cons_option}
 use Rattle.std.specs.Ordering.{nat_cmp}
@@ -8,12 +9,14 @@ use Rattle.thes_base.specs.Listing.{IsListing}
 use Rattle.thes_base.specs.Views.{HasBroader}
 use Rattle.thes_display.specs.Order.{Term}
 use Rattle.thes_display.specs.Hierarchical.{HasKey}
-use Rattle.thes_display.specs.Gathered.{AreKeys, IsHomeKey}
-use Rattle.thes_display.proofs.WalkLemmas.{Among, among, contains_of}
+use Rattle.thes_display.specs.HierarchyParts.{AreKeys, IsHomeKey}
+use Rattle.thes_display.proofs.WalkLemmas.{Among, among_from, contains_of}
 use Rattle.thes_display.proofs.GatherLemmas.{one_concept}
 
--- what stands among the keys found, with that of one concept more
-from_one : (f : ℕ → Option ℕ) (x k : ℕ) (xs : List ℕ) (o : Option ℕ) → f x ≡ o → (Among k (filter_map f xs) → (y : ℕ) × Among y xs × (f y ≡ Some k)) → Among k (cons_option o (filter_map f xs)) → (y : ℕ) × Among y (x ∷ xs) × (f y ≡ Some k)
+-- A key that was found for one more concept is its key, or was found before.
+from_one : (f : ℕ → Option ℕ) (x k : ℕ) (xs : List ℕ) (o : Option ℕ) → f x ≡ o
+    → (Among k (filter_map f xs) → (y : ℕ) × Among y xs × (f y ≡ Some k)) → Among k (cons_option o (filter_map f xs))
+    → (y : ℕ) × Among y (x ∷ xs) × (f y ≡ Some k)
 from_one f x k xs None g rest a = let r = rest a in (r.0, inr r.1, r.2)
 from_one f x k xs (Some j) g rest (inl same) = (x, inl refl, g ∙ ap Some (sym same))
 from_one f x k xs (Some j) g rest (inr a) = let r = rest a in (r.0, inr r.1, r.2)
@@ -22,8 +25,9 @@ of_found : (f : ℕ → Option ℕ) (xs : List ℕ) (k : ℕ) → Among k (filte
 of_found f [] k a = absurd a
 of_found f (x ∷ xs) k a = from_one f x k xs (f x) refl (λ b. of_found f xs k b) a
 
--- each key that was found is some concept's
-pub key_from : (f : ℕ → Option ℕ) (ks xs : List ℕ) (k : ℕ) → ks ≡ filter_map f xs → Among k ks → (x : ℕ) × Among x xs × (f x ≡ Some k)
+-- Each key that was found is that of a concept in the list.
+pub key_from : (f : ℕ → Option ℕ) (ks xs : List ℕ) (k : ℕ) → ks ≡ filter_map f xs → Among k ks → (x : ℕ) × Among x xs
+    × (f x ≡ Some k)
 key_from f ks xs k e a = of_found f xs k (subst (Among k) e a)
 
 with_one : (k : ℕ) (o : Option ℕ) (ks : List ℕ) → Among k ks → Among k (cons_option o ks)
@@ -32,34 +36,46 @@ with_one k (Some j) ks a = inr a
 
 found_of : (f : ℕ → Option ℕ) (xs : List ℕ) (x k : ℕ) → Among x xs → f x ≡ Some k → Among k (filter_map f xs)
 found_of f [] x k a g = absurd a
-found_of f (y ∷ xs) x k (inl same) g = subst (λ o. Among k (cons_option o (filter_map f xs))) (sym g ∙ ap f same) (inl refl)
+found_of f (y ∷ xs) x k (inl same) g = subst (λ o. Among k (cons_option o (filter_map f xs))) (sym g ∙ ap f same)
+    (inl refl)
 found_of f (y ∷ xs) x k (inr a) g = with_one k (f y) (filter_map f xs) (found_of f xs x k a g)
 
--- the key of each concept that has one was found
-pub key_to : (f : ℕ → Option ℕ) (ks xs : List ℕ) (x k : ℕ) → ks ≡ filter_map f xs → Among x xs → f x ≡ Some k → Among k ks
+-- The key of each concept in the list that has one was found.
+pub key_to : (f : ℕ → Option ℕ) (ks xs : List ℕ) (x k : ℕ) → ks ≡ filter_map f xs → Among x xs → f x ≡ Some k
+    → Among k ks
 key_to f ks xs x k e a g = subst (Among k) (sym e) (found_of f xs x k a g)
 
-module _ (links : Links) (terms : List Term) (keys : ℕ → Option ℕ) (are : AreKeys terms keys) (n key : ℕ) (here : HasKey terms n key)
+module _ (links : Links) (terms : List Term) (keys : ℕ → Option ℕ) (are : AreKeys terms keys) (n key : ℕ)
+    (here : HasKey terms n key)
     (xs ks : List ℕ) (listed : IsListing nat_cmp (λ b. HasBroader links n b) xs) (found : ks ≡ filter_map keys xs) where
   none_among : (ks : List ℕ) → length ks ≡ 0 → (b : ℕ) → Among b ks → ⊥
   none_among [] e b a = a
   none_among (k ∷ ks) e b a = absurd (omega (arith, e))
 
-  pub home_from : (home : Option ℕ) → MatchOption home (length ks ≡ 0) (λ m. Contains ks m × ((c : ℕ) → Contains ks c → m ≤ c)) → IsHomeKey links terms key home
+  pub home_from : (home : Option ℕ) → MatchOption home (length ks ≡ 0)
+      (λ m. Contains ks m × ((c : ℕ) → Contains ks c → m ≤ c)) → IsHomeKey links terms key home
   home_from None e = record {
     concept = n;
     key = here;
     none = λ b r.
         let same = one_concept terms r.lower n key r.lower_key here in
         let l = listed.complete r.upper (subst (λ z. HasBroader links z r.upper) same r.link) in
-        none_among ks e b (key_to keys ks xs r.upper b found (among r.upper xs l) (are.all r.upper b r.upper_key));
+        none_among ks e b (key_to keys ks xs r.upper b found (among_from r.upper xs l) (are.all r.upper b r.upper_key));
   }
   home_from (Some b) m =
-      let x = key_from keys ks xs b found (among b ks m.0) in
+      let x = key_from keys ks xs b found (among_from b ks m.0) in
       record {
-        broader = record { lower = n; upper = x.0; lower_key = here; upper_key = are.of x.0 b x.2; link = listed.sound x.0 (contains_of x.0 xs x.1) };
+        broader = record {
+          lower = n;
+          upper = x.0;
+          lower_key = here;
+          upper_key = are.key_is x.0 b x.2;
+          link =
+              listed.sound x.0 (contains_of x.0 xs x.1);
+        };
         least = λ c r.
             let same = one_concept terms r.lower n key r.lower_key here in
             let l = listed.complete r.upper (subst (λ z. HasBroader links z r.upper) same r.link) in
-            m.1 c (contains_of c ks (key_to keys ks xs r.upper c found (among r.upper xs l) (are.all r.upper c r.upper_key)));
+            m.1 c (contains_of c ks (key_to keys ks xs r.upper c found (among_from r.upper xs l)
+            (are.all r.upper c r.upper_key)));
       }

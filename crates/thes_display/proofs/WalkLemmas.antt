@@ -1,5 +1,6 @@
--- That a walk from the tops down writes the lines in the order of their paths.
-use Rattle.std.proofs.Common.{◌≡◌, ◌⊎◌, ◌∙◌, ◌<◌, sym, ap, refl, subst, ℕ, zero, suc, List, [], ◌∷◌, ◌++◌, reverse, map, length, arith, ⊎_elim, inl, inr, append_assoc, append-nil, Ordering, Less, Equal}
+-- Proves that a depth-first walk from the tops writes the lines in the order of their paths.
+use Rattle.std.proofs.Common.{◌≡◌, ◌⊎◌, ◌∙◌, ◌<◌, sym, ap, refl, subst, ℕ, zero, suc, List, [], ◌∷◌, ◌++◌, reverse}
+use Rattle.std.proofs.Common.{map, length, arith, ⊎_elim, inl, inr, append_assoc, append-nil, Ordering, Less, Equal}
 use mathlib.Core.List.{reverse-cons}
 use Rattle.std.specs.Prelude.{Contains}
 use Rattle.std.specs.Ordering.{ordering_then, nat_cmp}
@@ -9,8 +10,8 @@ use Rattle.std.specs.List.{AllByRecursion, slice_index_or}
 use Rattle.std.specs.List.Sorted.{IsStrictlySortedBy}
 use Rattle.thes_base.specs.Listing.{IsListing}
 use Rattle.thes_display.specs.declared.walk.Child.{Child}
-use Rattle.thes_display.specs.Lines.{Line, path, line_cmp}
-use Rattle.thes_display.specs.Below.{child_cmp}
+use Rattle.thes_display.specs.Lines.{TreeLine, path, line_cmp}
+use Rattle.thes_display.specs.ChildLists.{child_cmp}
 
 -- Membership by recursion.
 
@@ -18,13 +19,14 @@ abbrev pub Among : {X : Type 0} → X → List X → Type 0
 Among x [] = ⊥
 Among x (y ∷ ys) = (x ≡ y) ⊎ Among x ys
 
-in_cases : {X : Type 0} (x z : X) (xs : List X) (k : ℕ) → k < length (x ∷ xs) → slice_index_or (x ∷ xs) k z ≡ z → (z ≡ x) ⊎ Contains xs z
+in_cases : {X : Type 0} (x z : X) (xs : List X) (k : ℕ) → k < length (x ∷ xs) → slice_index_or (x ∷ xs) k z ≡ z
+    → (z ≡ x) ⊎ Contains xs z
 in_cases x z xs zero l e = inl (sym e)
 in_cases x z xs (suc k) l e = inr (k, omega arith, e)
 
-pub among : {X : Type 0} (z : X) (xs : List X) → Contains xs z → Among z xs
-among z [] c = let l = c.1 in absurd (omega arith)
-among z (x ∷ xs) c = ⊎_elim (λ e. inl e) (λ more. inr (among z xs more)) (in_cases x z xs c.0 c.1 c.2)
+pub among_from : {X : Type 0} (z : X) (xs : List X) → Contains xs z → Among z xs
+among_from z [] c = let l = c.1 in absurd (omega arith)
+among_from z (x ∷ xs) c = ⊎_elim (λ e. inl e) (λ more. inr (among_from z xs more)) (in_cases x z xs c.0 c.1 c.2)
 
 pub contains_of : {X : Type 0} (z : X) (xs : List X) → Among z xs → Contains xs z
 contains_of z [] c = absurd c
@@ -68,33 +70,38 @@ pub rises_none : {X : Type 0} (cmp : X → X → Ordering) → IsStrictlySortedB
 unfolding IsStrictlySortedBy
 rises_none cmp = tt
 
--- one more at the end of a list in order
-pub rises_more : {X : Type 0} (cmp : X → X → Ordering) (xs : List X) (z : X) → IsStrictlySortedBy cmp xs → ((w : X) → Among w xs → cmp w z ≡ Less) → IsStrictlySortedBy cmp (xs ++ z ∷ [])
+-- A sorted list extended by a greater element is sorted.
+pub rises_more : {X : Type 0} (cmp : X → X → Ordering) (xs : List X) (z : X) → IsStrictlySortedBy cmp xs
+    → ((w : X) → Among w xs → cmp w z ≡ Less) → IsStrictlySortedBy cmp (xs ++ z ∷ [])
 unfolding IsStrictlySortedBy
 rises_more cmp [] z s f = (tt, tt)
 rises_more cmp (x ∷ xs) z s f = (
-  all_of _ (xs ++ z ∷ []) (λ y a. ⊎_elim (λ l. each_of _ xs y s.0 l) (λ r. ⊎_elim (λ e. subst (λ q. cmp x q ≡ Less) (sym e) (f x (inl refl))) (λ n. absurd n) r) (among_append y xs (z ∷ []) a)),
+  all_of _ (xs ++ z ∷ [])
+      (λ y a. ⊎_elim (λ l. each_of _ xs y s.0 l)
+      (λ r. ⊎_elim (λ e. subst (λ q. cmp x q ≡ Less) (sym e) (f x (inl refl))) (λ n. absurd n) r)
+      (among_append y xs (z ∷ []) a)),
   rises_more cmp xs z s.1 (λ w a. f w (inr a)),
 )
 
 -- Paths.
 
--- the keys from a line's concept up
-abbrev pub up : Line → List ℕ
-up l = l.key ∷ l.above
+-- The keys from a line's concept upwards.
+abbrev pub path_up : TreeLine → List ℕ
+path_up l = l.key ∷ l.above
 
--- these keys, each one step further down
-abbrev pub onto : List ℕ → List ℕ → List ℕ
-onto [] u = u
-onto (x ∷ r) u = onto r (x ∷ u)
+-- The path `u` continued downwards by these keys.
+abbrev pub path_onto : List ℕ → List ℕ → List ℕ
+path_onto [] u = u
+path_onto (x ∷ r) u = path_onto r (x ∷ u)
 
-reverse_onto : (r u : List ℕ) → reverse (onto r u) ≡ reverse u ++ r
+reverse_onto : (r u : List ℕ) → reverse (path_onto r u) ≡ reverse u ++ r
 reverse_onto [] u = sym (append-nil (reverse u))
-reverse_onto (x ∷ r) u = reverse_onto r (x ∷ u) ∙ ap (λ z. z ++ r) (reverse-cons x u) ∙ append_assoc (reverse u) (x ∷ []) r
+reverse_onto (x ∷ r) u = reverse_onto r (x ∷ u) ∙ ap (λ z. z ++ r) (reverse-cons x u) ∙ append_assoc (reverse u)
+    (x ∷ []) r
 
--- the line's path goes through the other's, or is it
-abbrev pub Extends : Line → Line → Type 0
-Extends p l = (r : List ℕ) × (up l ≡ onto r (up p))
+-- The path of the second line goes through the first, or is equal.
+abbrev pub Extends : TreeLine → TreeLine → Type 0
+Extends p l = (r : List ℕ) × (path_up l ≡ path_onto r (path_up p))
 
 then_same : (c : Ordering) (d : Ordering) → c ≡ Equal → ordering_then c d ≡ d
 then_same c d e = ap (λ r. ordering_then r d) e
@@ -102,12 +109,13 @@ then_same c d e = ap (λ r. ordering_then r d) e
 then_less : (c : Ordering) (d : Ordering) → c ≡ Less → ordering_then c d ≡ Less
 then_less c d e = ap (λ r. ordering_then r d) e
 
--- below a common front the next keys decide
-less_behind : (front : List ℕ) (x y : ℕ) (a b : List ℕ) → nat_cmp x y ≡ Less → slice_cmp nat_cmp (front ++ x ∷ a) (front ++ y ∷ b) ≡ Less
+-- After a common prefix the next keys decide.
+less_behind : (front : List ℕ) (x y : ℕ) (a b : List ℕ) → nat_cmp x y ≡ Less → slice_cmp nat_cmp (front ++ x ∷ a)
+    (front ++ y ∷ b) ≡ Less
 less_behind [] x y a b e = then_less _ _ e
 less_behind (c ∷ front) x y a b e = then_same _ _ (tied_itself nat_cmp_total c) ∙ less_behind front x y a b e
 
--- a list is below each that goes on
+-- A list is less than each of its extensions.
 less_longer : (front : List ℕ) (x : ℕ) (a : List ℕ) → slice_cmp nat_cmp front (front ++ x ∷ a) ≡ Less
 less_longer [] x a = refl
 less_longer (c ∷ front) x a = then_same _ _ (tied_itself nat_cmp_total c) ∙ less_longer front x a
@@ -116,102 +124,118 @@ pub less_itself : (front : List ℕ) → slice_cmp nat_cmp front front ≡ Equal
 less_itself [] = refl
 less_itself (c ∷ front) = then_same _ _ (tied_itself nat_cmp_total c) ∙ less_itself front
 
--- a line directly below u, with the rest of the path of l
-path_is : (l : Line) (r u : List ℕ) (x : ℕ) → up l ≡ onto r (x ∷ u) → path l ≡ reverse u ++ x ∷ r
+-- The path of a line below `u`, from its first key below.
+path_is : (l : TreeLine) (r u : List ℕ) (x : ℕ) → path_up l ≡ path_onto r (x ∷ u) → path l ≡ reverse u ++ x ∷ r
 path_is l r u x e = ap reverse e ∙ reverse_onto (x ∷ r) u
 
--- two that stand below u by different keys
-apart_below : (u : List ℕ) (x y : ℕ) (l m : Line) (a b : List ℕ) → nat_cmp x y ≡ Less → up l ≡ onto a (x ∷ u) → up m ≡ onto b (y ∷ u) → line_cmp l m ≡ Less
+-- Lines below different children of `u` compare as the keys of these children do.
+apart_below : (u : List ℕ) (x y : ℕ) (l m : TreeLine) (a b : List ℕ) → nat_cmp x y ≡ Less → path_up l
+    ≡ path_onto a (x ∷ u) → path_up m ≡ path_onto b (y ∷ u) → line_cmp l m ≡ Less
 apart_below u x y l m a b e f g =
     subst (λ z. slice_cmp nat_cmp z (path m) ≡ Less) (sym (path_is l a u x f))
-    (subst (λ z. slice_cmp nat_cmp (reverse u ++ x ∷ a) z ≡ Less) (sym (path_is m b u y g)) (less_behind (reverse u) x y a b e))
+    (subst (λ z. slice_cmp nat_cmp (reverse u ++ x ∷ a) z ≡ Less) (sym (path_is m b u y g))
+    (less_behind (reverse u) x y a b e))
 
--- each line that goes through p comes before each that goes through q
-pub record Before (p q : Line) : Type 0 where
-  pub less : (l m : Line) → Extends p l → Extends q m → line_cmp l m ≡ Less
+-- Each line at or below `p` comes before each at or below `q`.
+pub record Before (p q : TreeLine) : Type 0 where
+  pub less : (l m : TreeLine) → Extends p l → Extends q m → line_cmp l m ≡ Less
 
-abbrev pub PairwiseBefore : List Line → Type 0
+abbrev pub PairwiseBefore : List TreeLine → Type 0
 PairwiseBefore [] = Unit {0}
 PairwiseBefore (p ∷ ps) = AllByRecursion (Before p) ps × PairwiseBefore ps
 
--- the line of a child below these keys
-abbrev pub placed : List ℕ → Child → Line
-placed u c = record { key = c.key; above = u; types = c.types; at_home = c.at_home }
+-- The line of a child below these keys.
+abbrev pub child_line : List ℕ → Child → TreeLine
+child_line u c = record { key = c.key; above = u; types = c.types; at_home = c.at_home }
 
-placed_before : (u : List ℕ) (c d : Child) → child_cmp c d ≡ Less → Before (placed u c) (placed u d)
+placed_before : (u : List ℕ) (c d : Child) → child_cmp c d ≡ Less → Before (child_line u c) (child_line u d)
 placed_before u c d e = record { less = λ l m a b. apart_below u c.key d.key l m a.0 b.0 e a.1 b.1 }
 
-all_before : (u : List ℕ) (c : Child) (ds : List Child) → AllByRecursion (λ d. child_cmp c d ≡ Less) ds → AllByRecursion (Before (placed u c)) (map (placed u) ds)
+all_before : (u : List ℕ) (c : Child) (ds : List Child) → AllByRecursion (λ d. child_cmp c d ≡ Less) ds
+    → AllByRecursion (Before (child_line u c)) (map (child_line u) ds)
 all_before u c [] s = tt
 all_before u c (d ∷ ds) s = (placed_before u c d s.0, all_before u c ds s.1)
 
-pub placed_apart : (u : List ℕ) (cs : List Child) → IsStrictlySortedBy child_cmp cs → PairwiseBefore (map (placed u) cs)
+pub placed_apart : (u : List ℕ) (cs : List Child) → IsStrictlySortedBy child_cmp cs
+    → PairwiseBefore (map (child_line u) cs)
 unfolding IsStrictlySortedBy
 placed_apart u [] s = tt
 placed_apart u (c ∷ cs) s = (all_before u c cs s.0, placed_apart u cs s.1)
 
-apart_append : (xs ys : List Line) → PairwiseBefore xs → PairwiseBefore ys → ((x y : Line) → Among x xs → Among y ys → Before x y) → PairwiseBefore (xs ++ ys)
+apart_append : (xs ys : List TreeLine) → PairwiseBefore xs → PairwiseBefore ys
+    → ((x y : TreeLine) → Among x xs → Among y ys → Before x y) → PairwiseBefore (xs ++ ys)
 apart_append [] ys p q f = q
 apart_append (x ∷ xs) ys p q f = (
   all_of _ (xs ++ ys) (λ z a. ⊎_elim (λ l. each_of _ xs z p.0 l) (λ r. f x z (inl refl) r) (among_append z xs ys a)),
   apart_append xs ys p.1 q (λ z y a b. f z y (inr a) b),
 )
 
--- What holds in a walk: some lines are written, some wait, the next one first; every line that is not written yet goes through one that waits.
-pub record IsWalk (IsIt : Line → Type 0) (written waiting : List Line) : Type 0 where
-  pub written_lines : (l : Line) → Among l written → IsIt l
-  pub waiting_lines : (l : Line) → Among l waiting → IsIt l
+-- The invariant of the walk: some lines are written and some pending, the next first; each line that isn't written yet
+-- is at or below a pending one.
+pub record IsWalk (IsIt : TreeLine → Type 0) (written waiting : List TreeLine) : Type 0 where
+  pub written_lines : (l : TreeLine) → Among l written → IsIt l
+  pub waiting_lines : (l : TreeLine) → Among l waiting → IsIt l
   pub rises : IsStrictlySortedBy line_cmp written
-  pub earlier : (w p l : Line) → Among w written → Among p waiting → Extends p l → line_cmp w l ≡ Less
+  pub earlier : (w p l : TreeLine) → Among w written → Among p waiting → Extends p l → line_cmp w l ≡ Less
   pub apart : PairwiseBefore waiting
-  pub rest : (l : Line) → IsIt l → Among l written ⊎ ((p : Line) × Among p waiting × Extends p l)
+  pub rest : (l : TreeLine) → IsIt l → Among l written ⊎ ((p : TreeLine) × Among p waiting × Extends p l)
 
--- a walk with nothing waiting has written all lines, in order
-pub walk_done : (IsIt : Line → Type 0) (written : List Line) → IsWalk IsIt written [] → IsListing line_cmp IsIt written
+-- A walk with no pending line has written all lines, in order.
+pub walk_done : (IsIt : TreeLine → Type 0) (written : List TreeLine) → IsWalk IsIt written []
+    → IsListing line_cmp IsIt written
 walk_done IsIt written h = record {
   rises = h.rises;
-  sound = λ l c. h.written_lines l (among l written c);
+  sound = λ l c. h.written_lines l (among_from l written c);
   complete = λ l q. contains_of l written (⊎_elim (λ w. w) (λ p. absurd p.1) (h.rest l q));
 }
 
--- One step: the first that waits is written, and what stands right below it waits first.
-module _ (IsIt : Line → Type 0) (written : List Line) (p : Line) (ps kids : List Line) (h : IsWalk IsIt written (p ∷ ps))
-    (below : (k : Line) → Among k kids → IsIt k × ((x : ℕ) × (up k ≡ x ∷ up p)))
+-- One step: the first pending line is written, and its children become the first pending ones.
+module _ (IsIt : TreeLine → Type 0) (written : List TreeLine) (p : TreeLine) (ps kids : List TreeLine)
+    (h : IsWalk IsIt written (p ∷ ps))
+    (below : (k : TreeLine) → Among k kids → IsIt k × ((x : ℕ) × (path_up k ≡ x ∷ path_up p)))
     (apart : PairwiseBefore kids)
-    (all : (l : Line) → IsIt l → Extends p l → (l ≡ p) ⊎ ((k : Line) × Among k kids × Extends k l)) where
-  through : (k l : Line) → Among k kids → Extends k l → Extends p l
-  through k l a e = let b = (below k a).1 in (b.0 ∷ e.0, e.1 ∙ ap (onto e.0) b.1)
+    (all : (l : TreeLine) → IsIt l → Extends p l → (l ≡ p) ⊎ ((k : TreeLine) × Among k kids × Extends k l)) where
+  child_extends : (k l : TreeLine) → Among k kids → Extends k l → Extends p l
+  child_extends k l a e = let b = (below k a).1 in (b.0 ∷ e.0, e.1 ∙ ap (path_onto e.0) b.1)
 
-  after : (k l : Line) → Among k kids → Extends k l → line_cmp p l ≡ Less
-  after k l a e =
+  child_after : (k l : TreeLine) → Among k kids → Extends k l → line_cmp p l ≡ Less
+  child_after k l a e =
       let b = (below k a).1 in
-      let f : path l ≡ reverse (up p) ++ b.0 ∷ e.0 = path_is l e.0 (up p) b.0 (e.1 ∙ ap (onto e.0) b.1) in
+      let f : path l ≡ reverse (path_up p) ++ b.0 ∷ e.0 =
+      path_is l e.0 (path_up p) b.0 (e.1 ∙ ap (path_onto e.0) b.1) in
       subst (λ z. slice_cmp nat_cmp (path p) z ≡ Less) (sym f) (less_longer (path p) b.0 e.0)
 
-  earlier : (w q l : Line) → Among w (written ++ p ∷ []) → Among q (kids ++ ps) → Extends q l → line_cmp w l ≡ Less
+  earlier : (w q l : TreeLine) → Among w (written ++ p ∷ []) → Among q (kids ++ ps) → Extends q l → line_cmp w l ≡ Less
   earlier w q l a b e =
       ⊎_elim
-      (λ old. ⊎_elim (λ kid. h.earlier w p l old (inl refl) (through q l kid e)) (λ other. h.earlier w q l old (inr other) e) (among_append q kids ps b))
+      (λ old. ⊎_elim (λ kid. h.earlier w p l old (inl refl) (child_extends q l kid e))
+      (λ other. h.earlier w q l old (inr other) e) (among_append q kids ps b))
       (λ new. ⊎_elim (λ same. subst (λ z. line_cmp z l ≡ Less) (sym same)
-      (⊎_elim (λ kid. after q l kid e) (λ other. (each_of _ ps q h.apart.0 other).less p l ([], refl) e) (among_append q kids ps b))) (λ n. absurd n) new)
+      (⊎_elim (λ kid. child_after q l kid e) (λ other. (each_of _ ps q h.apart.0 other).less p l ([], refl) e)
+      (among_append q kids ps b))) (λ n. absurd n) new)
       (among_append w written (p ∷ []) a)
 
-  rest : (l : Line) → IsIt l → Among l (written ++ p ∷ []) ⊎ ((q : Line) × Among q (kids ++ ps) × Extends q l)
+  rest : (l : TreeLine) → IsIt l → Among l (written ++ p ∷ []) ⊎ ((q : TreeLine) × Among q (kids ++ ps) × Extends q l)
   rest l i =
       ⊎_elim (λ old. inl (among_left l written (p ∷ []) old))
-      (λ (w : (q : Line) × Among q (p ∷ ps) × Extends q l).
+      (λ (w : (q : TreeLine) × Among q (p ∷ ps) × Extends q l).
       ⊎_elim
-      (λ (same : w.0 ≡ p). ⊎_elim (λ e. inl (among_right l written (p ∷ []) (inl e))) (λ k. inr (k.0, among_left k.0 kids ps k.1, k.2)) (all l i (subst (λ q. Extends q l) same w.2)))
+      (λ (same : w.0 ≡ p). ⊎_elim (λ e. inl (among_right l written (p ∷ []) (inl e)))
+      (λ k. inr (k.0, among_left k.0 kids ps k.1, k.2)) (all l i (subst (λ q. Extends q l) same w.2)))
       (λ other. inr (w.0, among_right w.0 kids ps other, w.2))
       w.1)
       (h.rest l i)
 
   pub walk_step : IsWalk IsIt (written ++ p ∷ []) (kids ++ ps)
   walk_step = record {
-    written_lines = λ l a. ⊎_elim (λ old. h.written_lines l old) (λ new. ⊎_elim (λ e. subst IsIt (sym e) (h.waiting_lines p (inl refl))) (λ n. absurd n) new) (among_append l written (p ∷ []) a);
-    waiting_lines = λ l a. ⊎_elim (λ kid. (below l kid).0) (λ other. h.waiting_lines l (inr other)) (among_append l kids ps a);
+    written_lines = λ l a. ⊎_elim (λ old. h.written_lines l old)
+        (λ new. ⊎_elim (λ e. subst IsIt (sym e) (h.waiting_lines p (inl refl))) (λ n. absurd n) new)
+        (among_append l written (p ∷ []) a);
+    waiting_lines = λ l a. ⊎_elim (λ kid. (below l kid).0) (λ other. h.waiting_lines l (inr other))
+        (among_append l kids ps a);
     rises = rises_more line_cmp written p h.rises (λ w a. h.earlier w p p a (inl refl) ([], refl));
     earlier = earlier;
-    apart = apart_append kids ps apart h.apart.1 (λ k q a b. record { less = λ l m e f. (each_of _ ps q h.apart.0 b).less l m (through k l a e) f });
+    apart = apart_append kids ps apart h.apart.1
+        (λ k q a b. record { less = λ l m e f. (each_of _ ps q h.apart.0 b).less l m (child_extends k l a e) f });
     rest = rest;
   }

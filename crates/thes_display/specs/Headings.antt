@@ -1,4 +1,4 @@
--- Headings in the order in which they are made: by concept, its own before its alternative labels.
+-- The order in which headings are made: by concept, its own heading before its alternative labels.
 use Rattle.std.specs.Prelude.{◌≡◌, ℕ, List, cond}
 use Rattle.std.specs.declared.cmp.Ordering.{Ordering}
 use Rattle.std.specs.Ordering.{nat_cmp, ordering_then}
@@ -12,6 +12,6 @@ heading_key x y =
     ordering_then (nat_cmp x.term.concept y.term.concept)
     (ordering_then (nat_cmp (cond x.lead_in 1 0) (cond y.lead_in 1 0)) (term_cmp x.term y.term))
 
--- a heading of concept n
+-- The heading is one of concept `n`.
 abbrev pub IsHeadingAt : State → List ℕ → ℕ → Heading → Type 0
 IsHeadingAt s tag n h = (h.term.concept ≡ n) × IsHeadedBy s tag h.lead_in h.term

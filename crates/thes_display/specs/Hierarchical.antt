@@ -1,5 +1,5 @@
--- The hierarchical display of a scheme in a language.
--- The key of a concept is its place in alphabetical order by its term. Its home broader is its least broader concept by that key.
+-- The hierarchical display of a scheme in a language. The key of a concept is its place in alphabetical order by its
+-- term. Its home broader concept is the one with the least key.
 use Rattle.std.specs.Prelude.{◌≡◌, ◌≤◌, ◌↔◌, ℕ, List, true, Some, slice_get, Contains, IsTrue}
 use Rattle.thes_base.specs.declared.data.LinkKind.TheVariants.{BroaderGeneric, BroaderPartitive, BroaderInstantial}
 use Rattle.thes_base.specs.Legal.{Legal}
@@ -11,25 +11,25 @@ use Rattle.thes_core.specs.Terms.{term_text}
 use Rattle.thes_vocab.specs.Vocabulary.{IsConceptOf}
 use Rattle.thes_display.specs.declared.walk.Types.{Types}
 use Rattle.thes_display.specs.Order.{Term, term_cmp}
-use Rattle.thes_display.specs.Lines.{Line, line_cmp, lines_text, IsLine}
+use Rattle.thes_display.specs.Lines.{TreeLine, line_cmp, lines_text, IsTreeLine}
 
--- a live concept of the scheme, under its term in the tag
-pub record IsShownTerm (s : State) (scheme : ℕ) (tag : List ℕ) (t : Term) : Type 0 where
-  pub shown : IsConceptOf s.resources scheme t.concept
+-- A live concept of the scheme with its term in the language.
+pub record IsSchemeTerm (s : State) (scheme : ℕ) (tag : List ℕ) (t : Term) : Type 0 where
+  pub in_scheme : IsConceptOf s.resources scheme t.concept
   pub term : t.text ≡ term_text s.labels tag t.concept
 
--- the live concepts of the scheme under their terms, in alphabetical order
+-- The live concepts of the scheme with their terms, in alphabetical order.
 abbrev pub AreTerms : State → ℕ → List ℕ → List Term → Type 0
-AreTerms s scheme tag terms = IsListing term_cmp (IsShownTerm s scheme tag) terms
+AreTerms s scheme tag terms = IsListing term_cmp (IsSchemeTerm s scheme tag) terms
 
--- the concept n has the key k
+-- The concept `n` has the key `k`.
 pub record HasKey (terms : List Term) (n k : ℕ) : Type 0 where
   pub term : Term
-  pub stands : slice_get terms k ≡ Some term
+  pub term_at : slice_get terms k ≡ Some term
   pub concept : term.concept ≡ n
 
 module _ (links : Links) (terms : List Term) where
-  -- the concept with the key b is broader than the one with the key k
+  -- The concept with the key `b` is broader than the one with the key `k`.
   pub record IsBroader (k b : ℕ) : Type 0 where
     pub lower : ℕ
     pub upper : ℕ
@@ -37,7 +37,7 @@ module _ (links : Links) (terms : List Term) where
     pub upper_key : HasKey terms upper b
     pub link : HasBroader links lower upper
 
-  -- a concept without a broader one
+  -- The concept with the key `k` has no broader concept.
   pub record IsTop (k : ℕ) : Type 0 where
     pub concept : ℕ
     pub key : HasKey terms concept k
@@ -51,7 +51,7 @@ module _ (links : Links) (terms : List Term) where
     pub broader : IsBroader k b
     pub other : IsHome k b → ⊥
 
-  -- the types of the links from the concept with the key k to the one with the key b
+  -- The types of the links from the concept with the key `k` to the one with the key `b`.
   pub record AreTypes (types : Types) (k b : ℕ) : Type 0 where
     pub lower : ℕ
     pub upper : ℕ
@@ -61,13 +61,14 @@ module _ (links : Links) (terms : List Term) where
     pub partitive : IsTrue types.partitive ↔ HasLink links BroaderPartitive lower upper
     pub instantial : IsTrue types.instantial ↔ HasLink links BroaderInstantial lower upper
 
--- There is one line for each top concept, and one for each pair of a concept and a broader concept of it.
+-- The hierarchical display: a line for each top concept, and one for each pair of a concept and a broader concept of
+-- it.
 pub record IsHierarchical (s : State) (scheme : ℕ) (tag text : List ℕ) : Type 0 where
   pub terms : List Term
   pub are_terms : AreTerms s scheme tag terms
-  pub lines : List Line
+  pub lines : List TreeLine
   pub are_lines : IsListing line_cmp
-      (IsLine (IsTop s.links terms) (IsHome s.links terms) (IsAway s.links terms) (AreTypes s.links terms)) lines
+      (IsTreeLine (IsTop s.links terms) (IsHome s.links terms) (IsAway s.links terms) (AreTypes s.links terms)) lines
   pub is : text ≡ lines_text terms lines
 
 -- A scheme of a state has at most one hierarchical display in a language.
@@ -75,15 +76,16 @@ abbrev pub HasOneHierarchical : Type 0
 HasOneHierarchical =
     (s : State) (scheme : ℕ) (tag x y : List ℕ) → IsHierarchical s scheme tag x → IsHierarchical s scheme tag y → x ≡ y
 
--- there is exactly one line at home of the concept n
-pub record HasOneHome (terms : List Term) (lines : List Line) (n : ℕ) : Type 0 where
-  pub line : Line
+-- Concept `n` has exactly one line at home.
+pub record HasOneHome (terms : List Term) (lines : List TreeLine) (n : ℕ) : Type 0 where
+  pub line : TreeLine
   pub there : Contains lines line
   pub shows : HasKey terms n line.key
   pub at_home : line.at_home ≡ true
-  pub only : (other : Line) → Contains lines other → HasKey terms n other.key → other.at_home ≡ true → other ≡ line
+  pub unique : (other : TreeLine) → Contains lines other → HasKey terms n other.key → other.at_home ≡ true → other
+      ≡ line
 
--- In the hierarchical display of a legal state each live concept of the scheme has exactly one line at home.
+-- In the hierarchical display of a legal state, each live concept of the scheme has exactly one line at home.
 abbrev pub EachHasOneHome : Type 0
 EachHasOneHome =
     (base : List ℕ) (s : State) (scheme : ℕ) (tag text : List ℕ) → Legal base s → (d : IsHierarchical s scheme tag text)

@@ -2,12 +2,12 @@
 ghost use Rattle.std.specs.Prelude.{[], ◌≡◌, ◌++◌, false, IfOk, OnOk, IsPermutation, IsSorted, cond};
 ghost use Rattle.thes_base.specs.Listing.{IsListing};
 ghost use Rattle.thes_base.specs.State.{State};
-ghost use Rattle.thes_core.specs.Kept.{Holds, with_histories};
-ghost use Rattle.thes_display.specs.Added.{IsAdded};
+ghost use Rattle.thes_core.specs.CoreView.{IsViewOf, with_histories};
+ghost use Rattle.thes_display.specs.TextAppends.{AppendsText};
 ghost use Rattle.thes_display.specs.Alphabetical.{AreLinesOf, AreTexts, IsAlphabetical, IsEntry, IsHeading, heading_cmp, line_below, symbols};
 ghost use Rattle.thes_display.specs.Headings.{heading_key, IsHeadingAt};
 
-use crate::chosen::{labels_in, under};
+use crate::entry_terms::{labels_in, terms_under};
 use crate::symbol::Symbol;
 use crate::term::Term;
 use std::alloc::{AllocError, Global};
@@ -17,7 +17,7 @@ use thes_base::number::ResNo;
 use thes_base::text::Tag;
 use thes_core::Core;
 
-/// The heading of an entry: a concept's term, or an alternative label that leads to it.
+/// The heading of an entry: a concept's term, or a lead-in term, one of its alternative labels.
 #[derive(Drop)]
 pub struct Heading {
     pub term: Term,
@@ -25,14 +25,14 @@ pub struct Heading {
 }
 
 impl Heading {
-    // Whether it comes first or second where the texts of a concept are equal.
+    // Returns 0 for a concept's term and 1 for a lead-in term, which sorts after an equal text.
     fn rank(&self) -> u8
         ensures { result ≡ cond self.now.lead_in 1 0 }
     {
         if self.lead_in { 1 } else { 0 }
     }
 
-    // How it stands to another in the display.
+    // Compares it with another in the order of the display.
     fn order(&self, other: &Heading) -> Ordering
         ensures { result ≡ heading_cmp self.now other.now }
     {
@@ -43,7 +43,7 @@ impl Heading {
     }
 }
 
-// The headings of one concept: its term, and its alternative labels in alphabetical order.
+// Returns the headings of one concept: its term, then its alternative labels in alphabetical order.
 fn headings_at(alloc: Global, core: &Core, n: ResNo, tag: &Tag) -> Result<Vec<Heading>, AllocError>
     requires { core.now.spent ≡ false }
     ensures { let is_heading = IsHeadingAt (with_histories [] core.now) tag.now n in
@@ -64,7 +64,7 @@ fn headings_at(alloc: Global, core: &Core, n: ResNo, tag: &Tag) -> Result<Vec<He
     Ok(headings)
 }
 
-// Puts headings in the order of the display.
+// Sorts headings in the order of the display.
 fn sort_headings(headings: &mut Vec<Heading>) -> Result<(), AllocError>
     ensures same { IsPermutation headings.old.items headings.new.items }
     ensures sorted { OnOk result (IsSorted heading_cmp headings.new.items) }
@@ -73,7 +73,7 @@ fn sort_headings(headings: &mut Vec<Heading>) -> Result<(), AllocError>
     Ok(())
 }
 
-// All headings of a scheme, in the order of the display.
+// Returns all headings of a scheme, in the order of the display.
 fn headings_of(
     alloc: Global,
     core: &Core,
@@ -93,7 +93,7 @@ fn headings_of(
     Ok(headings)
 }
 
-// A line below an entry's first.
+// Appends a line that belongs to the entry above.
 fn write_below(text: &mut Vec<u8>, symbol: &[u8], shown: &[u8]) -> Result<(), AllocError>
     ensures { OnOk result (text.new.items ≡ text.old.items ++ line_below symbol.now shown.now) }
 {
@@ -105,7 +105,7 @@ fn write_below(text: &mut Vec<u8>, symbol: &[u8], shown: &[u8]) -> Result<(), Al
     Ok(())
 }
 
-// The lines of one symbol.
+// Appends the lines of one symbol.
 fn write_symbol(
     alloc: Global,
     text: &mut Vec<u8>,
@@ -116,16 +116,16 @@ fn write_symbol(
 ) -> Result<(), AllocError>
     requires { core.now.spent ≡ false }
     ensures { let are_lines = AreLinesOf (with_histories [] core.now) tag.now n symbol in
-        OnOk result (IsAdded are_lines text.old.items text.new.items) }
+        OnOk result (AppendsText are_lines text.old.items text.new.items) }
 {
-    let terms = under(alloc, core, n, tag, symbol)?;
+    let terms = terms_under(alloc, core, n, tag, symbol)?;
     for term in &terms {
         write_below(text, symbol.text().as_bytes(), term.text())?;
     }
     Ok(())
 }
 
-// The lines of all symbols.
+// Appends the lines of all symbols.
 fn write_symbols(
     alloc: Global,
     text: &mut Vec<u8>,
@@ -134,8 +134,9 @@ fn write_symbols(
     tag: &Tag,
 ) -> Result<(), AllocError>
     requires { core.now.spent ≡ false }
-    ensures { let are_lines = AreTexts (AreLinesOf (with_histories [] core.now) tag.now n) symbols in
-        OnOk result (IsAdded are_lines text.old.items text.new.items) }
+    ensures { let are_lines = AreTexts
+        (AreLinesOf (with_histories [] core.now) tag.now n) symbols in
+        OnOk result (AppendsText are_lines text.old.items text.new.items) }
 {
     let symbols = Symbol::all();
     for symbol in &symbols {
@@ -144,7 +145,7 @@ fn write_symbols(
     Ok(())
 }
 
-// An entry.
+// Appends an entry.
 fn write_entry(
     alloc: Global,
     text: &mut Vec<u8>,
@@ -154,7 +155,7 @@ fn write_entry(
 ) -> Result<(), AllocError>
     requires { core.now.spent ≡ false }
     ensures { let is_entry = IsEntry (with_histories [] core.now) tag.now heading.now in
-        OnOk result (IsAdded is_entry text.old.items text.new.items) }
+        OnOk result (AppendsText is_entry text.old.items text.new.items) }
 {
     let n = heading.term.concept();
     text.extend_from_slice(heading.term.text())?;
@@ -168,7 +169,7 @@ fn write_entry(
     Ok(())
 }
 
-/// Makes the text of the alphabetical display of a scheme in a language, of the state that the core holds.
+/// Returns the text of the alphabetical display of a scheme in a language.
 pub fn alphabetical_text(
     alloc: Global,
     core: &Core,
@@ -176,7 +177,7 @@ pub fn alphabetical_text(
     tag: &Tag,
 ) -> Result<Vec<u8>, AllocError>
     requires { core.now.spent ≡ false }
-    ensures { (s : State) → Holds core.now s →
+    ensures { (s : State) → IsViewOf core.now s →
         IfOk result (λ text. IsAlphabetical s scheme tag.now text.items) }
 {
     let headings = headings_of(alloc, core, scheme, tag)?;

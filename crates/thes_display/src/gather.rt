@@ -1,18 +1,18 @@
-//! What of a core a hierarchy consists of.
+//! Computes a scheme's hierarchy from the links of a core.
 ghost use Rattle.std.specs.Prelude.{◌≡◌, ◌<◌, ◌≤◌, Contains, true, OnOk, IsPermutation, IsSorted, ◌↔◌, ℕ, Some, false, length, slice_get, IfOk, MatchOption, IsTrue};
 ghost use Rattle.std.specs.BTreeMap.{get};
 ghost use Rattle.std.specs.List.{filter_map};
 ghost use Rattle.std.specs.Ordering.{nat_cmp};
 ghost use Rattle.thes_base.specs.Listing.{IsListing};
 ghost use Rattle.thes_base.specs.State.{State};
-ghost use Rattle.thes_core.specs.Kept.{Holds};
+ghost use Rattle.thes_core.specs.CoreView.{IsViewOf};
 ghost use Rattle.thes_vocab.specs.Vocabulary.{IsConceptOf};
-ghost use Rattle.thes_display.specs.Below.{child_cmp, lists};
+ghost use Rattle.thes_display.specs.ChildLists.{child_cmp, lists};
 ghost use Rattle.thes_display.specs.Lines.{untyped as no_types};
 ghost use Rattle.thes_display.specs.Hierarchical.{AreTerms, AreTypes, IsHierarchical};
-ghost use Rattle.thes_display.specs.Gathered.{AreHomes, AreKeys, HaveOneKey, IsClosed, IsChild, IsHomeKey, AreBelow, IsHomeless};
+ghost use Rattle.thes_display.specs.HierarchyParts.{AreHomes, AreKeys, HaveOneKey, IsClosed, IsChild, IsHomeKey, AreBelow, IsHomeless};
 
-use crate::chosen::{has_link, terms_of_all};
+use crate::entry_terms::{has_link, terms_of_all};
 use crate::term::Term;
 use crate::walk::{Child, Types, hierarchy_text};
 use std::alloc::{AllocError, Global};
@@ -22,20 +22,20 @@ use thes_base::number::ResNo;
 use thes_base::text::Tag;
 use thes_core::Core;
 
-// Lists the live concepts of a scheme under their terms, in alphabetical order.
+// Returns the terms of the live concepts of a scheme, in alphabetical order.
 fn terms_of(alloc: Global, core: &Core, scheme: ResNo, tag: &Tag) -> Result<Vec<Term>, AllocError>
     requires { core.now.spent ≡ false }
-    ensures terms { (s : State) → Holds core.now s →
+    ensures terms { (s : State) → IsViewOf core.now s →
         IfOk result (λ terms. AreTerms s scheme tag.now terms.items) }
     ensures one_key { IfOk result (λ terms. HaveOneKey terms.items) }
-    ensures closed { (s : State) → Holds core.now s →
+    ensures closed { (s : State) → IsViewOf core.now s →
         IfOk result (λ terms. IsClosed core.now.links terms.items) }
 {
     let terms = terms_of_all(alloc, core, core.live_of(scheme), tag)?;
     Ok(terms)
 }
 
-// Maps each concept to its key.
+// Maps each concept to its key, the index of its term.
 fn keys_of(alloc: Global, terms: &[Term]) -> Result<BTreeMap<ResNo, usize>, AllocError>
     requires { HaveOneKey terms.now }
     ensures { IfOk result (λ keys. AreKeys terms.now (get nat_cmp keys)) }
@@ -47,7 +47,7 @@ fn keys_of(alloc: Global, terms: &[Term]) -> Result<BTreeMap<ResNo, usize>, Allo
     Ok(keys)
 }
 
-// The keys of those concepts that have one.
+// Returns the keys of those concepts that have one.
 fn keys_at(
     alloc: Global,
     keys: &BTreeMap<ResNo, usize>,
@@ -64,9 +64,10 @@ fn keys_at(
     Ok(found)
 }
 
-// The least of some keys.
+// Returns the least key, if there is one.
 fn least(keys: &[usize]) -> Option<usize>
-    ensures { MatchOption result (length keys.now ≡ 0) (λ m. Contains keys.now m × ((k : ℕ) → Contains keys.now k → m ≤ k)) }
+    ensures { MatchOption result (length keys.now ≡ 0)
+        (λ m. Contains keys.now m × ((k : ℕ) → Contains keys.now k → m ≤ k)) }
 {
     let mut found: Option<usize> = None;
     for key in keys {
@@ -78,7 +79,7 @@ fn least(keys: &[usize]) -> Option<usize>
     found
 }
 
-// The home broader of a concept, unless it is a top.
+// Returns the key of the concept's home broader concept, or none for a top.
 fn home_of(
     alloc: Global,
     core: &Core,
@@ -96,7 +97,7 @@ fn home_of(
     Ok(least(found.as_slice()))
 }
 
-// Whether a concept's home is the one with this key.
+// Returns whether `key` is the home of `child`.
 fn is_home(homes: &[Option<usize>], child: usize, key: usize) -> bool
     requires { child < length homes.now }
     ensures at { result ≡ true → slice_get homes.now child ≡ Some (Some key) }
@@ -108,7 +109,7 @@ fn is_home(homes: &[Option<usize>], child: usize, key: usize) -> bool
     }
 }
 
-// Puts children in order of their keys.
+// Sorts children by their keys.
 fn sort_children(children: &mut Vec<Child>) -> Result<(), AllocError>
     ensures same { IsPermutation children.old.items children.new.items }
     ensures sorted { OnOk result (IsSorted child_cmp children.new.items) }
@@ -117,7 +118,7 @@ fn sort_children(children: &mut Vec<Child>) -> Result<(), AllocError>
     Ok(())
 }
 
-// The types of the links from a concept to a broader one, both by their keys.
+// Returns the types of the links from a concept to a broader one, both by key.
 fn types_at(core: &Core, terms: &[Term], child: usize, key: usize) -> Types
     requires unspent { core.now.spent ≡ false }
     requires within { (child < length terms.now) × (key < length terms.now) }
@@ -131,7 +132,7 @@ fn types_at(core: &Core, terms: &[Term], child: usize, key: usize) -> Types
     }
 }
 
-// What stands directly below a concept.
+// Returns the children of a concept, sorted by key.
 fn children_of(
     alloc: Global,
     core: &Core,
@@ -144,7 +145,8 @@ fn children_of(
     requires within { key < length terms.now }
     requires keys { AreKeys terms.now (get nat_cmp keys.now) }
     requires homes { AreHomes core.now.links terms.now (length terms.now) homes.now }
-    ensures { IfOk result (λ children. IsListing child_cmp (IsChild core.now.links terms.now key) children.items) }
+    ensures { IfOk result
+        (λ children. IsListing child_cmp (IsChild core.now.links terms.now key) children.items) }
 {
     let narrower = core.narrower_of(alloc, terms[key].concept())?;
     let found = keys_at(alloc, keys, narrower.as_slice())?;
@@ -162,7 +164,7 @@ fn children_of(
     Ok(children)
 }
 
-// The home of each concept.
+// Returns the home of each concept, by key.
 fn homes_of(
     alloc: Global,
     core: &Core,
@@ -171,7 +173,8 @@ fn homes_of(
 ) -> Result<Vec<Option<usize>>, AllocError>
     requires unspent { core.now.spent ≡ false }
     requires keys { AreKeys terms.now (get nat_cmp keys.now) }
-    ensures { IfOk result (λ homes. AreHomes core.now.links terms.now (length terms.now) homes.items) }
+    ensures { IfOk result
+        (λ homes. AreHomes core.now.links terms.now (length terms.now) homes.items) }
 {
     let mut homes = Vec::new(alloc);
     for key in 0..terms.len() {
@@ -180,7 +183,7 @@ fn homes_of(
     Ok(homes)
 }
 
-// What stands directly below each concept.
+// Returns the children of each concept, by key.
 fn below_of(
     alloc: Global,
     core: &Core,
@@ -191,7 +194,8 @@ fn below_of(
     requires unspent { core.now.spent ≡ false }
     requires keys { AreKeys terms.now (get nat_cmp keys.now) }
     requires homes { AreHomes core.now.links terms.now (length terms.now) homes.now }
-    ensures { IfOk result (λ below. AreBelow core.now.links terms.now (length terms.now) (lists below.items)) }
+    ensures { IfOk result
+        (λ below. AreBelow core.now.links terms.now (length terms.now) (lists below.items)) }
 {
     let mut below = Vec::new(alloc);
     for key in 0..terms.len() {
@@ -200,7 +204,7 @@ fn below_of(
     Ok(below)
 }
 
-// No typed link.
+// Returns the types of no typed link.
 fn untyped() -> Types
     ensures { result ≡ no_types }
 {
@@ -211,7 +215,7 @@ fn untyped() -> Types
     }
 }
 
-// The tops, in order of their keys.
+// Returns the top concepts, sorted by key.
 fn tops_of(alloc: Global, homes: &[Option<usize>]) -> Result<Vec<Child>, AllocError>
     ensures { IfOk result (λ tops. IsListing child_cmp (IsHomeless homes.now) tops.items) }
 {
@@ -228,7 +232,7 @@ fn tops_of(alloc: Global, homes: &[Option<usize>]) -> Result<Vec<Child>, AllocEr
     Ok(tops)
 }
 
-/// Makes the text of the hierarchical display of a scheme in a language, of the state that the core holds.
+/// Returns the text of the hierarchical display of a scheme in a language.
 pub fn hierarchical_text(
     alloc: Global,
     core: &Core,
@@ -236,7 +240,7 @@ pub fn hierarchical_text(
     tag: &Tag,
 ) -> Result<Vec<u8>, AllocError>
     requires { core.now.spent ≡ false }
-    ensures { (s : State) → Holds core.now s →
+    ensures { (s : State) → IsViewOf core.now s →
         IfOk result (λ text. IsHierarchical s scheme tag.now text.items) }
 {
     let owned = terms_of(alloc, core, scheme, tag)?;

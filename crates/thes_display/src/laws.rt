@@ -1,4 +1,4 @@
-//! What holds of displays as they are defined, whatever writes them.
+//! Laws of displays as they are defined, whatever code writes them.
 ghost use Rattle.thes_display.specs.Alphabetical.{HasOneAlphabetical};
 ghost use Rattle.thes_display.specs.Hierarchical.{EachHasOneHome, HasOneHierarchical};
 

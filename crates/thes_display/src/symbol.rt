@@ -8,17 +8,17 @@ use thes_base::data::LinkKind;
 /// The type of a hierarchical link.
 #[derive(Clone, Copy, Debug, PartialEq, Eq)]
 pub enum Hierarchy {
-    /// The type is left open.
+    /// No type is given.
     Untyped,
-    /// A kind and what is of that kind.
+    /// Between a genus and a species.
     Generic,
-    /// A whole and its part.
+    /// Between a whole and a part.
     Partitive,
-    /// A class and an instance of it.
+    /// Between a class and an instance.
     Instantial,
 }
 
-/// A symbol: the sort of what a line below a concept's term says of it.
+/// The symbol of a line below a concept's term.
 #[derive(Clone, Copy, Debug, PartialEq, Eq)]
 pub enum Symbol {
     /// SN: a scope note.
@@ -34,7 +34,7 @@ pub enum Symbol {
 }
 
 impl Hierarchy {
-    /// Names the kind of link.
+    /// Returns the kind of link of this type.
     pub fn kind(self) -> LinkKind
         ensures kind { result ≡ hierarchy_kind self }
         ensures hierarchical { IsHierarchical result }
@@ -49,7 +49,7 @@ impl Hierarchy {
 }
 
 impl Symbol {
-    /// Lists all symbols, in the order of their lines.
+    /// Returns all symbols, in the order of their lines.
     pub fn all() -> [Symbol; 11]
         ensures { result ≡ symbols }
     {
@@ -68,7 +68,7 @@ impl Symbol {
         ]
     }
 
-    /// Spells the symbol.
+    /// Returns the letters of the symbol.
     pub fn text(self) -> &'static str
         ensures { result.now ≡ symbol_text self }
     {

@@ -1,13 +1,13 @@
-//! The walk down a hierarchy.
+//! Writes a hierarchy line by line, depth first.
 ghost use Rattle.std.specs.Prelude.{◌≡◌, ◌+◌, ◌*◌, ◌<◌, ◌++◌, [], length, reverse, map, replicate, slice_set, IfOk, OnOk, vec_len, if◌then◌else◌};
 ghost use Rattle.thes_display.specs.Lines.{line_end, placed_text, types_text};
-ghost use Rattle.thes_display.specs.Below.{at, lists, total, waiting_at, IsHierarchy, IsHierarchyText};
+ghost use Rattle.thes_display.specs.ChildLists.{children_at, lists, total, waiting_at, IsHierarchy, IsHierarchyText};
 
 use crate::term::Term;
 use std::alloc::{AllocError, Global};
 use std::mem;
 
-/// Which typed links a concept has to a broader one.
+/// The types of the links from a concept to a broader one.
 #[derive(Clone, Copy)]
 pub struct Types {
     pub generic: bool,
@@ -15,7 +15,7 @@ pub struct Types {
     pub instantial: bool,
 }
 
-/// A concept directly below another, by its key, and whether that other is its home.
+/// A child of a concept, by key, and whether that concept is its home.
 #[derive(Clone, Copy)]
 pub struct Child {
     pub key: usize,
@@ -23,16 +23,16 @@ pub struct Child {
     pub at_home: bool,
 }
 
-/// A line that waits to be written.
+/// A line that is still to be written.
 #[derive(Clone, Copy)]
-pub struct Waiting {
+pub struct WaitingLine {
     key: usize,
     depth: usize,
     types: Types,
     at_home: bool,
 }
 
-// Two spaces for each step below the top.
+// Appends two spaces for each step below the top.
 fn indent(text: &mut Vec<u8>, depth: usize) -> Result<(), AllocError>
     ensures { OnOk result (text.new.items ≡ text.old.items ++ replicate (2 * depth) 32) }
 {
@@ -42,7 +42,7 @@ fn indent(text: &mut Vec<u8>, depth: usize) -> Result<(), AllocError>
     Ok(())
 }
 
-// These bytes, if they are wanted.
+// Appends the bytes where `wanted` holds.
 fn write_if(text: &mut Vec<u8>, wanted: bool, bytes: &[u8]) -> Result<(), AllocError>
     ensures { OnOk result (text.new.items ≡ text.old.items ++ (if wanted then bytes.now else [])) }
 {
@@ -52,7 +52,7 @@ fn write_if(text: &mut Vec<u8>, wanted: bool, bytes: &[u8]) -> Result<(), AllocE
     Ok(())
 }
 
-// The types of the links to the broader concept.
+// Appends the types of the links to the broader concept.
 fn write_types(text: &mut Vec<u8>, types: Types) -> Result<(), AllocError>
     ensures { OnOk result (text.new.items ≡ text.old.items ++ types_text types) }
 {
@@ -61,7 +61,7 @@ fn write_types(text: &mut Vec<u8>, types: Types) -> Result<(), AllocError>
     write_if(text, types.instantial, b" (I)")
 }
 
-// The end of a line.
+// Appends the end of a line.
 fn write_end(text: &mut Vec<u8>, at_home: bool) -> Result<(), AllocError>
     ensures { OnOk result (text.new.items ≡ text.old.items ++ line_end at_home) }
 {
@@ -72,10 +72,12 @@ fn write_end(text: &mut Vec<u8>, at_home: bool) -> Result<(), AllocError>
     }
 }
 
-// A line.
-fn write_line(text: &mut Vec<u8>, terms: &[Term], line: Waiting) -> Result<(), AllocError>
+// Appends a line.
+fn write_line(text: &mut Vec<u8>, terms: &[Term], line: WaitingLine) -> Result<(), AllocError>
     requires { line.key < length terms.now }
-    ensures { OnOk result (text.new.items ≡ text.old.items ++ placed_text terms.now line.key line.depth line.types line.at_home) }
+    ensures { OnOk result
+        (text.new.items ≡ text.old.items
+        ++ placed_text terms.now line.key line.depth line.types line.at_home) }
 {
     indent(text, line.depth)?;
     text.extend_from_slice(terms[line.key].text())?;
@@ -84,16 +86,17 @@ fn write_line(text: &mut Vec<u8>, terms: &[Term], line: Waiting) -> Result<(), A
     Ok(())
 }
 
-// Lets these wait, the first of them to be next.
+// Pushes the children onto the stack, so that the first is popped first.
 fn push_below(
-    stack: &mut Vec<Waiting>,
+    stack: &mut Vec<WaitingLine>,
     mut children: Vec<Child>,
     depth: usize,
 ) -> Result<(), AllocError>
-    ensures { OnOk result (stack.new.items ≡ stack.old.items ++ reverse (map (waiting_at depth) children.items)) }
+    ensures { OnOk result
+        (stack.new.items ≡ stack.old.items ++ reverse (map (waiting_at depth) children.items)) }
 {
     while let Some(child) = children.pop() {
-        stack.push(Waiting {
+        stack.push(WaitingLine {
             key: child.key,
             depth,
             types: child.types,
@@ -103,17 +106,17 @@ fn push_below(
     Ok(())
 }
 
-// Takes what stands directly below a concept.
+// Takes the children of a concept, and leaves none.
 fn take_below(alloc: Global, below: &mut Vec<Vec<Child>>, key: usize) -> Vec<Child>
     requires { key < length (lists below.old.items) }
-    ensures taken { result.items ≡ at (lists below.old.items) key }
+    ensures taken { result.items ≡ children_at (lists below.old.items) key }
     ensures left { lists below.new.items ≡ slice_set (lists below.old.items) key [] }
     ensures fewer { total below.new.items + vec_len result ≡ total below.old.items }
 {
     mem::replace(&mut below[key], Vec::new(alloc))
 }
 
-/// Writes the lines of a hierarchy in the order of their paths.
+/// Returns the lines of a hierarchy in the order of their paths.
 pub fn hierarchy_text(
     alloc: Global,
     terms: &[Term],
@@ -121,7 +124,8 @@ pub fn hierarchy_text(
     mut below: Vec<Vec<Child>>,
 ) -> Result<Vec<u8>, AllocError>
     requires { IsHierarchy tops.items (lists below.items) (length terms.now) }
-    ensures { IfOk result (λ text. IsHierarchyText terms.now tops.items (lists below.items) text.items) }
+    ensures { IfOk result
+        (λ text. IsHierarchyText terms.now tops.items (lists below.items) text.items) }
 {
     let mut text = Vec::new(alloc);
     let mut stack = Vec::new(alloc);

@@ -1,9 +1,10 @@
--- What is shown of a concept that a core holds.
+-- Proves that the view of a concept in a core is its view in the state that the core holds.
 use Rattle.std.proofs.Common.{ℕ, subst}
 use Rattle.thes_base.specs.State.{State}
-use Rattle.thes_base.specs.Views.{ConceptShown, IsShown}
-use Rattle.thes_core.specs.Kept.{Kept, Holds, with_histories}
+use Rattle.thes_base.specs.Views.{ConceptDetails, AreDetailsOf}
+use Rattle.thes_core.specs.CoreView.{CoreView, IsViewOf, with_histories}
 
--- what is shown of the core's parts is shown of the state that they are
-pub shown_held : (core : Kept) (s : State) (n : ℕ) (c : ConceptShown) → Holds core s → IsShown (with_histories s.histories core) n c → IsShown s n c
-shown_held core s n c holds shown = subst (λ (t : State). IsShown t n c) holds.state shown
+-- The view in the core's parts is the view in the state that it holds.
+pub view_of_held_state : (core : CoreView) (s : State) (n : ℕ) (c : ConceptDetails) → IsViewOf core s
+    → AreDetailsOf (with_histories s.histories core) n c → AreDetailsOf s n c
+view_of_held_state core s n c holds shown = subst (λ (t : State). AreDetailsOf t n c) holds.state shown

@@ -1,19 +1,24 @@
--- A list of postings as JSON has no float.
+-- Proves that a list of postings as JSON has no float.
 use Rattle.std.proofs.Common.{◌≡◌, ◌∷◌, ◌++◌, [], List, Bool, true, false, cond, subst, sym}
 use Rattle.std.specs.Prelude.{◌||◌}
 use Rattle.serde_json.specs.View.{view, items_view}
 use Rattle.serde_json.specs.Written.{has_float, items_have_float}
 use Rattle.serde_json.specs.declared.value.Value.{Value}
 
--- nor does it with one more
-none_more : (vs : List Value) (v : Value) → items_have_float (items_view vs) ≡ false → has_float (view v) ≡ false → items_have_float (items_view (vs ++ v ∷ [])) ≡ false
-none_more [] v h e = rw e h
-none_more (x ∷ vs) v h e = elim (has_float (view x)) as (λ (t : Bool). (t || items_have_float (items_view vs)) ≡ false → (t || items_have_float (items_view (vs ++ v ∷ []))) ≡ false) [
-  | true ↦ λ q. q
-  | false ↦ λ q. none_more vs v q e
-] h
+-- Appending a value without floats keeps this.
+no_float_append : (vs : List Value) (v : Value) → items_have_float (items_view vs) ≡ false → has_float (view v)
+    ≡ false → items_have_float (items_view (vs ++ v ∷ [])) ≡ false
+no_float_append [] v h e = rw e h
+no_float_append (x ∷ vs) v h e = elim (has_float (view x)) as (λ (t : Bool). (t || items_have_float (items_view vs))
+    ≡ false → (t || items_have_float (items_view (vs ++ v ∷ []))) ≡ false) [
+      | true ↦ λ q. q
+      | false ↦ λ q. no_float_append vs v q e
+    ] h
 
--- nor where there may have been no memory for it
-pub none_pushed : (ok : Bool) (vs new : List Value) (v : Value) → items_have_float (items_view vs) ≡ false → has_float (view v) ≡ false → new ≡ cond ok (vs ++ v ∷ []) vs → items_have_float (items_view new) ≡ false
-none_pushed true vs new v h e is = subst (λ (l : List Value). items_have_float (items_view l) ≡ false) (sym is) (none_more vs v h e)
-none_pushed false vs new v h e is = subst (λ (l : List Value). items_have_float (items_view l) ≡ false) (sym is) h
+-- Appending one keeps it also when memory may run out.
+pub no_float_after_push : (ok : Bool) (vs new : List Value) (v : Value) → items_have_float (items_view vs) ≡ false
+    → has_float (view v) ≡ false → new ≡ cond ok (vs ++ v ∷ []) vs → items_have_float (items_view new) ≡ false
+no_float_after_push true vs new v h e is = subst (λ (l : List Value). items_have_float (items_view l) ≡ false)
+    (sym is) (no_float_append vs v h e)
+no_float_after_push false vs new v h e is = subst (λ (l : List Value). items_have_float (items_view l) ≡ false)
+    (sym is) h

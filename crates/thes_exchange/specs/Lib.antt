@@ -1,13 +1,13 @@
 pub mod Readings
 pub mod Tree
 pub mod Members
-pub mod Words
+pub mod Keywords
 pub mod Requests
 pub mod AnswerTexts
 pub mod Feed
 pub mod Serving
 pub mod Script
-pub mod Served
+pub mod ScriptSteps
 pub mod ViewTexts
 pub mod Listing
 pub mod ConceptMembers

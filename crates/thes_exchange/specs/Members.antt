@@ -1,32 +1,37 @@
--- The members of a request: those that its line of the table names, each of its kind.
-use Rattle.std.specs.Prelude.{ℕ, ◌==◌, Bool, false, List, [], ◌∷◌, Option, None, Some, option_and_then, option_map, if◌then◌else◌, ⊤}
+-- The members of a JSON object, looked up by name and type.
+use Rattle.std.specs.Prelude.{ℕ, ◌==◌, Bool, false, List, [], ◌∷◌, Option, None, Some, option_and_then, option_map}
+use Rattle.std.specs.Prelude.{if◌then◌else◌, ⊤}
 use Rattle.serde_json.specs.Data.{Num, Data, Items, no_items, item, Members}
 use Rattle.serde_json.specs.Events.{members_len}
 use Rattle.serde_json.specs.Find.{get, as_number, as_str, as_bool, as_array, as_object}
 
--- just so many members
+-- Whether there are exactly `n` members.
 abbrev pub has_count : ℕ → Option Members → Bool
 has_count n None = false
 has_count n (Some ms) = members_len ms == n
 
--- an object with just so many members
+-- Success exactly when the value is an object with `n` members.
 abbrev pub counted_members : ℕ → Data → Option ⊤
 counted_members n d = if has_count n (as_object d) then Some tt else None
 
+-- The number in the member `name`.
 abbrev pub number_in : List ℕ → Data → Option Num
 number_in name d = option_and_then as_number (get name d)
 
+-- The text in the member `name`.
 abbrev pub text_in : List ℕ → Data → Option (List ℕ)
 text_in name d = option_and_then as_str (get name d)
 
+-- The Boolean in the member `name`.
 abbrev pub truth_in : List ℕ → Data → Option Bool
 truth_in name d = option_and_then as_bool (get name d)
 
--- an array of numbers
+-- The items as numbers, if each is one.
 abbrev pub all_numbers : Items → Option (List Num)
 all_numbers no_items = Some []
 all_numbers (item d ds) =
     option_and_then (λ n. option_map (λ ns. n ∷ ns) (all_numbers ds)) (as_number d)
 
+-- The array of numbers in the member `name`.
 abbrev pub numbers_in : List ℕ → Data → Option (List Num)
 numbers_in name d = option_and_then all_numbers (option_and_then as_array (get name d))

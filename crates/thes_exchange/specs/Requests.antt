@@ -1,7 +1,8 @@
--- What the bytes of a request ask for, or their first fault. Three rules, in this order: the bytes are JSON; the object
--- has the members that its line of the table names and no others, each of its kind; each member has its form, in the
--- line's order.
-use Rattle.std.specs.Prelude.{ℕ, Bool, List, All, codes, map, unwrap_or, option_and_then, Option, None, Some, if◌then◌else◌}
+-- The meaning of the bytes of a request, or their first form fault. There are three steps, in this
+-- order: the bytes are JSON; the object has exactly the members in its row of the table, each of
+-- the right type; each member has its form, in the order of the row.
+use Rattle.std.specs.Prelude.{ℕ, Bool, List, All, codes, map, unwrap_or, option_and_then, Option, None, Some}
+use Rattle.std.specs.Prelude.{if◌then◌else◌}
 use Rattle.std.specs.Str.{is_utf8}
 use Rattle.std.specs.Char.{to_ascii_lowercase}
 use Rattle.serde_json.specs.Data.{Num, Data}
@@ -16,13 +17,13 @@ use Rattle.thes_base.specs.declared.data.LinkKind.{LinkKind}
 use Rattle.thes_base.specs.declared.fault.FormFault.TheVariants as bad
 use Rattle.thes_base.specs.declared.request.Command.{Command}
 use Rattle.thes_base.specs.declared.request.Command.TheVariants as request
-use Rattle.thes_exchange.specs.Readings.{Reading, reads, fails, ◌>>=◌, shaped, formed}
+use Rattle.thes_exchange.specs.Readings.{RequestReading, reads, fails, ◌>>=◌, present_or_bad_shape, value_if}
 use Rattle.thes_exchange.specs.Members.{counted_members, number_in, text_in, truth_in, numbers_in}
-use Rattle.thes_exchange.specs.Words.{label_kind_named, link_kind_named, verb_named, noun_named}
-use Rattle.thes_exchange.specs.declared.words.Verb.{Verb}
-use Rattle.thes_exchange.specs.declared.words.Verb.TheVariants as does
-use Rattle.thes_exchange.specs.declared.words.Noun.{Noun}
-use Rattle.thes_exchange.specs.declared.words.Noun.TheVariants as gets
+use Rattle.thes_exchange.specs.Keywords.{label_kind_named, link_kind_named, verb_named, noun_named}
+use Rattle.thes_exchange.specs.declared.keywords.Verb.{Verb}
+use Rattle.thes_exchange.specs.declared.keywords.Verb.TheVariants as does
+use Rattle.thes_exchange.specs.declared.keywords.Noun.{Noun}
+use Rattle.thes_exchange.specs.declared.keywords.Noun.TheVariants as gets
 use Rattle.thes_exchange.specs.declared.request.Query.{Query}
 use Rattle.thes_exchange.specs.declared.request.Query.TheVariants as asked
 use Rattle.thes_exchange.specs.declared.request.Request.{Request}
@@ -30,162 +31,188 @@ use Rattle.thes_exchange.specs.declared.request.Request.TheVariants.{Do, Get}
 
 -- Forms.
 
--- the whole number that it is; any other counts as 0, which no resource and no posting has
-abbrev pub whole : Num → ℕ
-whole x = unwrap_or (as_u64 x) 0
+-- An unsigned 64-bit integer, or 0 for any other number; no resource and no posting has the number
+-- 0.
+abbrev pub whole_number : Num → ℕ
+whole_number x = unwrap_or (as_u64 x) 0
 
-abbrev pub number_form : Num → Reading ℕ
-number_form x = formed (IsNumber (whole x)) bad.BadNumber (whole x)
+-- Reads the number of a resource or a posting.
+abbrev pub number_form : Num → RequestReading ℕ
+number_form x = value_if (IsNumber (whole_number x)) bad.BadNumber (whole_number x)
 
--- a tag is kept in lower case
-abbrev pub tag_form : List ℕ → Reading (List ℕ)
-tag_form text = formed (IsTag text) bad.BadTag (map to_ascii_lowercase text)
+-- Reads a language tag, converted to lower case.
+abbrev pub tag_form : List ℕ → RequestReading (List ℕ)
+tag_form text = value_if (IsTag text) bad.BadTag (map to_ascii_lowercase text)
 
-abbrev pub text_form : List ℕ → Reading (List ℕ)
-text_form text = formed (IsText text) bad.BadText text
+-- Reads the text of a label.
+abbrev pub text_form : List ℕ → RequestReading (List ℕ)
+text_form text = value_if (IsText text) bad.BadText text
 
-abbrev pub iri_form : List ℕ → Reading (List ℕ)
-iri_form text = formed (IsIri text) bad.BadIri text
+-- Reads an IRI.
+abbrev pub iri_form : List ℕ → RequestReading (List ℕ)
+iri_form text = value_if (IsIri text) bad.BadIri text
 
-abbrev pub key_form : List ℕ → Reading (List ℕ)
-key_form text = formed (IsKey text) bad.BadKey text
+-- Reads the sender's key for a posting.
+abbrev pub key_form : List ℕ → RequestReading (List ℕ)
+key_form text = value_if (IsKey text) bad.BadKey text
 
-abbrev pub record_form : List ℕ → Reading (List ℕ)
-record_form text = formed (IsRecordName text) bad.BadRecord text
+-- Reads the name of a record.
+abbrev pub record_form : List ℕ → RequestReading (List ℕ)
+record_form text = value_if (IsRecordName text) bad.BadRecord text
 
-abbrev pub label_text_form : LabelKind → List ℕ → Reading (List ℕ)
-label_text_form kind text = formed (IsLabelText kind text) bad.BadText text
+-- Reads the text of a label of this kind.
+abbrev pub label_text_form : LabelKind → List ℕ → RequestReading (List ℕ)
+label_text_form kind text = value_if (IsLabelText kind text) bad.BadText text
 
+-- Each is the number of a resource or a posting.
 pub record AreNumbers (ns : List ℕ) : Type 0 where
   pub each : All IsNumber ns
 
-abbrev pub numbers_form : List Num → Reading (List ℕ)
-numbers_form xs = formed (AreNumbers (map whole xs)) bad.BadNumber (map whole xs)
+-- Reads a list of numbers.
+abbrev pub numbers_form : List Num → RequestReading (List ℕ)
+numbers_form xs = value_if (AreNumbers (map whole_number xs)) bad.BadNumber (map whole_number xs)
 
--- Members: where one is found, and what it is read as.
+-- Members.
 
+-- A member: how it is looked up, and the form in which it is read.
 pub record Member (X A : Type 0) : Type 1 where
   pub found : Data → Option X
-  pub form : X → Reading A
+  pub form : X → RequestReading A
 
+-- The member `name`, a number.
 abbrev pub number_at : List ℕ → Member Num ℕ
 number_at name = record { found = number_in name; form = number_form }
 
+-- The member `tag`.
 abbrev pub a_tag : Member (List ℕ) (List ℕ)
 a_tag = record { found = text_in (codes "tag"); form = tag_form }
 
+-- The member `text`.
 abbrev pub a_text : Member (List ℕ) (List ℕ)
 a_text = record { found = text_in (codes "text"); form = text_form }
 
+-- The member `iri`.
 abbrev pub an_iri : Member (List ℕ) (List ℕ)
 an_iri = record { found = text_in (codes "iri"); form = iri_form }
 
+-- The member `key`.
 abbrev pub a_key : Member (List ℕ) (List ℕ)
 a_key = record { found = text_in (codes "key"); form = key_form }
 
+-- The member `record`.
 abbrev pub a_record : Member (List ℕ) (List ℕ)
 a_record = record { found = text_in (codes "record"); form = record_form }
 
--- true or false
+-- The member `keep`, a Boolean.
 abbrev pub a_keep : Member Bool Bool
 a_keep = record { found = truth_in (codes "keep"); form = reads }
 
--- the word of a kind of link
+-- The member `kind`, the keyword of a link kind.
 abbrev pub a_link_kind : Member LinkKind LinkKind
 a_link_kind = record {
   found = λ d. option_and_then link_kind_named (text_in (codes "kind") d);
   form = reads;
 }
 
+-- The member `postings`, an array of numbers.
 abbrev pub some_postings : Member (List Num) (List ℕ)
 some_postings = record { found = numbers_in (codes "postings"); form = numbers_form }
 
--- Lines of the table: with `do` or `get` so many members, all of them there, and then the form of each.
+-- Rows of the table: the number of members, `do` or `get` included; then the look-up of each
+-- member, and then the form of each.
 
-unfoldable pub line0 : {C : Type 0} → C → Data → Reading C
+-- A row without further members.
+unfoldable pub line0 : {C : Type 0} → C → Data → RequestReading C
 line0 makes d = do
-  _ ← shaped (counted_members 1 d)
+  _ ← present_or_bad_shape (counted_members 1 d)
   reads makes
 
-unfoldable pub line1 : {X A C : Type 0} → (A → C) → Member X A → Data → Reading C
+-- A row with one further member.
+unfoldable pub line1 : {X A C : Type 0} → (A → C) → Member X A → Data → RequestReading C
 line1 makes m d = do
-  _ ← shaped (counted_members 2 d)
-  x ← shaped (m.found d)
+  _ ← present_or_bad_shape (counted_members 2 d)
+  x ← present_or_bad_shape (m.found d)
   a ← m.form x
   reads (makes a)
 
+-- A row with two further members.
 unfoldable pub line2 : {X A Y B C : Type 0}
-    → (A → B → C) → Member X A → Member Y B → Data → Reading C
+    → (A → B → C) → Member X A → Member Y B → Data → RequestReading C
 line2 makes m n d = do
-  _ ← shaped (counted_members 3 d)
-  x ← shaped (m.found d)
-  y ← shaped (n.found d)
+  _ ← present_or_bad_shape (counted_members 3 d)
+  x ← present_or_bad_shape (m.found d)
+  y ← present_or_bad_shape (n.found d)
   a ← m.form x
   b ← n.form y
   reads (makes a b)
 
+-- A row with three further members.
 unfoldable pub line3 : {X A Y B Z D C : Type 0}
-    → (A → B → D → C) → Member X A → Member Y B → Member Z D → Data → Reading C
+    → (A → B → D → C) → Member X A → Member Y B → Member Z D → Data → RequestReading C
 line3 makes m n o d = do
-  _ ← shaped (counted_members 4 d)
-  x ← shaped (m.found d)
-  y ← shaped (n.found d)
-  z ← shaped (o.found d)
+  _ ← present_or_bad_shape (counted_members 4 d)
+  x ← present_or_bad_shape (m.found d)
+  y ← present_or_bad_shape (n.found d)
+  z ← present_or_bad_shape (o.found d)
   a ← m.form x
   b ← n.form y
   e ← o.form z
   reads (makes a b e)
 
+-- A row with four further members.
 unfoldable pub line4 : {X A Y B Z D U E C : Type 0}
-    → (A → B → D → E → C) → Member X A → Member Y B → Member Z D → Member U E → Data → Reading C
+    → (A → B → D → E → C) → Member X A → Member Y B → Member Z D → Member U E → Data → RequestReading C
 line4 makes m n o p d = do
-  _ ← shaped (counted_members 5 d)
-  x ← shaped (m.found d)
-  y ← shaped (n.found d)
-  z ← shaped (o.found d)
-  u ← shaped (p.found d)
+  _ ← present_or_bad_shape (counted_members 5 d)
+  x ← present_or_bad_shape (m.found d)
+  y ← present_or_bad_shape (n.found d)
+  z ← present_or_bad_shape (o.found d)
+  u ← present_or_bad_shape (p.found d)
   a ← m.form x
   b ← n.form y
   e ← o.form z
   f ← p.form u
   reads (makes a b e f)
 
--- Two lines that two requests share.
+-- Rows that two commands share.
 
--- a label with its owner: the form of its text is that of its kind
-unfoldable pub label_line : Data → Reading (ℕ × LabelData)
+-- The row of a label and its owner, in which the kind of the label decides the form of its text.
+unfoldable pub label_line : Data → RequestReading (ℕ × LabelData)
 label_line d = do
-  _ ← shaped (counted_members 5 d)
-  owner ← shaped (number_in (codes "owner") d)
-  kind ← shaped (option_and_then label_kind_named (text_in (codes "kind") d))
-  tag ← shaped (text_in (codes "tag") d)
-  text ← shaped (text_in (codes "text") d)
+  _ ← present_or_bad_shape (counted_members 5 d)
+  owner ← present_or_bad_shape (number_in (codes "owner") d)
+  kind ← present_or_bad_shape (option_and_then label_kind_named (text_in (codes "kind") d))
+  tag ← present_or_bad_shape (text_in (codes "tag") d)
+  text ← present_or_bad_shape (text_in (codes "text") d)
   n ← number_form owner
   t ← tag_form tag
   x ← label_text_form kind text
   reads (n, record { kind = kind; tag = t; text = x })
 
-abbrev pub link_line : Data → Reading Link
+-- The row of a link: its kind and its two ends.
+abbrev pub link_line : Data → RequestReading Link
 link_line d =
     line3 (λ kind a b. record { kind = kind; a = a; b = b })
     a_link_kind (number_at (codes "a")) (number_at (codes "b")) d
 
-unfoldable pub made_of : {A C : Type 0} → (A → C) → Reading A → Reading C
-made_of makes line = do
+-- Applies a function to the value of a row.
+unfoldable pub map_reading : {A C : Type 0} → (A → C) → RequestReading A → RequestReading C
+map_reading makes line = do
   x ← line
   reads (makes x)
 
--- The table: what stands at `do`, and the other members in the order in which their forms are looked at.
-abbrev pub command_in : Verb → Data → Reading Command
+-- The table of commands: the keyword at `do`, and the other members in the order in which their
+-- forms are checked.
+abbrev pub command_in : Verb → Data → RequestReading Command
 command_in does.Scheme d = line2 request.Scheme a_tag a_text d
 command_in does.Concept d = line3 request.Concept (number_at (codes "scheme")) a_tag a_text d
 command_in does.Collection d = line3 request.Collection (number_at (codes "scheme")) a_tag a_text d
 command_in does.Outside d = line1 request.Outside an_iri d
-command_in does.AddLabel d = made_of (λ l. request.AddLabel l.0 l.1) (label_line d)
-command_in does.DropLabel d = made_of (λ l. request.DropLabel l.0 l.1) (label_line d)
+command_in does.AddLabel d = map_reading (λ l. request.AddLabel l.0 l.1) (label_line d)
+command_in does.DropLabel d = map_reading (λ l. request.DropLabel l.0 l.1) (label_line d)
 command_in does.Relabel d = line4 request.Relabel (number_at (codes "owner")) a_tag a_text a_keep d
-command_in does.Link d = made_of (λ l. request.Link l.kind l.a l.b) (link_line d)
-command_in does.Unlink d = made_of (λ l. request.Unlink l.kind l.a l.b) (link_line d)
+command_in does.Link d = map_reading (λ l. request.Link l.kind l.a l.b) (link_line d)
+command_in does.Unlink d = map_reading (λ l. request.Unlink l.kind l.a l.b) (link_line d)
 command_in does.Deprecate d = line1 request.Deprecate (number_at (codes "concept")) d
 command_in does.Merge d =
     line2 request.Merge (number_at (codes "source")) (number_at (codes "target")) d
@@ -194,36 +221,39 @@ command_in does.Split d =
 command_in does.Post d = line3 request.Post a_key a_record (number_at (codes "concept")) d
 command_in does.Withdraw d = line1 request.Withdraw (number_at (codes "posting")) d
 
--- and what stands at `get`
-abbrev pub query_in : Noun → Data → Reading Query
+-- The table of queries: the keyword at `get`, and the other members.
+abbrev pub query_in : Noun → Data → RequestReading Query
 query_in gets.Totals d = line0 asked.Totals d
 query_in gets.Concept d = line1 asked.Concept (number_at (codes "number")) d
 query_in gets.Postings d = line1 asked.Postings (number_at (codes "concept")) d
 query_in gets.Posting d = line1 asked.Posting (number_at (codes "number")) d
 
--- Where there is `do`, `get` would be a member too many.
-abbrev pub by_words : Option Data → Option Data → Data → Reading Request
-by_words (Some word) _ d = do
-  verb ← shaped (option_and_then verb_named (as_str word))
-  made_of Do (command_in verb d)
-by_words None (Some word) d = do
-  noun ← shaped (option_and_then noun_named (as_str word))
-  made_of Get (query_in noun d)
-by_words None None d = fails bad.BadShape
+-- Reads a request by the value of `do`, or else of `get`; an object with both has a member too
+-- many.
+abbrev pub request_by_keyword : Option Data → Option Data → Data → RequestReading Request
+request_by_keyword (Some word) _ d = do
+  verb ← present_or_bad_shape (option_and_then verb_named (as_str word))
+  map_reading Do (command_in verb d)
+request_by_keyword None (Some word) d = do
+  noun ← present_or_bad_shape (option_and_then noun_named (as_str word))
+  map_reading Get (query_in noun d)
+request_by_keyword None None d = fails bad.BadShape
 
-unfoldable pub request_in : Data → Reading Request
-request_in d = by_words (get (codes "do") d) (get (codes "get") d) d
+-- Reads a request from JSON.
+unfoldable pub request_in : Data → RequestReading Request
+request_in d = request_by_keyword (get (codes "do") d) (get (codes "get") d) d
 
--- what the bytes are as JSON
+-- The bytes as JSON, if they are UTF-8 and JSON.
 abbrev pub json_in : List ℕ → Option Data
 json_in bytes = if is_utf8 bytes then read bytes else None
 
-abbrev pub json_of : Option Data → Reading Data
+-- The JSON, or `NotJson` if there is none.
+abbrev pub json_of : Option Data → RequestReading Data
 json_of None = fails bad.NotJson
 json_of (Some d) = reads d
 
--- what the bytes ask for
-abbrev pub request_of : List ℕ → Reading Request
+-- Reads a request from bytes.
+abbrev pub request_of : List ℕ → RequestReading Request
 request_of bytes = do
   d ← json_of (json_in bytes)
   request_in d

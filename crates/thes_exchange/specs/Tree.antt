@@ -1,4 +1,4 @@
--- The data that a value of a line stands for.
+-- The JSON data that a parsed value represents.
 use Rattle.std.specs.Prelude.{ℕ, List, map, fold}
 use Rattle.std.specs.Borrow.{Bor}
 use Rattle.serde_json.specs.Data.{Data, null, boolean, number, string, array, object, Items, Members, no_members, put}
@@ -6,11 +6,11 @@ use Rattle.serde_json.specs.View.{number_view, items_of}
 use Rattle.thes_exchange.specs.declared.tree.Value.{Value, fold-Value}
 use Rattle.thes_exchange.specs.declared.tree.Value.TheOpen.{Value-F}
 
--- the members go in one after another, so the last value of a name stays
+-- The members put in one after another, so that the last value of a name counts.
 abbrev pub members_of : List (Bor (List ℕ) × Data) → Members
 members_of = fold (λ found m. put m.0.now m.1 found) no_members
 
--- one level, with each value inside already seen as its data
+-- The data of one level, given the data of the values inside.
 abbrev pub view_step : Value-F Data → Data
 view_step Value-F.Null = null
 view_step (Value-F.Truth b) = boolean b
@@ -19,11 +19,14 @@ view_step (Value-F.Text s) = string s.now
 view_step (Value-F.Array v) = array (items_of v.items)
 view_step (Value-F.Object v) = object (members_of v.items)
 
+-- The data of a parsed value.
 abbrev pub view : Value → Data
 view = fold-Value Data view_step
 
+-- The data of the values of an array.
 abbrev pub items_view : List Value → Items
 items_view vs = items_of (map view vs)
 
+-- The data of the members of an object.
 abbrev pub members_view : List (Bor (List ℕ) × Value) → Members
 members_view ms = members_of (map (λ m. (m.0, view m.1)) ms)

@@ -1,6 +1,7 @@
--- Views as JSON: the members stand in the byte order of their names.
+-- Views as JSON, with the members in byte order of their names.
 use Rattle.std.specs.Prelude.{ℕ, List, [], ◌∷◌, ◌++◌, map, codes, Option, None, Some}
-use Rattle.serde_json.specs.Data.{Data, null, boolean, number, unsigned, string, array, object, no_items, item, no_members, member}
+use Rattle.serde_json.specs.Data.{Data, null, boolean, number, unsigned, string, array, object, no_items, item}
+use Rattle.serde_json.specs.Data.{no_members, member}
 use Rattle.serde_json.specs.View.{items_of}
 use Rattle.serde_json.specs.Written.{compact_text}
 use Rattle.thes_base.specs.declared.data.History.{History}
@@ -8,94 +9,108 @@ use Rattle.thes_base.specs.declared.data.LinkKind.{LinkKind}
 use Rattle.thes_base.specs.declared.data.Move.{Move}
 use Rattle.thes_base.specs.declared.data.TypedKind.{TypedKind}
 use Rattle.thes_base.specs.Postings.{place}
-use Rattle.thes_base.specs.Views.{Tagged, ConceptShown}
-use Rattle.thes_base.specs.Words.{link_word, typed_word}
+use Rattle.thes_base.specs.Views.{TaggedText, ConceptDetails}
+use Rattle.thes_base.specs.KindNames.{link_kind_name, typed_kind_name}
 use Rattle.thes_exchange.specs.AnswerTexts.{refusal_text}
 use Rattle.thes_base.specs.declared.data.Totals.{Totals}
 use Rattle.thes_exchange.specs.declared.view.View.{View}
 use Rattle.thes_exchange.specs.declared.view.View.TheVariants as views
 
-abbrev pub num : ℕ → Data
-num n = number (unsigned n)
+-- A number as JSON.
+abbrev pub number_data : ℕ → Data
+number_data n = number (unsigned n)
 
+-- A number as JSON, or null.
 abbrev pub number_or_null : Option ℕ → Data
 number_or_null None = null
-number_or_null (Some n) = num n
+number_or_null (Some n) = number_data n
 
-abbrev pub listed : {A : Type 0} → (A → Data) → List A → Data
-listed show xs = array (items_of (map show xs))
+-- The values as a JSON array.
+abbrev pub array_data : {A : Type 0} → (A → Data) → List A → Data
+array_data show xs = array (items_of (map show xs))
 
-abbrev pub tagged_data : Tagged → Data
+-- A label as an array of its language tag and its text.
+abbrev pub tagged_data : TaggedText → Data
 tagged_data l = array (item (string l.tag) (item (string l.text) no_items))
 
--- a word and the number that it leads to
-abbrev pub word_data : List ℕ → ℕ → Data
-word_data word n = array (item (string word) (item (num n) no_items))
+-- An array of a keyword and a number.
+abbrev pub keyword_data : List ℕ → ℕ → Data
+keyword_data word n = array (item (string word) (item (number_data n) no_items))
 
+-- A mapping as an array of its keyword and its other end.
 abbrev pub mapping_data : LinkKind × ℕ → Data
-mapping_data m = word_data (link_word m.0) m.1
+mapping_data m = keyword_data (link_kind_name m.0) m.1
 
+-- A typed link as an array of its keyword and its other end.
 abbrev pub typed_data : TypedKind × ℕ → Data
-typed_data m = word_data (typed_word m.0) m.1
+typed_data m = keyword_data (typed_kind_name m.0) m.1
 
+-- A move as an array of its number, its source and its target.
 abbrev pub move_data : Move → Data
-move_data m = array (item (num m.number) (item (num m.source) (item (num m.target) no_items)))
+move_data m = array (item (number_data m.number) (item (number_data m.source) (item (number_data m.target) no_items)))
 
--- a posting in a list, by its number, its key and its record
+-- A posting of a list as an array of its number, its key and its record name.
 abbrev pub entry_data : ℕ → List ℕ → List ℕ → Data
-entry_data n key rec = array (item (num n) (item (string key) (item (string rec) no_items)))
+entry_data n key rec = array (item (number_data n) (item (string key) (item (string rec) no_items)))
 
+-- The history of a posting as its entry in a list.
 abbrev pub row_data : History → Data
 row_data h = entry_data h.number h.key h.rec
 
+-- The totals as JSON.
 abbrev pub totals_data : Totals → Data
 totals_data t = object
-    (member (codes "accepted") (num t.accepted)
-    (member (codes "standing") (num t.standing)
-    (member (codes "withdrawn") (num t.withdrawn)
+    (member (codes "accepted") (number_data t.accepted)
+    (member (codes "standing") (number_data t.standing)
+    (member (codes "withdrawn") (number_data t.withdrawn)
     no_members)))
 
-unfoldable pub concept_data : ConceptShown → Data
+-- The view of a concept as JSON.
+unfoldable pub concept_data : ConceptDetails → Data
 concept_data c = object
-    (member (codes "alt") (listed tagged_data c.alt)
-    (member (codes "broader") (listed num c.broader)
-    (member (codes "collections") (listed num c.collections)
-    (member (codes "hidden") (listed tagged_data c.hidden)
+    (member (codes "alt") (array_data tagged_data c.alt)
+    (member (codes "broader") (array_data number_data c.broader)
+    (member (codes "collections") (array_data number_data c.collections)
+    (member (codes "hidden") (array_data tagged_data c.hidden)
     (member (codes "live") (boolean c.live)
-    (member (codes "mappings") (listed mapping_data c.mappings)
-    (member (codes "narrower") (listed num c.narrower)
-    (member (codes "number") (num c.number)
-    (member (codes "postings") (num c.postings)
-    (member (codes "pref") (listed tagged_data c.pref)
-    (member (codes "related") (listed num c.related)
+    (member (codes "mappings") (array_data mapping_data c.mappings)
+    (member (codes "narrower") (array_data number_data c.narrower)
+    (member (codes "number") (number_data c.number)
+    (member (codes "postings") (number_data c.postings)
+    (member (codes "pref") (array_data tagged_data c.pref)
+    (member (codes "related") (array_data number_data c.related)
     (member (codes "replaced") (number_or_null c.replaced)
     (member (codes "scheme") (number_or_null c.scheme)
-    (member (codes "scope") (listed tagged_data c.scope)
+    (member (codes "scope") (array_data tagged_data c.scope)
     (member (codes "top") (boolean c.top)
-    (member (codes "typed") (listed typed_data c.typed)
+    (member (codes "typed") (array_data typed_data c.typed)
     no_members))))))))))))))))
 
+-- A list of postings as JSON.
 abbrev pub listing_data : List Data → Data
 listing_data entries = object (member (codes "postings") (array (items_of entries)) no_members)
 
+-- The postings of a concept as JSON.
 abbrev pub postings_data : List History → Data
 postings_data hs = listing_data (map row_data hs)
 
+-- A posting with its history as JSON.
 abbrev pub posting_data : History → Data
 posting_data h = object
-    (member (codes "first") (num h.first)
+    (member (codes "first") (number_data h.first)
     (member (codes "key") (string h.key)
-    (member (codes "moves") (listed move_data h.moves)
-    (member (codes "number") (num h.number)
-    (member (codes "place") (num (place h))
+    (member (codes "moves") (array_data move_data h.moves)
+    (member (codes "number") (number_data h.number)
+    (member (codes "place") (number_data (place h))
     (member (codes "record") (string h.rec)
     (member (codes "withdrawn") (boolean h.withdrawn)
     no_members)))))))
 
--- compact JSON and a line feed
+-- Compact JSON and a line feed.
 unfoldable pub line_text : Data → List ℕ
 line_text d = compact_text d ++ 10 ∷ []
 
+-- The line for a view or a refusal.
 abbrev pub view_text : View → List ℕ
 view_text (views.Totals t) = line_text (totals_data t)
 view_text (views.Concept c) = line_text (concept_data c)

@@ -1,13 +1,13 @@
-//! Answers as lines of JSON.
+//! Replies as lines of JSON.
 ghost use Rattle.std.specs.Prelude.{◌≡◌, ◌+◌, ◌≤◌, ◌++◌, length, codes, decimal};
-ghost use Rattle.thes_base.specs.Names.{form_code, refusal_code, fault_code, table_name};
+ghost use Rattle.thes_base.specs.FaultNames.{form_code, refusal_code, fault_code, table_name};
 ghost use Rattle.thes_exchange.specs.AnswerTexts.{answer_text, fault_reply_text, form_fault_text, refusal_text, reply_text};
 
-use crate::line::Line;
+use crate::line::ShortLine;
 use thes_base::fault::{Fault, FormFault, Refusal};
 use thes_base::request::Answer;
 
-/// A reply to a line: an answer, or a fault.
+/// The reply to a request: an answer, a form fault or a fault.
 #[derive(Clone, Copy, Debug, PartialEq, Eq)]
 pub enum Reply {
     Answer(Answer),
@@ -15,8 +15,8 @@ pub enum Reply {
     Fault(Fault),
 }
 
-/// Makes the line of a reply.
-pub fn reply_line(reply: Reply) -> Line
+/// Returns the line of JSON for a reply.
+pub fn reply_line(reply: Reply) -> ShortLine
     ensures { result ≡ reply_text reply }
 {
     match reply {
@@ -26,36 +26,36 @@ pub fn reply_line(reply: Reply) -> Line
     }
 }
 
-// The line of an answer.
-fn answer_line(answer: Answer) -> Line
+// Returns the line of JSON for an answer.
+fn answer_line(answer: Answer) -> ShortLine
     ensures { result ≡ answer_text answer }
 {
     match answer {
         Answer::Number(n) => number_line("{\"ok\":", n),
         Answer::Again(n) => number_line("{\"again\":", n),
-        Answer::Done => Line::of("{\"done\":true}\n"),
+        Answer::Done => ShortLine::from_text("{\"done\":true}\n"),
         Answer::Moved(count) => number_line("{\"moved\":", count),
-        Answer::Parted(n, count) => parted_line(n, count),
+        Answer::Parted(n, count) => split_answer_line(n, count),
         Answer::No(refusal) => refusal_line(refusal),
     }
 }
 
-// A text, a number and a closing brace.
-fn number_line(before: &str, number: u32) -> Line
+// Returns `before`, the number in decimal, and a closing brace.
+fn number_line(before: &str, number: u32) -> ShortLine
     requires { length before.now ≤ 32 }
     ensures { result ≡ before.now ++ decimal number ++ codes "}\n" }
 {
-    let mut line = Line::of(before);
+    let mut line = ShortLine::from_text(before);
     line.push_number(number);
     line.push("}\n");
     line
 }
 
-// The line of a split: the new concept, and how many postings moved.
-fn parted_line(number: u32, count: u32) -> Line
+// Returns the line for a split: the new concept's number, and the number of postings moved.
+fn split_answer_line(number: u32, count: u32) -> ShortLine
     ensures { result ≡ answer_text (Answer.Parted number count) }
 {
-    let mut line = Line::of("{\"moved\":");
+    let mut line = ShortLine::from_text("{\"moved\":");
     line.push_number(count);
     line.push(",\"ok\":");
     line.push_number(number);
@@ -63,19 +63,19 @@ fn parted_line(number: u32, count: u32) -> Line
     line
 }
 
-// A text, a name, and a closing quote and brace.
-fn name_line(before: &str, name: &str) -> Line
+// Returns `before`, the name, and a closing quote and brace.
+fn name_line(before: &str, name: &str) -> ShortLine
     requires { length before.now + length name.now ≤ 61 }
     ensures { result ≡ before.now ++ name.now ++ codes "\"}\n" }
 {
-    let mut line = Line::of(before);
+    let mut line = ShortLine::from_text(before);
     line.push(name);
     line.push("\"}\n");
     line
 }
 
-/// Makes the line of a refusal.
-pub fn refusal_line(refusal: Refusal) -> Line
+/// Returns the line of JSON for a refusal.
+pub fn refusal_line(refusal: Refusal) -> ShortLine
     ensures { result ≡ refusal_text refusal }
 {
     match refusal {
@@ -84,15 +84,15 @@ pub fn refusal_line(refusal: Refusal) -> Line
     }
 }
 
-// The line of a form fault.
-fn form_fault_line(fault: FormFault) -> Line
+// Returns the line of JSON for a form fault.
+fn form_fault_line(fault: FormFault) -> ShortLine
     ensures { result ≡ form_fault_text fault }
 {
     name_line("{\"bad\":\"", fault.name())
 }
 
-// The line of a fault.
-fn fault_line(fault: Fault) -> Line
+// Returns the line of JSON for a fault.
+fn fault_line(fault: Fault) -> ShortLine
     ensures { result ≡ fault_reply_text fault }
 {
     match fault {

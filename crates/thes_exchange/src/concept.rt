@@ -1,9 +1,9 @@
-//! What a core shows of a concept.
+//! The view of a concept, collected from a core.
 ghost use Rattle.std.specs.Prelude.{◌≡◌, Some, None, false, IfOk, MatchResult};
-ghost use Rattle.thes_base.specs.Resources.{numbered};
+ghost use Rattle.thes_base.specs.Resources.{entry_at};
 ghost use Rattle.thes_base.specs.State.{State};
-ghost use Rattle.thes_base.specs.Views.{IsShown};
-ghost use Rattle.thes_core.specs.Kept.{Holds};
+ghost use Rattle.thes_base.specs.Views.{AreDetailsOf};
+ghost use Rattle.thes_core.specs.CoreView.{IsViewOf};
 ghost use Rattle.thes_exchange.specs.declared.request.Query.{Query};
 ghost use Rattle.thes_exchange.specs.ViewOf.{IsView, unless_concept};
 
@@ -14,13 +14,14 @@ use thes_base::fault::Refusal;
 use thes_base::number::ResNo;
 use thes_core::Core;
 
-// The concept of a number, live or dead, or what refuses that there is one.
+// Returns the concept with this number, live or not, or the refusal if there is none.
 fn concept_at<'a>(core: &'a Core, number: ResNo) -> Result<&'a Resource, Refusal>
     requires { core.now.spent ≡ false }
-    ensures judges { (s : State) → Holds core.now s → MatchResult result
+    ensures judges { (s : State) → IsViewOf core.now s → MatchResult result
         (λ resource. unless_concept s number None)
         (λ refusal. unless_concept s number (Some refusal)) }
-    ensures found { IfOk result (λ resource. numbered core.now.resources number ≡ Some resource.now) }
+    ensures found { IfOk result
+        (λ resource. entry_at core.now.resources number ≡ Some resource.now) }
 {
     let Some(resource) = core.resource(number) else {
         return Err(Refusal::UnknownResource);
@@ -33,16 +34,16 @@ fn concept_at<'a>(core: &'a Core, number: ResNo) -> Result<&'a Resource, Refusal
     }
 }
 
-// What is shown of a concept.
-fn concept_shown<'a>(
+// Collects the view of a concept from the core.
+fn collect_concept<'a>(
     core: &'a Core,
     alloc: Global,
     number: ResNo,
     resource: &Resource,
 ) -> Result<ConceptView<'a>, AllocError>
     requires unspent { core.now.spent ≡ false }
-    requires found { numbered core.now.resources number ≡ Some resource.now }
-    ensures { (s : State) → Holds core.now s → IfOk result (IsShown s number) }
+    requires found { entry_at core.now.resources number ≡ Some resource.now }
+    ensures { (s : State) → IsViewOf core.now s → IfOk result (AreDetailsOf s number) }
 {
     let broader = core.broader_of(alloc, number)?;
     let top = resource.live && broader.is_empty();
@@ -52,7 +53,7 @@ fn concept_shown<'a>(
         collections: core.collections_of(alloc, number)?,
         hidden: core.labels_of_kind(alloc, number, LabelKind::Hidden)?,
         live: resource.live,
-        mappings: core.mapped(alloc, number)?,
+        mappings: core.mappings(alloc, number)?,
         narrower: core.narrower_of(alloc, number)?,
         number,
         postings: core.count(number),
@@ -66,17 +67,17 @@ fn concept_shown<'a>(
     })
 }
 
-/// Makes the view of a concept, or says what refuses it.
+/// Returns the view of a concept, or the refusal of the query.
 pub fn concept_view<'a>(
     core: &'a Core,
     alloc: Global,
     number: ResNo,
 ) -> Result<View<'a>, AllocError>
     requires { core.now.spent ≡ false }
-    ensures { (s : State) → Holds core.now s → IfOk result (IsView s (Query.Concept number)) }
+    ensures { (s : State) → IsViewOf core.now s → IfOk result (IsView s (Query.Concept number)) }
 {
     match concept_at(core, number) {
-        Ok(resource) => Ok(View::Concept(concept_shown(core, alloc, number, resource)?)),
+        Ok(resource) => Ok(View::Concept(collect_concept(core, alloc, number, resource)?)),
         Err(refusal) => Ok(View::No(refusal)),
     }
 }

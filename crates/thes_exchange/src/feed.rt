@@ -1,9 +1,9 @@
-//! The lines of a reader.
+//! A buffer that splits the input of a reader into lines.
 ghost use Rattle.std.specs.Prelude.{◌≡◌, ◌≢◌, ◌≤◌, ◌<◌, ◌⊎◌, ℕ, Bool, List, [], ◌∷◌, ◌++◌, length, take, drop, true, false, IfOk, IfErr, OnOk, OnErr, IsErrOf, Option, IsTrue, MatchOption, ◌↔◌};
 ghost use Rattle.std.specs.Io.KnownBytes.{Consumes, Keeps, IsAtEnd};
 ghost use Rattle.std.specs.Str.Lines.{strip_carriage_return};
-ghost use Rattle.thes_base.specs.Pipe.{failed_of, ended_of, denied_of, IsFresh, PaysCalls, unread};
-ghost use Rattle.thes_exchange.specs.Feed.{left, has_newline, TakesByte, TakesRun, TakesPart, IsTooLong, FindsLine, FindsEnd};
+ghost use Rattle.thes_base.specs.Pipe.{failed_of, ended_of, denied_of, IsFresh, PaysCalls, unread_bytes};
+ghost use Rattle.thes_exchange.specs.Feed.{bytes_left, has_newline, ConsumesByte, ConsumesRun, ConsumesPartOfLine, IsLineTooLong, IsLineFound, IsEndFound};
 
 use memchr::memchr;
 use std::alloc::{AllocError, Global};
@@ -11,11 +11,11 @@ use std::io::Read;
 use std::marker::Model;
 use thes_base::pipe::{Budget, Pipe, Stop};
 
-/// A buffer between a reader and its lines.
+/// A buffer between a reader and its lines, of 64 KiB.
 #[derive(Drop)]
 pub struct Feed {
     buffer: Vec<u8>,
-    at: usize,
+    pos: usize,
     filled: usize,
 }
 
@@ -24,24 +24,24 @@ impl Model for Feed {
 
     ghost Value = { List ℕ };
 
-    ghost view = { λ f. take (f.filled - f.at) (drop f.at f.buffer.items) };
+    ghost view = { λ f. take (f.filled - f.pos) (drop f.pos f.buffer.items) };
 
-    ghost invariant = { λ f. (f.at ≤ f.filled) × (f.filled ≤ vec_len f.buffer)
+    ghost invariant = { λ f. (f.pos ≤ f.filled) × (f.filled ≤ vec_len f.buffer)
         × (0 < vec_len f.buffer) };
 }
 
-/// The outcome of a search for a line.
+/// The outcome of a search for the next line.
 #[derive(Clone, Copy, Debug, PartialEq, Eq)]
-pub enum Found {
+pub enum LineSearch {
     Line,
-    /// A line for which there was no memory.
+    /// There is a line, and no memory to hold it.
     NoRoom,
     End,
 }
 
-// Bytes of a line that were taken out, and whether the line has them and all before them.
+// A number of bytes consumed, and whether the line holds them and all bytes before them.
 #[derive(Clone, Copy)]
-struct Run {
+struct LineRun {
     count: usize,
     kept: bool,
 }
@@ -51,61 +51,66 @@ const LINE_LIMIT: usize = 1_048_576;
 const BUFFER_SIZE: usize = 65_536;
 
 impl Feed {
-    /// Makes an empty buffer.
+    /// Allocates an empty buffer.
     pub fn new(alloc: Global) -> Result<Feed, AllocError>
         ensures { IfOk result (λ feed. feed ≡ []) }
     {
         let buffer = vec![in alloc; 0; BUFFER_SIZE]?;
         Ok(Feed {
             buffer,
-            at: 0,
+            pos: 0,
             filled: 0,
         })
     }
 
-    /// Takes the next byte, or none at the end of the input.
+    /// Consumes the next byte, and returns it, or `None` at the end of the input.
     pub fn next_byte<R: Read>(
         &mut self,
         reader: &mut Pipe<R>,
         budget: &mut Budget,
     ) -> Result<Option<u8>, Stop>
         requires { IsFresh reader.old }
-        ensures byte { IfOk result (λ found. TakesByte found
-            (left R.remaining self.old reader.old) (left R.remaining self.new reader.new)
+        ensures byte { IfOk result (λ found. ConsumesByte found
+            (bytes_left R.remaining self.old reader.old)
+            (bytes_left R.remaining self.new reader.new)
             (ended_of reader.new)) }
-        ensures err { OnErr result (Keeps (left R.remaining self.old reader.old)
-            (left R.remaining self.new reader.new)
+        ensures err { OnErr result (Keeps (bytes_left R.remaining self.old reader.old)
+            (bytes_left R.remaining self.new reader.new)
             × (ended_of reader.new ≡ false)) }
         ensures emptied { OnErr result (self.new ≡ []) }
         ensures failed { IsErrOf result Stop.Failed ↔ (failed_of reader.new ≡ true) }
         ensures denied { IsErrOf result Stop.TooLong ↔ (denied_of reader.new ≡ true) }
         ensures paid { PaysCalls reader.old reader.new budget.old budget.new }
     {
-        if self.at == self.filled && !self.refill(reader, budget)? {
+        if self.pos == self.filled && !self.refill(reader, budget)? {
             return Ok(None);
         }
         Ok(Some(self.take_byte()))
     }
 
-    /// Takes the next line out, without its end.
+    /// Consumes the next line, and copies it to `line` without its line end.
     pub fn take_line<R: Read>(
         &mut self,
         reader: &mut Pipe<R>,
         budget: &mut Budget,
         line: &mut Vec<u8>,
-    ) -> Result<Found, Stop>
+    ) -> Result<LineSearch, Stop>
         requires { IsFresh reader.old }
-        ensures line { IfOk result (λ found. found ≢ Found.End → FindsLine found line.new.items
-            (left R.remaining self.old reader.old) (left R.remaining self.new reader.new)
+        ensures line { IfOk result (λ found. found ≢ LineSearch.End →
+            IsLineFound found line.new.items
+            (bytes_left R.remaining self.old reader.old)
+            (bytes_left R.remaining self.new reader.new)
             (ended_of reader.new)) }
-        ensures end { IfOk result (λ found. found ≡ Found.End → FindsEnd
-            (left R.remaining self.old reader.old) (left R.remaining self.new reader.new)
+        ensures end { IfOk result (λ found. found ≡ LineSearch.End → IsEndFound
+            (bytes_left R.remaining self.old reader.old)
+            (bytes_left R.remaining self.new reader.new)
             (ended_of reader.new)) }
         ensures broken { IsErrOf result Stop.Failed →
-            TakesPart (left R.remaining self.old reader.old) (unread R.remaining reader.new) }
+            ConsumesPartOfLine (bytes_left R.remaining self.old reader.old)
+            (unread_bytes R.remaining reader.new) }
         ensures failed { IsErrOf result Stop.Failed ↔ (failed_of reader.new ≡ true) }
         ensures too_long { IsErrOf result Stop.TooLong → (denied_of reader.new ≡ true)
-            ⊎ IsTooLong (left R.remaining self.old reader.old) }
+            ⊎ IsLineTooLong (bytes_left R.remaining self.old reader.old) }
         ensures denied { denied_of reader.new ≡ true → IsErrOf result Stop.TooLong }
         ensures paid { PaysCalls reader.old reader.new budget.old budget.new }
     {
@@ -116,13 +121,13 @@ impl Feed {
             match self.next_byte(reader, budget)? {
                 None => {
                     if taken == 0 {
-                        return Ok(Found::End);
+                        return Ok(LineSearch::End);
                     }
-                    return Ok(found_of(held));
+                    return Ok(line_search_of(held));
                 }
                 Some(b'\n') => {
                     drop_carriage_return(line);
-                    return Ok(found_of(held));
+                    return Ok(line_search_of(held));
                 }
                 Some(byte) => {
                     taken += 1;
@@ -136,63 +141,67 @@ impl Feed {
         Err(Stop::TooLong)
     }
 
-    // Reads into the empty buffer, and says whether there was anything.
+    // Reads into the empty buffer, and returns whether any byte came.
     fn refill<R: Read>(&mut self, reader: &mut Pipe<R>, budget: &mut Budget) -> Result<bool, Stop>
         requires fresh { IsFresh reader.old }
         requires used { self.old ≡ [] }
         ensures more { IfOk result (λ more. more ≡ true → (self.new ≢ [])
             × (ended_of reader.new ≡ false)) }
-        ensures kept { Keeps (left R.remaining self.old reader.old)
-            (left R.remaining self.new reader.new) }
+        ensures kept { Keeps (bytes_left R.remaining self.old reader.old)
+            (bytes_left R.remaining self.new reader.new) }
         ensures end { IfOk result (λ more. more ≡ false → (self.new ≡ [])
-            × IsAtEnd (left R.remaining self.new reader.new) × (ended_of reader.new ≡ true)) }
+            × IsAtEnd (bytes_left R.remaining self.new reader.new) × (ended_of reader.new ≡ true)) }
         ensures err { OnErr result ((self.new ≡ []) × (ended_of reader.new ≡ false)) }
         ensures failed { IsErrOf result Stop.Failed ↔ (failed_of reader.new ≡ true) }
         ensures denied { IsErrOf result Stop.TooLong ↔ (denied_of reader.new ≡ true) }
         ensures paid { PaysCalls reader.old reader.new budget.old budget.new }
     {
-        self.at = 0;
+        self.pos = 0;
         self.filled = 0;
         let count = reader.read(budget, &mut self.buffer)?;
         self.filled = count;
         Ok(count > 0)
     }
 
-    // Takes out what is held before a newline, at most so many bytes, and puts it behind what the line has, if that was kept.
-    fn take_run(&mut self, line: &mut Vec<u8>, kept: bool, most: usize) -> Run
-        ensures run { TakesRun self.old self.new line.old.items line.new.items kept result }
+    // Consumes the bytes in the buffer up to a line feed, at most `most`, and appends them to the
+    // line if `kept` says that it holds all bytes before them.
+    fn take_run(&mut self, line: &mut Vec<u8>, kept: bool, most: usize) -> LineRun
+        ensures run { ConsumesRun self.old self.new line.old.items line.new.items kept result }
         ensures short { result.count ≤ most }
     {
-        let count = line_length(self.buffered(), most);
-        let kept = kept && line.extend_from_slice(&self.buffered()[..count]).is_ok();
+        let count = line_length(self.pending(), most);
+        let kept = kept && line.extend_from_slice(&self.pending()[..count]).is_ok();
         self.consume(count);
-        Run { count, kept }
+        LineRun { count, kept }
     }
 
-    fn buffered(&self) -> &[u8]
+    // Returns the bytes read and not consumed yet.
+    fn pending(&self) -> &[u8]
         ensures { result.now ≡ self.now }
     {
-        &self.buffer[self.at..self.filled]
+        &self.buffer[self.pos..self.filled]
     }
 
+    // Consumes a number of bytes.
     fn consume(&mut self, count: usize)
         requires { count ≤ length self.old }
         ensures { self.new ≡ drop count self.old }
     {
-        self.at += count;
+        self.pos += count;
     }
 
+    // Consumes one byte, and returns it.
     fn take_byte(&mut self) -> u8
         requires { self.old ≢ [] }
         ensures { self.old ≡ result ∷ self.new }
     {
-        let byte = self.buffer[self.at];
-        self.at += 1;
+        let byte = self.buffer[self.pos];
+        self.pos += 1;
         byte
     }
 }
 
-// How many bytes come before a newline, at most so many.
+// Returns the number of bytes before the first line feed, at most `most`.
 fn line_length(bytes: &[u8], most: usize) -> usize
     ensures within { result ≤ length bytes.now }
     ensures short { result ≤ most }
@@ -202,6 +211,7 @@ fn line_length(bytes: &[u8], most: usize) -> usize
     memchr(b'\n', &bytes[..most]).unwrap_or(most)
 }
 
+// Removes a carriage return at the end of the line.
 fn drop_carriage_return(line: &mut Vec<u8>)
     ensures { line.new.items ≡ strip_carriage_return line.old.items }
 {
@@ -210,14 +220,19 @@ fn drop_carriage_return(line: &mut Vec<u8>)
     }
 }
 
-fn found_of(held: bool) -> Found
-    ensures line { (result ≡ Found.Line) → held ≡ true }
-    ensures some { result ≢ Found.End }
+// Returns the outcome for a line, which depends on whether it is held.
+fn line_search_of(held: bool) -> LineSearch
+    ensures line { (result ≡ LineSearch.Line) → held ≡ true }
+    ensures some { result ≢ LineSearch.End }
 {
-    if held { Found::Line } else { Found::NoRoom }
+    if held {
+        LineSearch::Line
+    } else {
+        LineSearch::NoRoom
+    }
 }
 
-// Keeps a byte, if those before it were kept and there is room.
+// Appends a byte to the line if `held`, and returns whether the line holds all bytes so far.
 fn keep(line: &mut Vec<u8>, held: bool, byte: u8) -> bool
     ensures { result ≡ true → (held ≡ true) × (line.new.items ≡ line.old.items ++ byte ∷ []) }
 {

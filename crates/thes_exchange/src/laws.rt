@@ -1,13 +1,12 @@
-//! What holds of requests as they are defined, whatever reads them.
+//! Laws of the definition of a request, whichever program reads it.
 ghost use Rattle.thes_exchange.specs.Laws.{OneReading, SomeReading};
 
-/// States that the bytes of a request ask for at most one thing, or have at most one first fault,
-/// and not both.
+/// Proves that bytes have at most one meaning: one request or one form fault.
 pub fn one_reading()
     ensures { OneReading }
 {}
 
-/// States that it can't be that bytes neither ask for anything nor have a first fault.
+/// Proves that no bytes are without a meaning, stated as a double negation.
 pub fn some_reading()
     ensures { SomeReading }
 {}

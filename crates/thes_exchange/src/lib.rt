@@ -3,8 +3,9 @@
 
 pub mod answer;
 pub mod concept;
-pub mod desk;
 mod feed;
+pub mod handler;
+mod keywords;
 pub mod laws;
 pub mod line;
 mod lines;
@@ -17,4 +18,3 @@ mod serve;
 mod tree;
 pub mod view;
 pub mod viewing;
-mod words;

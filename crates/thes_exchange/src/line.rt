@@ -1,17 +1,17 @@
-//! Short lines, kept in place.
+//! Lines of at most 64 bytes.
 ghost use Rattle.std.specs.Prelude.{◌≡◌, ◌+◌, ◌≤◌, ◌++◌, length, decimal};
 
 use arrayvec::ArrayString;
 use itoa::Buffer;
 use std::marker::Model;
 
-/// A line of at most 64 bytes, which takes no memory of its own.
+/// A line of at most 64 bytes, held in place: it allocates nothing.
 #[derive(Drop)]
-pub struct Line {
+pub struct ShortLine {
     text: ArrayString<64>,
 }
 
-impl Model for Line {
+impl Model for ShortLine {
     ghost use Rattle.std.specs.Prelude.{List, ℕ};
 
     ghost Value = { List ℕ };
@@ -19,20 +19,20 @@ impl Model for Line {
     ghost view = { λ line. line.text.bytes };
 }
 
-impl Line {
-    /// Begins a line with a text.
-    pub fn of(text: &str) -> Line
+impl ShortLine {
+    /// Returns a line that holds this text.
+    pub fn from_text(text: &str) -> ShortLine
         requires { length text.now ≤ 64 }
         ensures { result ≡ text.now }
     {
-        let mut line = Line {
+        let mut line = ShortLine {
             text: ArrayString::new(),
         };
         line.push(text);
         line
     }
 
-    /// Adds a text at the end.
+    /// Appends a text.
     pub fn push(&mut self, text: &str)
         requires { length self.old + length text.now ≤ 64 }
         ensures text { self.new ≡ self.old ++ text.now }
@@ -41,7 +41,7 @@ impl Line {
         self.text.push_str(text);
     }
 
-    /// Adds a number's digits, of which there are at most ten.
+    /// Appends a number in decimal, at most ten digits.
     pub fn push_number(&mut self, number: u32)
         requires { length self.old ≤ 54 }
         ensures text { self.new ≡ self.old ++ decimal number }
@@ -50,7 +50,7 @@ impl Line {
         self.push(Buffer::new().format(number));
     }
 
-    /// Returns what was added.
+    /// Returns the bytes of the line.
     pub fn as_bytes(&self) -> &[u8]
         ensures { result.now ≡ self.now }
     {

@@ -1,4 +1,4 @@
-//! The postings at a concept as a line of JSON.
+//! The postings of a concept as one line of JSON.
 ghost use Rattle.std.specs.Prelude.{◌≡◌, ◌++◌, ◌∷◌, [], false, IfOk, OnOk, OnErr};
 ghost use Rattle.serde_json.specs.View.{items_view};
 ghost use Rattle.serde_json.specs.Written.{items_have_float};
@@ -10,7 +10,7 @@ use std::alloc::{AllocError, Global};
 use thes_base::number::PostNo;
 use thes_base::text::{Key, RecordName};
 
-/// A list of postings, to which one after another is added.
+/// A list of postings as JSON, built by appending.
 #[derive(Drop)]
 pub struct Listing {
     rows: Vec<Value>,
@@ -20,7 +20,7 @@ pub struct Listing {
 impl Listing {
     ghost use Rattle.thes_exchange.specs.Listing.{entries};
 
-    /// Makes a list without postings, which takes no memory.
+    /// Returns an empty list; allocates nothing.
     pub fn new(alloc: Global) -> Listing
         ensures { entries result ≡ [] }
     {
@@ -29,7 +29,7 @@ impl Listing {
         }
     }
 
-    /// Adds a posting at the end.
+    /// Appends a posting, unless memory runs out.
     pub fn push(
         &mut self,
         alloc: Global,
@@ -46,7 +46,7 @@ impl Listing {
         Ok(())
     }
 
-    /// Makes the line of the list.
+    /// Returns the line of JSON for the list, with its line feed.
     pub fn line(self, alloc: Global) -> Result<Vec<u8>, AllocError>
         ensures { IfOk result (λ text. text.items ≡ line_text (listing_data (entries self))) }
     {

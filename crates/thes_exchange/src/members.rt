@@ -1,22 +1,23 @@
-//! The members of a request's object. A member that is not there, or is of another kind, is no request's shape.
+//! The members of a request's JSON object; a missing member, or one of the wrong type, is
+//! `BadShape`.
 ghost use Rattle.std.specs.Prelude.{◌≡◌, ◌⊎◌, map, true, false, Option, Some, None, option_and_then, OnOk, IfOk, IfErr};
 ghost use Rattle.serde_json.specs.View.{number_view};
 ghost use Rattle.serde_json.specs.Find.{as_object, as_str};
 ghost use Rattle.thes_exchange.specs.Tree.{view, items_view};
-ghost use Rattle.thes_exchange.specs.Words.{label_kind_named, link_kind_named, verb_named, noun_named};
+ghost use Rattle.thes_exchange.specs.Keywords.{label_kind_named, link_kind_named, verb_named, noun_named};
 ghost use Rattle.thes_exchange.specs.Members.{has_count, counted_members, number_in, text_in, truth_in, all_numbers, numbers_in};
 
+use crate::keywords::{Noun, Verb, label_kind_named, link_kind_named, noun_named, verb_named};
 use crate::tree::Value;
-use crate::words::{Noun, Verb, label_kind_named, link_kind_named, noun_named, verb_named};
 use serde_json::Number;
 use std::alloc::{AllocError, Global};
 use thes_base::data::{LabelKind, LinkKind};
 use thes_base::fault::{FormFault, ReadStop};
 
-/// The fault of what is no request.
+/// The fault for JSON that isn't a request.
 pub const BAD_SHAPE: ReadStop = ReadStop::Form(FormFault::BadShape);
 
-/// Checks that it is an object with this many members.
+/// Checks that the value is an object with exactly `count` members.
 pub fn has_members(count: usize, value: &Value<'_>) -> Result<(), ReadStop>
     ensures ok { OnOk result (has_count count (as_object (view value.now)) ≡ true) }
     ensures err { IfErr result (λ e. (e ≡ BAD_SHAPE)
@@ -29,7 +30,7 @@ pub fn has_members(count: usize, value: &Value<'_>) -> Result<(), ReadStop>
     }
 }
 
-/// Finds the member with this name, a number.
+/// Returns the number in the member `name`.
 pub fn number_in<'a>(name: &str, value: &'a Value<'_>) -> Result<&'a Number, ReadStop>
     ensures ok { IfOk result (λ n. number_in name.now (view value.now) ≡ Some (number_view n.now)) }
     ensures err { IfErr result (λ e. (e ≡ BAD_SHAPE)
@@ -38,7 +39,7 @@ pub fn number_in<'a>(name: &str, value: &'a Value<'_>) -> Result<&'a Number, Rea
     value.get(name).and_then(Value::as_number).ok_or(BAD_SHAPE)
 }
 
-/// Finds the member with this name, a text.
+/// Returns the text in the member `name`.
 pub fn text_in<'a>(name: &str, value: &'a Value<'_>) -> Result<&'a str, ReadStop>
     ensures ok { IfOk result (λ s. text_in name.now (view value.now) ≡ Some s.now) }
     ensures err { IfErr result (λ e. (e ≡ BAD_SHAPE) × (text_in name.now (view value.now) ≡ None)) }
@@ -46,7 +47,7 @@ pub fn text_in<'a>(name: &str, value: &'a Value<'_>) -> Result<&'a str, ReadStop
     value.get(name).and_then(Value::as_str).ok_or(BAD_SHAPE)
 }
 
-/// Finds the member with this name, true or false.
+/// Returns the Boolean in the member `name`.
 pub fn truth_in(name: &str, value: &Value<'_>) -> Result<bool, ReadStop>
     ensures ok { IfOk result (λ b. truth_in name.now (view value.now) ≡ Some b) }
     ensures err { IfErr result (λ e. (e ≡ BAD_SHAPE)
@@ -55,7 +56,7 @@ pub fn truth_in(name: &str, value: &Value<'_>) -> Result<bool, ReadStop>
     value.get(name).and_then(Value::as_bool).ok_or(BAD_SHAPE)
 }
 
-/// Finds the member with this name, the word of a kind of label.
+/// Returns the label kind in the member `name`.
 pub fn label_kind_in(name: &str, value: &Value<'_>) -> Result<LabelKind, ReadStop>
     ensures ok { IfOk result (λ k. option_and_then label_kind_named
         (text_in name.now (view value.now)) ≡ Some k) }
@@ -65,7 +66,7 @@ pub fn label_kind_in(name: &str, value: &Value<'_>) -> Result<LabelKind, ReadSto
     label_kind_named(text_in(name, value)?).ok_or(BAD_SHAPE)
 }
 
-/// Finds the member with this name, the word of a kind of link.
+/// Returns the link kind in the member `name`.
 pub fn link_kind_in(name: &str, value: &Value<'_>) -> Result<LinkKind, ReadStop>
     ensures ok { IfOk result (λ k. option_and_then link_kind_named
         (text_in name.now (view value.now)) ≡ Some k) }
@@ -75,7 +76,7 @@ pub fn link_kind_in(name: &str, value: &Value<'_>) -> Result<LinkKind, ReadStop>
     link_kind_named(text_in(name, value)?).ok_or(BAD_SHAPE)
 }
 
-/// Finds the member with this name, an array of numbers.
+/// Returns the array of numbers in the member `name`.
 pub fn numbers_in<'a>(
     alloc: Global,
     name: &str,
@@ -90,7 +91,7 @@ pub fn numbers_in<'a>(
     all_numbers(alloc, array)
 }
 
-// The values, if each is a number.
+// Returns the values as numbers, or `BadShape` if one isn't a number.
 fn all_numbers<'a>(alloc: Global, values: &'a [Value<'_>]) -> Result<Vec<&'a Number>, ReadStop>
     ensures ok { IfOk result (λ v. all_numbers (items_view values.now) ≡ Some
         (map (λ n. number_view n.now) v.items)) }
@@ -105,7 +106,7 @@ fn all_numbers<'a>(alloc: Global, values: &'a [Value<'_>]) -> Result<Vec<&'a Num
     Ok(numbers)
 }
 
-/// Reads a value that is the word of something to do.
+/// Reads the value of `do`: the keyword of a command.
 pub fn verb_at(word: &Value<'_>) -> Result<Verb, ReadStop>
     ensures ok { IfOk result (λ v. option_and_then verb_named (as_str (view word.now)) ≡ Some v) }
     ensures err { IfErr result (λ e. (e ≡ BAD_SHAPE)
@@ -114,7 +115,7 @@ pub fn verb_at(word: &Value<'_>) -> Result<Verb, ReadStop>
     word.as_str().and_then(verb_named).ok_or(BAD_SHAPE)
 }
 
-/// Reads a value that is the word of something to see.
+/// Reads the value of `get`: the keyword of a query.
 pub fn noun_at(word: &Value<'_>) -> Result<Noun, ReadStop>
     ensures ok { IfOk result (λ n. option_and_then noun_named (as_str (view word.now)) ≡ Some n) }
     ensures err { IfErr result (λ e. (e ≡ BAD_SHAPE)

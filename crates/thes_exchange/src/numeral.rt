@@ -1,4 +1,4 @@
-//! The number that a numeral of JSON writes.
+//! The value of a JSON numeral.
 ghost use Rattle.std.specs.Prelude.{◌≡◌, ◌==◌, ◌<◌, length, option_map, slice_index, true, false, IsTrue};
 ghost use Rattle.serde_json.specs.Read.{float_of, number_from, number_of};
 ghost use Rattle.serde_json.specs.View.{number_view};
@@ -6,7 +6,7 @@ ghost use Rattle.serde_json.specs.View.{number_view};
 use fast_float::Numeral;
 use serde_json::Number;
 
-/// Reads the number of a numeral, if it is in range: a whole number of 64 bits, or the nearest float.
+/// Returns the value of a numeral, if it is in range: a 64-bit integer, or the nearest float.
 pub fn number_of(text: &str) -> Option<Number>
     ensures { option_map number_view result ≡ number_of text.now }
 {
@@ -18,6 +18,7 @@ pub fn number_of(text: &str) -> Option<Number>
     }
 }
 
+// Returns whether the numeral begins with a minus sign.
 fn has_minus(bytes: &[u8]) -> bool
     ensures value { result ≡ (slice_index bytes.now 0 == 45) }
     ensures len { IsTrue result → 0 < length bytes.now }
@@ -25,6 +26,7 @@ fn has_minus(bytes: &[u8]) -> bool
     !bytes.is_empty() && bytes[0] == b'-'
 }
 
+// Returns the value of a numeral without a sign.
 fn unsigned(numeral: &Numeral<'_>) -> Option<Number>
     ensures { option_map number_view result ≡ number_from false numeral.now }
 {
@@ -34,6 +36,7 @@ fn unsigned(numeral: &Numeral<'_>) -> Option<Number>
     }
 }
 
+// Returns the value of a numeral after its minus sign.
 fn negative(numeral: &Numeral<'_>) -> Option<Number>
     ensures { option_map number_view result ≡ number_from true numeral.now }
 {
@@ -45,6 +48,7 @@ fn negative(numeral: &Numeral<'_>) -> Option<Number>
     nearest(true, numeral)
 }
 
+// Returns the nearest finite float, if there is one.
 fn nearest(negative: bool, numeral: &Numeral<'_>) -> Option<Number>
     ensures { option_map number_view result ≡ float_of negative numeral.now }
 {

@@ -1,22 +1,22 @@
-//! What a request asks for.
+//! Requests: reads a command or a query from a line of JSON.
 ghost use Rattle.std.specs.Prelude.{◌≡◌, map, ◌⊎◌, Some, None, IfOk, IfErr};
 ghost use Rattle.serde_json.specs.View.{number_view};
 ghost use Rattle.thes_base.specs.Forms.{IsNumber};
-ghost use Rattle.thes_base.specs.Reads.{Reads};
+ghost use Rattle.thes_base.specs.ReadResults.{IsReadResult};
 ghost use Rattle.thes_base.specs.Texts.{IsLabelText};
 ghost use Rattle.thes_base.specs.declared.fault.FormFault.TheVariants.{BadNumber, BadText, NotJson};
-ghost use Rattle.thes_base.specs.Data.{kind_of, text_of};
+ghost use Rattle.thes_base.specs.Data.{label_value_kind, label_value_text};
 ghost use Rattle.thes_exchange.specs.Readings.{Gives};
-ghost use Rattle.thes_exchange.specs.Requests.{whole, AreNumbers, label_line, link_line, made_of, command_in, query_in, request_in, json_in, request_of};
+ghost use Rattle.thes_exchange.specs.Requests.{whole_number, AreNumbers, label_line, link_line, map_reading, command_in, query_in, request_in, json_in, request_of};
 ghost use Rattle.thes_exchange.specs.Tree.{view};
 ghost use Rattle.thes_exchange.specs.declared.request.Request.TheVariants.{Do, Get};
 
+use crate::keywords::{Noun, Verb};
 use crate::members::{
     BAD_SHAPE, has_members, label_kind_in, link_kind_in, noun_at, number_in, numbers_in, text_in,
     truth_in, verb_at,
 };
 use crate::tree::{NOT_JSON, Value};
-use crate::words::{Noun, Verb};
 use json::Scratch;
 use serde_json::Number;
 use std::alloc::Global;
@@ -28,7 +28,7 @@ use thes_base::text::{Iri, Key, Note, RecordName, Tag, Text};
 
 const BAD_NUMBER: ReadStop = ReadStop::Form(FormFault::BadNumber);
 
-/// A query: something that a request asks to see.
+/// A query: what a request asks to see.
 #[derive(Clone, Copy, Debug, PartialEq, Eq)]
 pub enum Query {
     Totals,
@@ -37,16 +37,16 @@ pub enum Query {
     Posting(PostNo),
 }
 
-/// A request: to do something, or to see something.
+/// A request: a command (`do`) or a query (`get`).
 #[derive(Debug, Drop)]
 pub enum Request {
     Do(Command),
     Get(Query),
 }
 
-// The number, if it is one that a resource may have.
+// Returns the number as a resource's, or `BadNumber`.
 fn res_no(number: &Number) -> Result<ResNo, ReadStop>
-    ensures { let n = whole (number_view number.now) in Reads (IsNumber n) BadNumber
+    ensures { let n = whole_number (number_view number.now) in IsReadResult (IsNumber n) BadNumber
         (λ m. m ≡ n) result }
 {
     number
@@ -56,9 +56,9 @@ fn res_no(number: &Number) -> Result<ResNo, ReadStop>
         .ok_or(BAD_NUMBER)
 }
 
-// The number, if it is one that a posting may have.
+// Returns the number as a posting's, or `BadNumber`.
 fn post_no(number: &Number) -> Result<PostNo, ReadStop>
-    ensures { let n = whole (number_view number.now) in Reads (IsNumber n) BadNumber
+    ensures { let n = whole_number (number_view number.now) in IsReadResult (IsNumber n) BadNumber
         (λ m. m ≡ n) result }
 {
     number
@@ -68,9 +68,9 @@ fn post_no(number: &Number) -> Result<PostNo, ReadStop>
         .ok_or(BAD_NUMBER)
 }
 
-// The numbers, if each is one that a posting may have.
+// Returns the numbers as postings' numbers, or `BadNumber`.
 fn post_nos(alloc: Global, numbers: &[&Number]) -> Result<PostNos, ReadStop>
-    ensures { let ns = map whole (map (λ n. number_view n.now) numbers.now) in Reads
+    ensures { let ns = map whole_number (map (λ n. number_view n.now) numbers.now) in IsReadResult
         (AreNumbers ns) BadNumber (λ ms. ms ≡ ns) result }
 {
     let mut list = PostNos::new(alloc);
@@ -80,7 +80,7 @@ fn post_nos(alloc: Global, numbers: &[&Number]) -> Result<PostNos, ReadStop>
     Ok(list)
 }
 
-// A new scheme.
+// Reads the command to add a scheme.
 #[tactic(auto, unfolding(crate::specs::Requests::line2))]
 fn scheme_in(alloc: Global, value: &Value<'_>) -> Result<Command, ReadStop>
     ensures { Gives (command_in Verb.Scheme (view value.now)) result }
@@ -91,7 +91,7 @@ fn scheme_in(alloc: Global, value: &Value<'_>) -> Result<Command, ReadStop>
     Ok(Command::Scheme(Tag::read(alloc, tag)?, Text::read(alloc, text)?))
 }
 
-// A new concept.
+// Reads the command to add a concept.
 #[tactic(auto, unfolding(crate::specs::Requests::line3))]
 fn concept_in(alloc: Global, value: &Value<'_>) -> Result<Command, ReadStop>
     ensures { Gives (command_in Verb.Concept (view value.now)) result }
@@ -107,7 +107,7 @@ fn concept_in(alloc: Global, value: &Value<'_>) -> Result<Command, ReadStop>
     ))
 }
 
-// A new collection.
+// Reads the command to add a collection.
 #[tactic(auto, unfolding(crate::specs::Requests::line3))]
 fn collection_in(alloc: Global, value: &Value<'_>) -> Result<Command, ReadStop>
     ensures { Gives (command_in Verb.Collection (view value.now)) result }
@@ -123,7 +123,7 @@ fn collection_in(alloc: Global, value: &Value<'_>) -> Result<Command, ReadStop>
     ))
 }
 
-// A new outside concept.
+// Reads the command to add an outside concept.
 #[tactic(auto, unfolding(crate::specs::Requests::line1))]
 fn outside_in(alloc: Global, value: &Value<'_>) -> Result<Command, ReadStop>
     ensures { Gives (command_in Verb.Outside (view value.now)) result }
@@ -133,10 +133,10 @@ fn outside_in(alloc: Global, value: &Value<'_>) -> Result<Command, ReadStop>
     Ok(Command::Outside(Iri::read(alloc, iri)?))
 }
 
-// A label's value, of this kind.
+// Reads the value of a label of this kind: a note for `Scope`, else a text.
 fn value_of_kind(alloc: Global, kind: LabelKind, text: &str) -> Result<LabelValue, ReadStop>
-    ensures { Reads (IsLabelText kind text.now) BadText (λ v. (kind_of v ≡ kind)
-        × (text_of v ≡ text.now)) result }
+    ensures { IsReadResult (IsLabelText kind text.now) BadText (λ v. (label_value_kind v ≡ kind)
+        × (label_value_text v ≡ text.now)) result }
 {
     Ok(match kind {
         LabelKind::Pref => LabelValue::Pref(Text::read(alloc, text)?),
@@ -146,7 +146,7 @@ fn value_of_kind(alloc: Global, kind: LabelKind, text: &str) -> Result<LabelValu
     })
 }
 
-// A label with its owner.
+// Reads the members that adding and removing a label share: the owner and the label.
 #[tactic(auto, unfolding(crate::specs::Requests::label_line))]
 fn label_in(alloc: Global, value: &Value<'_>) -> Result<(ResNo, Label), ReadStop>
     ensures { Gives (label_line (view value.now)) result }
@@ -162,8 +162,8 @@ fn label_in(alloc: Global, value: &Value<'_>) -> Result<(ResNo, Label), ReadStop
     Ok((owner, Label { tag, value }))
 }
 
-// A label to be added.
-#[tactic(auto, using(crate::proofs::ReadingLemmas::stopped), unfolding(crate::specs::Requests::made_of))]
+// Reads the command to add a label.
+#[tactic(auto, using(crate::proofs::ReadingLemmas::gives_fault), unfolding(crate::specs::Requests::map_reading))]
 fn add_label_in(alloc: Global, value: &Value<'_>) -> Result<Command, ReadStop>
     ensures { Gives (command_in Verb.AddLabel (view value.now)) result }
 {
@@ -171,8 +171,8 @@ fn add_label_in(alloc: Global, value: &Value<'_>) -> Result<Command, ReadStop>
     Ok(Command::AddLabel(owner, label))
 }
 
-// A label to be dropped.
-#[tactic(auto, using(crate::proofs::ReadingLemmas::stopped), unfolding(crate::specs::Requests::made_of))]
+// Reads the command to remove a label.
+#[tactic(auto, using(crate::proofs::ReadingLemmas::gives_fault), unfolding(crate::specs::Requests::map_reading))]
 fn drop_label_in(alloc: Global, value: &Value<'_>) -> Result<Command, ReadStop>
     ensures { Gives (command_in Verb.DropLabel (view value.now)) result }
 {
@@ -180,7 +180,7 @@ fn drop_label_in(alloc: Global, value: &Value<'_>) -> Result<Command, ReadStop>
     Ok(Command::DropLabel(owner, label))
 }
 
-// A new preferred label.
+// Reads the command to replace a preferred label.
 #[tactic(auto, unfolding(crate::specs::Requests::line4))]
 fn relabel_in(alloc: Global, value: &Value<'_>) -> Result<Command, ReadStop>
     ensures { Gives (command_in Verb.Relabel (view value.now)) result }
@@ -198,7 +198,7 @@ fn relabel_in(alloc: Global, value: &Value<'_>) -> Result<Command, ReadStop>
     ))
 }
 
-// A link.
+// Reads the members that adding and removing a link share: the kind and the two ends.
 #[tactic(auto, unfolding(crate::specs::Requests::line3))]
 fn link_in(value: &Value<'_>) -> Result<Link, ReadStop>
     ensures { Gives (link_line (view value.now)) result }
@@ -214,8 +214,8 @@ fn link_in(value: &Value<'_>) -> Result<Link, ReadStop>
     })
 }
 
-// A link to be made.
-#[tactic(auto, using(crate::proofs::ReadingLemmas::stopped), unfolding(crate::specs::Requests::made_of))]
+// Reads the command to add a link.
+#[tactic(auto, using(crate::proofs::ReadingLemmas::gives_fault), unfolding(crate::specs::Requests::map_reading))]
 fn add_link_in(value: &Value<'_>) -> Result<Command, ReadStop>
     ensures { Gives (command_in Verb.Link (view value.now)) result }
 {
@@ -223,8 +223,8 @@ fn add_link_in(value: &Value<'_>) -> Result<Command, ReadStop>
     Ok(Command::Link(link.kind, link.a, link.b))
 }
 
-// A link to be undone.
-#[tactic(auto, using(crate::proofs::ReadingLemmas::stopped), unfolding(crate::specs::Requests::made_of))]
+// Reads the command to remove a link.
+#[tactic(auto, using(crate::proofs::ReadingLemmas::gives_fault), unfolding(crate::specs::Requests::map_reading))]
 fn unlink_in(value: &Value<'_>) -> Result<Command, ReadStop>
     ensures { Gives (command_in Verb.Unlink (view value.now)) result }
 {
@@ -232,7 +232,7 @@ fn unlink_in(value: &Value<'_>) -> Result<Command, ReadStop>
     Ok(Command::Unlink(link.kind, link.a, link.b))
 }
 
-// A concept to be deprecated.
+// Reads the command to deprecate a concept.
 #[tactic(auto, unfolding(crate::specs::Requests::line1))]
 fn deprecate_in(value: &Value<'_>) -> Result<Command, ReadStop>
     ensures { Gives (command_in Verb.Deprecate (view value.now)) result }
@@ -242,7 +242,7 @@ fn deprecate_in(value: &Value<'_>) -> Result<Command, ReadStop>
     Ok(Command::Deprecate(res_no(concept)?))
 }
 
-// Two concepts to be merged.
+// Reads the command to merge two concepts.
 #[tactic(auto, unfolding(crate::specs::Requests::line2))]
 fn merge_in(value: &Value<'_>) -> Result<Command, ReadStop>
     ensures { Gives (command_in Verb.Merge (view value.now)) result }
@@ -253,7 +253,7 @@ fn merge_in(value: &Value<'_>) -> Result<Command, ReadStop>
     Ok(Command::Merge(res_no(source)?, res_no(target)?))
 }
 
-// A concept to be split.
+// Reads the command to split a concept.
 #[tactic(auto, unfolding(crate::specs::Requests::line4))]
 fn split_in(alloc: Global, value: &Value<'_>) -> Result<Command, ReadStop>
     ensures { Gives (command_in Verb.Split (view value.now)) result }
@@ -269,7 +269,7 @@ fn split_in(alloc: Global, value: &Value<'_>) -> Result<Command, ReadStop>
     Ok(Command::Split(source, tag, text, post_nos(alloc, &postings)?))
 }
 
-// A new posting.
+// Reads the command to add a posting.
 #[tactic(auto, unfolding(crate::specs::Requests::line3))]
 fn post_in(alloc: Global, value: &Value<'_>) -> Result<Command, ReadStop>
     ensures { Gives (command_in Verb.Post (view value.now)) result }
@@ -285,7 +285,7 @@ fn post_in(alloc: Global, value: &Value<'_>) -> Result<Command, ReadStop>
     ))
 }
 
-// A posting to be withdrawn.
+// Reads the command to withdraw a posting.
 #[tactic(auto, unfolding(crate::specs::Requests::line1))]
 fn withdraw_in(value: &Value<'_>) -> Result<Command, ReadStop>
     ensures { Gives (command_in Verb.Withdraw (view value.now)) result }
@@ -295,7 +295,7 @@ fn withdraw_in(value: &Value<'_>) -> Result<Command, ReadStop>
     Ok(Command::Withdraw(post_no(posting)?))
 }
 
-// What a word at `do` asks for.
+// Reads the command with this keyword.
 fn command_in(alloc: Global, verb: Verb, value: &Value<'_>) -> Result<Command, ReadStop>
     ensures { Gives (command_in verb (view value.now)) result }
 {
@@ -317,7 +317,7 @@ fn command_in(alloc: Global, verb: Verb, value: &Value<'_>) -> Result<Command, R
     }
 }
 
-// The totals.
+// Reads the query for the totals.
 #[tactic(auto, unfolding(crate::specs::Requests::line0))]
 fn totals_in(value: &Value<'_>) -> Result<Query, ReadStop>
     ensures { Gives (query_in Noun.Totals (view value.now)) result }
@@ -326,9 +326,9 @@ fn totals_in(value: &Value<'_>) -> Result<Query, ReadStop>
     Ok(Query::Totals)
 }
 
-// A concept to be shown.
+// Reads the query for a concept.
 #[tactic(auto, unfolding(crate::specs::Requests::line1))]
-fn shown_concept_in(value: &Value<'_>) -> Result<Query, ReadStop>
+fn concept_query_in(value: &Value<'_>) -> Result<Query, ReadStop>
     ensures { Gives (query_in Noun.Concept (view value.now)) result }
 {
     has_members(2, value)?;
@@ -336,9 +336,9 @@ fn shown_concept_in(value: &Value<'_>) -> Result<Query, ReadStop>
     Ok(Query::Concept(res_no(number)?))
 }
 
-// A concept whose postings are to be shown.
+// Reads the query for the postings of a concept.
 #[tactic(auto, unfolding(crate::specs::Requests::line1))]
-fn shown_postings_in(value: &Value<'_>) -> Result<Query, ReadStop>
+fn postings_query_in(value: &Value<'_>) -> Result<Query, ReadStop>
     ensures { Gives (query_in Noun.Postings (view value.now)) result }
 {
     has_members(2, value)?;
@@ -346,9 +346,9 @@ fn shown_postings_in(value: &Value<'_>) -> Result<Query, ReadStop>
     Ok(Query::Postings(res_no(concept)?))
 }
 
-// A posting to be shown.
+// Reads the query for a posting.
 #[tactic(auto, unfolding(crate::specs::Requests::line1))]
-fn shown_posting_in(value: &Value<'_>) -> Result<Query, ReadStop>
+fn posting_query_in(value: &Value<'_>) -> Result<Query, ReadStop>
     ensures { Gives (query_in Noun.Posting (view value.now)) result }
 {
     has_members(2, value)?;
@@ -356,35 +356,35 @@ fn shown_posting_in(value: &Value<'_>) -> Result<Query, ReadStop>
     Ok(Query::Posting(post_no(number)?))
 }
 
-// What a word at `get` asks for.
+// Reads the query with this keyword.
 fn query_in(noun: Noun, value: &Value<'_>) -> Result<Query, ReadStop>
     ensures { Gives (query_in noun (view value.now)) result }
 {
     match noun {
         Noun::Totals => totals_in(value),
-        Noun::Concept => shown_concept_in(value),
-        Noun::Postings => shown_postings_in(value),
-        Noun::Posting => shown_posting_in(value),
+        Noun::Concept => concept_query_in(value),
+        Noun::Postings => postings_query_in(value),
+        Noun::Posting => posting_query_in(value),
     }
 }
 
-// A request with this word at `do`.
-#[tactic(auto, using(crate::proofs::ReadingLemmas::stopped), unfolding(crate::specs::Requests::made_of))]
+// Reads a request whose `do` has this keyword.
+#[tactic(auto, using(crate::proofs::ReadingLemmas::gives_fault), unfolding(crate::specs::Requests::map_reading))]
 fn do_in(alloc: Global, verb: Verb, value: &Value<'_>) -> Result<Request, ReadStop>
-    ensures { Gives (made_of Do (command_in verb (view value.now))) result }
+    ensures { Gives (map_reading Do (command_in verb (view value.now))) result }
 {
     Ok(Request::Do(command_in(alloc, verb, value)?))
 }
 
-// A request with this word at `get`.
-#[tactic(auto, using(crate::proofs::ReadingLemmas::stopped), unfolding(crate::specs::Requests::made_of))]
+// Reads a request whose `get` has this keyword.
+#[tactic(auto, using(crate::proofs::ReadingLemmas::gives_fault), unfolding(crate::specs::Requests::map_reading))]
 fn get_in(noun: Noun, value: &Value<'_>) -> Result<Request, ReadStop>
-    ensures { Gives (made_of Get (query_in noun (view value.now))) result }
+    ensures { Gives (map_reading Get (query_in noun (view value.now))) result }
 {
     Ok(Request::Get(query_in(noun, value)?))
 }
 
-// The request that a value is.
+// Reads a request from JSON.
 #[tactic(auto, unfolding(crate::specs::Requests::request_in))]
 fn request_in(alloc: Global, value: &Value<'_>) -> Result<Request, ReadStop>
     ensures { Gives (request_in (view value.now)) result }
@@ -398,7 +398,7 @@ fn request_in(alloc: Global, value: &Value<'_>) -> Result<Request, ReadStop>
     }
 }
 
-// What the bytes are as JSON.
+// Parses the bytes as JSON; bytes that aren't UTF-8 are `NotJson`.
 fn json_in<'a>(
     alloc: Global,
     bytes: &'a [u8],
@@ -414,7 +414,7 @@ fn json_in<'a>(
     }
 }
 
-/// The memory that requests are read in, which is kept from line to line.
+/// The memory for reading requests, reused from line to line.
 #[derive(Drop)]
 pub struct Memory {
     pub alloc: Global,
@@ -422,7 +422,7 @@ pub struct Memory {
 }
 
 impl Memory {
-    /// Takes no memory yet.
+    /// Returns an empty memory; allocates nothing.
     pub fn new(alloc: Global) -> Memory
         ensures { result.alloc ≡ alloc }
     {
@@ -433,7 +433,7 @@ impl Memory {
     }
 }
 
-/// Reads what the bytes ask for.
+/// Reads a request from the bytes of a line.
 pub fn read_request(memory: &mut Memory, bytes: &[u8]) -> Result<Request, ReadStop>
     ensures { Gives (request_of bytes.now) result }
 {

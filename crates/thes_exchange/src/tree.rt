@@ -1,4 +1,5 @@
-//! A line's JSON as a tree. Its texts stand in the line or, where they had escapes, in the scratch, so none is copied.
+//! The JSON of a line as a tree, which borrows its texts from the line or, if they had escapes,
+//! from the scratch memory.
 ghost use Rattle.std.specs.Prelude.{◌≡◌, ◌<◌, ◌⊎◌, length, option_map, Some, None, IfOk, IfErr, OnOk};
 ghost use Rattle.json.specs.Json.{items, members, read_key, value};
 ghost use Rattle.serde_json.specs.Data.{no_members, put};
@@ -14,15 +15,16 @@ use serde_json::Number;
 use std::alloc::{AllocError, Global};
 use thes_base::fault::{FormFault, ReadStop};
 
-/// The fault of what is no JSON.
+/// The fault for bytes that aren't JSON.
 pub const NOT_JSON: ReadStop = ReadStop::Form(FormFault::NotJson);
 
 const MAX_DEPTH: usize = 127;
 
-// As many members as a request has at most.
+// The greatest number of members in a request.
 const USUAL_MEMBERS: usize = 5;
 
-/// A JSON value. An object has its members in the order of the text, and the last value of a name counts.
+/// A JSON value; an object lists its members in the order of the text, and the last value of a name
+/// counts.
 #[derive(Drop)]
 pub enum Value<'a> {
     Null,
@@ -34,7 +36,7 @@ pub enum Value<'a> {
 }
 
 impl<'a> Value<'a> {
-    /// Reads the one value that a text is.
+    /// Parses a text that is one JSON value.
     pub fn read(
         alloc: Global,
         text: &'a str,
@@ -52,7 +54,7 @@ impl<'a> Value<'a> {
         Ok(value)
     }
 
-    /// Finds the member with this name.
+    /// Returns the value of the member `name`, if this is an object that has it.
     pub fn get(&self, name: &str) -> Option<&Value<'a>>
         ensures { option_map (λ v. view v.now) result ≡ get name.now (view self.now) }
     {
@@ -62,7 +64,7 @@ impl<'a> Value<'a> {
         }
     }
 
-    /// Tells whether it is an object with exactly this many names.
+    /// Returns whether this is an object with exactly `count` different names.
     pub fn has_count(&self, count: usize) -> bool
         ensures { result ≡ has_count count (as_object (view self.now)) }
     {
@@ -72,7 +74,7 @@ impl<'a> Value<'a> {
         }
     }
 
-    /// Returns the number that it is, if it is one.
+    /// Returns the number, if this is one.
     pub fn as_number(&self) -> Option<&Number>
         ensures { option_map (λ n. number_view n.now) result ≡ as_number (view self.now) }
     {
@@ -82,7 +84,7 @@ impl<'a> Value<'a> {
         }
     }
 
-    /// Returns the text that it is, if it is one.
+    /// Returns the text, if this is one.
     pub fn as_str(&self) -> Option<&'a str>
         ensures { option_map (λ s. s.now) result ≡ as_str (view self.now) }
     {
@@ -92,7 +94,7 @@ impl<'a> Value<'a> {
         }
     }
 
-    /// Tells whether it is true or false, if it is either.
+    /// Returns the Boolean, if this is one.
     pub fn as_bool(&self) -> Option<bool>
         ensures { result ≡ as_bool (view self.now) }
     {
@@ -102,7 +104,7 @@ impl<'a> Value<'a> {
         }
     }
 
-    /// Returns the values of the array that it is, if it is one.
+    /// Returns the values of the array, if this is one.
     pub fn as_array(&self) -> Option<&Vec<Value<'a>>>
         ensures { option_map (λ v. items_view v.now.items) result ≡ as_array (view self.now) }
     {
@@ -113,7 +115,7 @@ impl<'a> Value<'a> {
     }
 }
 
-// The last member with this name.
+// Returns the value of the last member with this name.
 fn member<'v, 'a>(members: &'v [(&'a str, Value<'a>)], name: &str) -> Option<&'v Value<'a>>
     ensures { option_map (λ v. view v.now) result
         ≡ get_member name.now (members_view members.now) }
@@ -129,9 +131,11 @@ fn member<'v, 'a>(members: &'v [(&'a str, Value<'a>)], name: &str) -> Option<&'v
     None
 }
 
-// Whether the members have exactly so many names. A name counts at its first member: there the way back finds no other.
-// For a given count the steps are linear: the ways back from one member to the last with its name add up to the length at
-// most for each name, and one name too many ends the walk.
+// Returns whether the members have exactly `count` different names.
+//
+// A name counts at its first member, where the search backwards finds no other. For a fixed count
+// the steps are linear: the searches for one name add up to at most the length, and the loop ends
+// at the first name too many.
 fn has_names<'a>(members: &[(&'a str, Value<'a>)], count: usize) -> bool
     ensures { result ≡ has_count count (Some (members_view members.now)) }
 {
@@ -147,7 +151,7 @@ fn has_names<'a>(members: &[(&'a str, Value<'a>)], count: usize) -> bool
     names == count
 }
 
-// Puts a member behind the others. The first makes room for all of a request, so that one allocation serves.
+// Appends a member; the first one reserves room for all members of a request.
 fn push_member<'a>(
     members: &mut Vec<(&'a str, Value<'a>)>,
     name: &'a str,
@@ -162,7 +166,7 @@ fn push_member<'a>(
     members.push((name, value)).map_err(AllocError::from)
 }
 
-// The next value of the reader. Arrays and objects may nest so deep.
+// Parses the next value, in which arrays and objects nest at most `depth` deep.
 #[cycle(read)]
 #[inline(always)]
 fn read<'a>(alloc: Global, reader: &mut Reader<'a>, depth: usize) -> Result<Value<'a>, ReadStop>
@@ -197,7 +201,7 @@ fn read<'a>(alloc: Global, reader: &mut Reader<'a>, depth: usize) -> Result<Valu
     }
 }
 
-// The values of an array, from its first on.
+// Parses the values of an array, after its opening bracket.
 #[cycle(read)]
 #[inline(never)]
 fn read_items<'a>(
@@ -221,7 +225,7 @@ fn read_items<'a>(
     Ok(found)
 }
 
-// The members of an object, from its first on.
+// Parses the members of an object, after its opening brace.
 #[cycle(read)]
 #[inline(never)]
 fn read_members<'a>(
@@ -246,7 +250,7 @@ fn read_members<'a>(
     Ok(found)
 }
 
-// The name of the next member, or none at the end of the object.
+// Returns the name of the next member, or `None` at the end of the object.
 fn next_name<'a>(reader: &mut Reader<'a>) -> Result<Option<&'a str>, ReadStop>
     ensures ok { IfOk result
         (λ name. read_key reader.old ≡ Some (option_map (λ s. s.now) name, reader.new)) }

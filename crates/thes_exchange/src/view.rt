@@ -3,9 +3,9 @@ ghost use Rattle.std.specs.Prelude.{◌≡◌, IfOk, OnOk, map, false};
 ghost use Rattle.serde_json.specs.View.{view, members_view};
 ghost use Rattle.serde_json.specs.Written.{has_float};
 ghost use Rattle.thes_base.specs.Postings.{place};
-ghost use Rattle.thes_core.specs.Shown.{tagged};
-ghost use Rattle.thes_exchange.specs.ConceptMembers.{labels_put, links_put, facts_put};
-ghost use Rattle.thes_exchange.specs.ViewTexts.{num, listed, number_or_null, tagged_data, mapping_data, typed_data, word_data, move_data, entry_data, row_data, totals_data, concept_data, postings_data, posting_data, line_text, view_text};
+ghost use Rattle.thes_core.specs.LabelLists.{tagged_text};
+ghost use Rattle.thes_exchange.specs.ConceptMembers.{members_with_labels, members_with_links, members_with_facts};
+ghost use Rattle.thes_exchange.specs.ViewTexts.{number_data, array_data, number_or_null, tagged_data, mapping_data, typed_data, keyword_data, move_data, entry_data, row_data, totals_data, concept_data, postings_data, posting_data, line_text, view_text};
 
 use crate::answer::refusal_line;
 use serde_json::{Map, Value, json, put};
@@ -16,7 +16,7 @@ use thes_base::fault::Refusal;
 use thes_base::number::{PostNo, ResNo};
 use thes_base::text::{Key, RecordName};
 
-/// A concept with its labels, its links and the count of the postings that stand at it.
+/// The view of a concept: its labels, its links, and the number of postings assigned to it.
 #[derive(Drop)]
 pub struct ConceptView<'a> {
     pub alt: Vec<&'a Label>,
@@ -39,32 +39,32 @@ pub struct ConceptView<'a> {
 
 impl<'a> Model for ConceptView<'a> {
     ghost use Rattle.std.specs.Prelude.{map};
-    ghost use Rattle.thes_base.specs.Views.{ConceptShown};
-    ghost use Rattle.thes_core.specs.Shown.{tagged};
+    ghost use Rattle.thes_base.specs.Views.{ConceptDetails};
+    ghost use Rattle.thes_core.specs.LabelLists.{tagged_text};
 
-    ghost Value = { ConceptShown };
+    ghost Value = { ConceptDetails };
 
     ghost view = { λ c. record {
-      alt = map (λ l. tagged l.now) c.alt.items;
+      alt = map (λ l. tagged_text l.now) c.alt.items;
       broader = c.broader.items;
       collections = c.collections.items;
-      hidden = map (λ l. tagged l.now) c.hidden.items;
+      hidden = map (λ l. tagged_text l.now) c.hidden.items;
       live = c.live;
       mappings = c.mappings.items;
       narrower = c.narrower.items;
       number = c.number;
       postings = c.postings;
-      pref = map (λ l. tagged l.now) c.pref.items;
+      pref = map (λ l. tagged_text l.now) c.pref.items;
       related = c.related.items;
       replaced = c.replaced;
       scheme = c.scheme;
-      scope = map (λ l. tagged l.now) c.scope.items;
+      scope = map (λ l. tagged_text l.now) c.scope.items;
       top = c.top;
       typed = c.typed.items;
     } };
 }
 
-/// The histories of postings, in the order in which they are shown.
+/// The view of a concept's postings: their histories, in the order of the output.
 #[derive(Drop)]
 pub struct PostingRows<'a> {
     pub rows: Vec<&'a History>,
@@ -79,7 +79,7 @@ impl<'a> Model for PostingRows<'a> {
     ghost view = { λ p. map (λ h. h.now) p.rows.items };
 }
 
-/// A view: something that is shown.
+/// The view that answers a query, or the refusal.
 #[derive(Drop)]
 pub enum View<'a> {
     Totals(Totals),
@@ -89,7 +89,7 @@ pub enum View<'a> {
     No(Refusal),
 }
 
-// The totals as JSON.
+// Returns the totals as JSON.
 fn totals_value(alloc: Global, totals: &Totals) -> Result<Value, AllocError>
     ensures { IfOk result (λ v. view v ≡ totals_data totals.now) }
 {
@@ -100,7 +100,7 @@ fn totals_value(alloc: Global, totals: &Totals) -> Result<Value, AllocError>
     })
 }
 
-// A number as JSON, or null.
+// Returns a number as JSON, or null.
 fn number_or_null(number: Option<ResNo>) -> Value
     ensures { view result ≡ number_or_null number }
 {
@@ -110,9 +110,9 @@ fn number_or_null(number: Option<ResNo>) -> Value
     }
 }
 
-// Numbers as JSON.
+// Returns an array of numbers.
 fn numbers_value(alloc: Global, numbers: &[ResNo]) -> Result<Value, AllocError>
-    ensures { IfOk result (λ v. view v ≡ listed num numbers.now) }
+    ensures { IfOk result (λ v. view v ≡ array_data number_data numbers.now) }
 {
     let mut list = Vec::new(alloc);
     for number in numbers {
@@ -121,16 +121,17 @@ fn numbers_value(alloc: Global, numbers: &[ResNo]) -> Result<Value, AllocError>
     Ok(Value::Array(list))
 }
 
-// A tag and a text as JSON.
+// Returns a label as an array of its language tag and its text.
 fn label_value(alloc: Global, label: &Label) -> Result<Value, AllocError>
-    ensures { IfOk result (λ v. view v ≡ tagged_data (tagged label.now)) }
+    ensures { IfOk result (λ v. view v ≡ tagged_data (tagged_text label.now)) }
 {
     json!(in alloc; [label.tag.as_str(), label.text()])
 }
 
-// Labels as JSON.
+// Returns an array of labels.
 fn labels_value(alloc: Global, labels: &[&Label]) -> Result<Value, AllocError>
-    ensures { IfOk result (λ v. view v ≡ listed tagged_data (map (λ l. tagged l.now) labels.now)) }
+    ensures { IfOk result
+        (λ v. view v ≡ array_data tagged_data (map (λ l. tagged_text l.now) labels.now)) }
 {
     let mut list = Vec::new(alloc);
     for label in labels {
@@ -139,45 +140,45 @@ fn labels_value(alloc: Global, labels: &[&Label]) -> Result<Value, AllocError>
     Ok(Value::Array(list))
 }
 
-// A word and a number as JSON.
-fn word_value(alloc: Global, word: &str, number: ResNo) -> Result<Value, AllocError>
-    ensures { IfOk result (λ v. view v ≡ word_data word.now number) }
+// Returns an array of a keyword and a number.
+fn keyword_value(alloc: Global, name: &str, number: ResNo) -> Result<Value, AllocError>
+    ensures { IfOk result (λ v. view v ≡ keyword_data name.now number) }
 {
-    json!(in alloc; [word, number.get()])
+    json!(in alloc; [name, number.get()])
 }
 
-// Mappings as JSON: of each its word and its other end.
+// Returns the mappings as an array: the keyword and the other end of each.
 fn mappings_value(alloc: Global, mappings: &[(LinkKind, ResNo)]) -> Result<Value, AllocError>
-    ensures { IfOk result (λ v. view v ≡ listed mapping_data mappings.now) }
+    ensures { IfOk result (λ v. view v ≡ array_data mapping_data mappings.now) }
 {
     let mut list = Vec::new(alloc);
     for mapping in mappings {
         let (kind, other) = *mapping;
-        list.push(word_value(alloc, kind.word(), other)?)?;
+        list.push(keyword_value(alloc, kind.name(), other)?)?;
     }
     Ok(Value::Array(list))
 }
 
-// Typed links as JSON: of each its word and its other end.
+// Returns the typed links as an array: the keyword and the other end of each.
 fn typed_value(alloc: Global, typed: &[(TypedKind, ResNo)]) -> Result<Value, AllocError>
-    ensures { IfOk result (λ v. view v ≡ listed typed_data typed.now) }
+    ensures { IfOk result (λ v. view v ≡ array_data typed_data typed.now) }
 {
     let mut list = Vec::new(alloc);
     for link in typed {
         let (kind, other) = *link;
-        list.push(word_value(alloc, kind.word(), other)?)?;
+        list.push(keyword_value(alloc, kind.name(), other)?)?;
     }
     Ok(Value::Array(list))
 }
 
-// Adds the labels of a concept to the members of its view.
-#[tactic(auto, unfolding(crate::specs::ConceptMembers::labels_put))]
+// Puts the labels of a concept into the members of its view.
+#[tactic(auto, unfolding(crate::specs::ConceptMembers::members_with_labels))]
 fn put_labels(
     members: &mut Map<String, Value>,
     alloc: Global,
     concept: &ConceptView,
 ) -> Result<(), AllocError>
-    ensures { OnOk result (members_view members.new.entries ≡ labels_put concept.now
+    ensures { OnOk result (members_view members.new.entries ≡ members_with_labels concept.now
         (members_view members.old.entries)) }
 {
     put(members, alloc, "alt", labels_value(alloc, &concept.alt)?)?;
@@ -196,14 +197,14 @@ fn put_labels(
     )
 }
 
-// Adds its links.
-#[tactic(auto, unfolding(crate::specs::ConceptMembers::links_put))]
+// Puts the links of a concept into the members of its view.
+#[tactic(auto, unfolding(crate::specs::ConceptMembers::members_with_links))]
 fn put_links(
     members: &mut Map<String, Value>,
     alloc: Global,
     concept: &ConceptView,
 ) -> Result<(), AllocError>
-    ensures { OnOk result (members_view members.new.entries ≡ links_put concept.now
+    ensures { OnOk result (members_view members.new.entries ≡ members_with_links concept.now
         (members_view members.old.entries)) }
 {
     put(
@@ -239,14 +240,14 @@ fn put_links(
     put(members, alloc, "typed", typed_value(alloc, &concept.typed)?)
 }
 
-// Adds what else is shown of it.
-#[tactic(auto, unfolding(crate::specs::ConceptMembers::facts_put))]
+// Puts the other facts about a concept into the members of its view.
+#[tactic(auto, unfolding(crate::specs::ConceptMembers::members_with_facts))]
 fn put_facts(
     members: &mut Map<String, Value>,
     alloc: Global,
     concept: &ConceptView,
 ) -> Result<(), AllocError>
-    ensures { OnOk result (members_view members.new.entries ≡ facts_put concept.now
+    ensures { OnOk result (members_view members.new.entries ≡ members_with_facts concept.now
         (members_view members.old.entries)) }
 {
     put(members, alloc, "live", Value::from(concept.live))?;
@@ -257,7 +258,7 @@ fn put_facts(
     put(members, alloc, "top", Value::from(concept.top))
 }
 
-// A concept as JSON.
+// Returns the view of a concept as JSON.
 fn concept_value(alloc: Global, concept: &ConceptView) -> Result<Value, AllocError>
     ensures { IfOk result (λ v. view v ≡ concept_data concept.now) }
 {
@@ -268,7 +269,7 @@ fn concept_value(alloc: Global, concept: &ConceptView) -> Result<Value, AllocErr
     Ok(Value::Object(members))
 }
 
-// A posting in a list, as JSON.
+// Returns a posting of a list: an array of its number, key and record name.
 pub(crate) fn entry_value(
     alloc: Global,
     number: PostNo,
@@ -280,15 +281,16 @@ pub(crate) fn entry_value(
     json!(in alloc; [number.get(), key.as_str(), rec.as_str()])
 }
 
+// Returns the row for a posting in a list.
 fn row_value(alloc: Global, history: &History) -> Result<Value, AllocError>
     ensures { IfOk result (λ v. view v ≡ row_data history.now) }
 {
     entry_value(alloc, history.number, &history.key, &history.rec)
 }
 
-// Postings in a list, as JSON.
+// Returns an array of postings.
 fn rows_value(alloc: Global, rows: &[&History]) -> Result<Value, AllocError>
-    ensures { IfOk result (λ v. view v ≡ listed row_data (map (λ h. h.now) rows.now)) }
+    ensures { IfOk result (λ v. view v ≡ array_data row_data (map (λ h. h.now) rows.now)) }
 {
     let mut list = Vec::new(alloc);
     for row in rows {
@@ -297,7 +299,7 @@ fn rows_value(alloc: Global, rows: &[&History]) -> Result<Value, AllocError>
     Ok(Value::Array(list))
 }
 
-// The postings at a concept as JSON.
+// Returns the postings of a concept as JSON.
 fn postings_value(alloc: Global, postings: &PostingRows) -> Result<Value, AllocError>
     ensures { IfOk result (λ v. view v ≡ postings_data postings.now) }
 {
@@ -305,16 +307,16 @@ fn postings_value(alloc: Global, postings: &PostingRows) -> Result<Value, AllocE
     json!(in alloc; {"postings": rows})
 }
 
-// A move as JSON.
+// Returns a move: an array of its number, source and target.
 fn move_value(alloc: Global, step: &Move) -> Result<Value, AllocError>
     ensures { IfOk result (λ v. view v ≡ move_data step.now) }
 {
     json!(in alloc; [step.number.get(), step.source.get(), step.target.get()])
 }
 
-// Moves as JSON.
+// Returns an array of moves.
 fn moves_value(alloc: Global, moves: &[Move]) -> Result<Value, AllocError>
-    ensures { IfOk result (λ v. view v ≡ listed move_data moves.now) }
+    ensures { IfOk result (λ v. view v ≡ array_data move_data moves.now) }
 {
     let mut list = Vec::new(alloc);
     for step in moves {
@@ -323,7 +325,7 @@ fn moves_value(alloc: Global, moves: &[Move]) -> Result<Value, AllocError>
     Ok(Value::Array(list))
 }
 
-// Where a posting stands.
+// Returns the concept to which a posting is assigned.
 fn place_of(history: &History) -> ResNo
     ensures { result ≡ place history.now }
 {
@@ -333,7 +335,7 @@ fn place_of(history: &History) -> ResNo
     }
 }
 
-// A posting with its history as JSON.
+// Returns a posting with its history as JSON.
 fn posting_value(alloc: Global, history: &History) -> Result<Value, AllocError>
     ensures { IfOk result (λ v. view v ≡ posting_data history.now) }
 {
@@ -349,7 +351,7 @@ fn posting_value(alloc: Global, history: &History) -> Result<Value, AllocError>
     })
 }
 
-// The line of a value.
+// Returns a JSON value as one compact line, with a line feed.
 #[tactic(auto, unfolding(crate::specs::ViewTexts::line_text))]
 pub(crate) fn value_line(alloc: Global, value: &Value) -> Result<Vec<u8>, AllocError>
     ensures { IfOk result (λ text. has_float (view value.now) ≡ false →
@@ -360,14 +362,14 @@ pub(crate) fn value_line(alloc: Global, value: &Value) -> Result<Vec<u8>, AllocE
     Ok(text)
 }
 
-// The line of the totals.
+// Returns the line for the totals.
 fn totals_line(alloc: Global, totals: &Totals) -> Result<Vec<u8>, AllocError>
     ensures { IfOk result (λ text. text.items ≡ line_text (totals_data totals.now)) }
 {
     value_line(alloc, &totals_value(alloc, totals)?)
 }
 
-// The line of a concept.
+// Returns the line for a concept.
 #[tactic(auto, using(crate::proofs::ViewLemmas::concept_has_no_float))]
 fn concept_line(alloc: Global, concept: &ConceptView) -> Result<Vec<u8>, AllocError>
     ensures { IfOk result (λ text. text.items ≡ line_text (concept_data concept.now)) }
@@ -375,7 +377,7 @@ fn concept_line(alloc: Global, concept: &ConceptView) -> Result<Vec<u8>, AllocEr
     value_line(alloc, &concept_value(alloc, concept)?)
 }
 
-// The line of the postings at a concept.
+// Returns the line for the postings of a concept.
 #[tactic(auto, using(crate::proofs::ViewLemmas::postings_have_no_float))]
 fn postings_line(alloc: Global, postings: &PostingRows) -> Result<Vec<u8>, AllocError>
     ensures { IfOk result (λ text. text.items ≡ line_text (postings_data postings.now)) }
@@ -383,7 +385,7 @@ fn postings_line(alloc: Global, postings: &PostingRows) -> Result<Vec<u8>, Alloc
     value_line(alloc, &postings_value(alloc, postings)?)
 }
 
-// The line of a posting.
+// Returns the line for a posting.
 #[tactic(auto, using(crate::proofs::ViewLemmas::posting_has_no_float))]
 fn posting_line(alloc: Global, history: &History) -> Result<Vec<u8>, AllocError>
     ensures { IfOk result (λ text. text.items ≡ line_text (posting_data history.now)) }
@@ -391,7 +393,7 @@ fn posting_line(alloc: Global, history: &History) -> Result<Vec<u8>, AllocError>
     value_line(alloc, &posting_value(alloc, history)?)
 }
 
-// The line of a view.
+// Returns the line for a view or a refusal.
 pub(crate) fn view_line(alloc: Global, view: &View) -> Result<Vec<u8>, AllocError>
     ensures { IfOk result (λ text. text.items ≡ view_text view.now) }
 {

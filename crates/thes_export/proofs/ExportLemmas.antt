@@ -1,39 +1,48 @@
--- Exports of legal states, read as documents.
+-- Proves that exports of legal states are read as documents of exactly their triples.
 use Rattle.std.proofs.Common.{◌≡◌, ◌∙◌, sym, ap, refl, subst, ℕ, List, [], ◌∷◌, ◌++◌, map, Contains, inl, inr}
 use Rattle.std.specs.List.{concat}
 use Rattle.std.proofs.lemmas.Cmp.{nat_list_cmp_total}
 use Rattle.thes_base.specs.Legal.{Legal}
 use Rattle.thes_base.specs.State.{State}
-use Rattle.thes_base.specs.Triples.{Triple, Asserted}
-use Rattle.thes_base.proofs.ListMembers.{Contains-none, Contains-head, Contains-later, Contains-cons_cases, Contains-map, Contains-from_map}
+use Rattle.thes_base.specs.Triples.{Triple, IsAsserted}
+use Rattle.thes_base.proofs.ListMemberLemmas.{Contains-none, Contains-head, Contains-later, Contains-cons_cases}
+use Rattle.thes_base.proofs.ListMemberLemmas.{Contains-map, Contains-from_map}
 use Rattle.thes_export.specs.NTriples.{IsDocument}
 use Rattle.thes_export.specs.Spelling.{line_of, statement_of}
 use Rattle.thes_export.specs.Export.{IsTripleLine, IsExport, IsReadAs}
-use Rattle.thes_export.proofs.Documents.{AllWritable, lines_text, document_same}
-use Rattle.thes_export.proofs.Spelled.{lines_read, line_spelled, one_line}
-use Rattle.thes_base.proofs.OneListing.{one_listing}
-use Rattle.thes_export.proofs.Legality.{asserted_writable}
+use Rattle.thes_export.proofs.DocumentLemmas.{AllWritable, lines_text, document_same}
+use Rattle.thes_export.proofs.SpellingLemmas.{lines_read, line_spelled, one_line}
+use Rattle.thes_base.proofs.UniqueListingLemmas.{one_listing}
+use Rattle.thes_export.proofs.LegalTripleLemmas.{asserted_writable}
 
 module _ (base : List ℕ) (s : State) (legal : Legal base s) where
-  -- the triples of lines
+  -- The triples of these lines.
   record AreOf (lines : List (List ℕ)) : Type 0 where
     list : List Triple
     fine : AllWritable list
-    spelled : concat lines ≡ lines_text list
-    sound : (t : Triple) → Contains list t → Asserted base s t
+    text_is : concat lines ≡ lines_text list
+    sound : (t : Triple) → Contains list t → IsAsserted base s t
     complete : (line : List ℕ) → Contains lines line → (t : Triple) × Contains list t × (line ≡ line_of t)
 
-  found : (lines : List (List ℕ)) → ((line : List ℕ) → Contains lines line → IsTripleLine base s line) → AreOf lines
-  found [] each = record { list = []; fine = tt; spelled = refl; sound = λ t c. absurd (Contains-none t c); complete = λ l c. absurd (Contains-none l c) }
-  found (line ∷ lines) each =
+  -- The lines of an export are those of a list of writable triples.
+  triples_found : (lines : List (List ℕ)) → ((line : List ℕ) → Contains lines line → IsTripleLine base s line)
+      → AreOf lines
+  triples_found [] each = record {
+    list = [];
+    fine = tt;
+    text_is = refl;
+    sound = λ t c. absurd (Contains-none t c);
+    complete = λ l c. absurd (Contains-none l c);
+  }
+  triples_found (line ∷ lines) each =
       let one = each line (Contains-head line lines) in
-      let more = found lines (λ l c. each l (Contains-later line lines l c)) in
+      let more = triples_found lines (λ l c. each l (Contains-later line lines l c)) in
       record {
         list = one.0 ∷ more.list;
         fine = (asserted_writable base s legal one.0 one.1, more.fine);
-        spelled = (λ i. one.2 i ++ more.spelled i) ∙ line_spelled one.0 (lines_text more.list);
+        text_is = (λ i. one.2 i ++ more.text_is i) ∙ line_spelled one.0 (lines_text more.list);
         sound = λ t c. elim (Contains-cons_cases one.0 more.list t c) [
-          | inl e ↦ subst (Asserted base s) e one.1
+          | inl e ↦ subst (IsAsserted base s) e one.1
           | inr d ↦ more.sound t d
         ];
         complete = λ l c. elim (Contains-cons_cases line lines l c) [
@@ -42,20 +51,23 @@ module _ (base : List ℕ) (s : State) (legal : Legal base s) where
         ];
       }
 
+  -- An export of a legal state is read as exactly its triples.
   pub export_read : (text : List ℕ) → IsExport base s text → IsReadAs base s text
   export_read text export =
-      let of = found export.lines export.listed.sound in
-      let spelled : text ≡ lines_text of.list = export.is ∙ of.spelled in
+      let of = triples_found export.lines export.listed.sound in
+      let text_is : text ≡ lines_text of.list = export.is ∙ of.text_is in
       record {
-        said = map statement_of of.list;
-        document = subst (λ x. IsDocument x (map statement_of of.list)) (sym spelled) (lines_read of.list of.fine);
-        only = λ others document. document_same of.list others text of.fine spelled document;
+        content = map statement_of of.list;
+        document = subst (λ x. IsDocument x (map statement_of of.list)) (sym text_is) (lines_read of.list of.fine);
+        unique = λ others document. document_same of.list others text of.fine text_is document;
         exact = λ t. (
           λ c. let w = Contains-from_map statement_of of.list t c in (w.0, of.sound w.0 w.1, sym w.2),
           λ is.
               let w = of.complete (line_of is.0) (export.listed.complete (line_of is.0) (is.0, is.1, refl)) in
-              let same = one_line is.0 w.0 (asserted_writable base s legal is.0 is.1) (asserted_writable base s legal w.0 (of.sound w.0 w.1)) w.2 in
-              subst (Contains (map statement_of of.list)) (sym (is.2 ∙ same)) (Contains-map statement_of of.list w.0 w.1),
+              let same = one_line is.0 w.0 (asserted_writable base s legal is.0 is.1)
+              (asserted_writable base s legal w.0 (of.sound w.0 w.1)) w.2 in
+              subst (Contains (map statement_of of.list)) (sym (is.2 ∙ same))
+              (Contains-map statement_of of.list w.0 w.1),
         );
       }
 

@@ -1,10 +1,13 @@
--- The lines of all numbers, in order, are the export.
-use Rattle.std.proofs.Common.{◌≡◌, ◌⊎◌, ◌∙◌, sym, ap, refl, subst, inl, inr, ⊎_elim, ℕ, ◌+◌, ◌<◌, ◌≤◌, Bool, true, false, List, [], ◌∷◌, ◌++◌, length, get_or, take, Contains, IsPermutation, IsSorted, nat_eq, arith, eqb, eqb-true}
+-- Proves that the sorted lines of all numbers are the export.
+use Rattle.std.proofs.Common.{◌≡◌, ◌⊎◌, ◌∙◌, sym, ap, refl, subst, inl, inr, ⊎_elim, ℕ, ◌+◌, ◌<◌, ◌≤◌, Bool, true}
+use Rattle.std.proofs.Common.{false, List, [], ◌∷◌, ◌++◌, length, get_or, take, Contains, IsPermutation, IsSorted}
+use Rattle.std.proofs.Common.{nat_eq, arith, eqb, eqb-true}
 use borrow.Author.Tests.{eqb-false}
 use Rattle.std.specs.List.{concat}
 use Rattle.std.specs.List.Retain.{DiffersFromLast, IsFiltered}
 use Rattle.std.specs.List.Sorted.{IsStrictlySortedBy}
-use Rattle.std.specs.Cmp.Lexicographic.{pointwise, bytes_decides, nat_list_cmp_total, nat_list_eq_equiv, texts_ties, slice_cmp}
+use Rattle.std.specs.Cmp.Lexicographic.{pointwise, bytes_decides, nat_list_cmp_total, nat_list_eq_equiv, texts_ties}
+use Rattle.std.specs.Cmp.Lexicographic.{slice_cmp}
 use Rattle.std.proofs.lemmas.List.{append-nil, take_more}
 use Rattle.std.proofs.lemmas.List.Folds.{concat-append}
 use Rattle.std.proofs.lemmas.List.Filters.{dedup_is}
@@ -15,51 +18,68 @@ use Rattle.thes_base.specs.Legal.{Legal}
 use Rattle.thes_base.specs.Listing.{IsListing}
 use Rattle.thes_base.specs.State.{State}
 use Rattle.thes_base.specs.Triples.{Triple}
-use Rattle.thes_base.proofs.ListMembers.{Contains-none}
+use Rattle.thes_base.proofs.ListMemberLemmas.{Contains-none}
 use Rattle.thes_base.proofs.NumberedLemmas.{numbered_bound}
-use Rattle.thes_core.specs.Kept.{Kept, Holds, with_histories}
+use Rattle.thes_core.specs.CoreView.{CoreView, IsViewOf, with_histories}
 use Rattle.thes_export.specs.Export.{IsExport, IsTripleLine}
 use Rattle.thes_export.specs.Spelling.{line_of}
 use Rattle.thes_export.specs.Topics.{Adds, IsAbout, IsLineOf, IsUpTo}
-use Rattle.thes_export.proofs.AddedLemmas.{added_then, no_lines}
-use Rattle.thes_export.proofs.AboutLemmas.{written_from, written_to}
+use Rattle.thes_export.proofs.LineAppendLemmas.{added_then, no_lines}
+use Rattle.thes_export.proofs.ResourceTripleLemmas.{written_from, written_to}
 
--- Numbers from 1 on.
+-- Numbers from 1 upwards.
 
-pub none_up : (core : Kept) (xs : List (List ℕ)) → Adds (IsLineOf (IsUpTo core 0)) xs xs
+pub none_up : (core : CoreView) (xs : List (List ℕ)) → Adds (IsLineOf (IsUpTo core 0)) xs xs
 none_up core xs = no_lines (IsUpTo core 0) xs (λ t w. let least = w.1 in let most = w.2 in omega arith)
 
-pub one_up : (core : Kept) (i : ℕ) (old mid new : List (List ℕ)) → Adds (IsLineOf (IsUpTo core i)) old mid → Adds (IsLineOf (IsAbout core (i + 1))) mid new → Adds (IsLineOf (IsUpTo core (i + 1))) old new
+pub one_up : (core : CoreView) (i : ℕ) (old mid new : List (List ℕ)) → Adds (IsLineOf (IsUpTo core i)) old mid
+    → Adds (IsLineOf (IsAbout core (i + 1))) mid new → Adds (IsLineOf (IsUpTo core (i + 1))) old new
 one_up core i old mid new =
     added_then (IsLineOf (IsUpTo core i)) (IsLineOf (IsAbout core (i + 1))) (IsLineOf (IsUpTo core (i + 1))) old mid new
     (λ l w. let of = w.1 in split l w.0 of.0 of.1 of.2 of.3 w.2 (eqb of.0 (i + 1)) refl)
     (λ l w. let of = w.1 in let most = of.2 in (w.0, (of.0, of.1, omega arith, of.3), w.2))
     (λ l w. (w.0, (i + 1, omega arith, omega arith, w.1), w.2))
   where
-    split : (l : List ℕ) (t : Triple) (n : ℕ) → 1 ≤ n → n ≤ i + 1 → IsAbout core n t → l ≡ line_of t → (b : Bool) → eqb n (i + 1) ≡ b → IsLineOf (IsUpTo core i) l ⊎ IsLineOf (IsAbout core (i + 1)) l
-    split l t n least most about made true e = inr (t, subst (λ m. IsAbout core m t) (eqb-true n (i + 1) e) about, made)
-    split l t n least most about made false e = let other = eqb-false n (i + 1) e in inl (t, (n, least, omega arith, about), made)
+    split : (l : List ℕ) (t : Triple) (n : ℕ) → 1 ≤ n → n ≤ i + 1 → IsAbout core n t → l ≡ line_of t → (b : Bool)
+        → eqb n (i + 1) ≡ b → IsLineOf (IsUpTo core i) l ⊎ IsLineOf (IsAbout core (i + 1)) l
+    split l t n least most about spelling true e = inr (
+      t,
+      subst (λ m. IsAbout core m t) (eqb-true n (i + 1) e) about,
+      spelling,
+    )
+    split l t n least most about spelling false e = let other = eqb-false n (i + 1) e in
+        inl (t, (n, least, omega arith, about), spelling)
 
 -- Sorting.
 
-pub sorted_listing : (xs ys zs : List (List ℕ)) → IsPermutation xs ys → IsSorted (slice_cmp nat_cmp) ys → IsFiltered (DiffersFromLast (pointwise nat_eq)) [] ys zs → IsListing (slice_cmp nat_cmp) (Contains xs) zs
+pub sorted_listing : (xs ys zs : List (List ℕ)) → IsPermutation xs ys → IsSorted (slice_cmp nat_cmp) ys
+    → IsFiltered (DiffersFromLast (pointwise nat_eq)) [] ys zs → IsListing (slice_cmp nat_cmp) (Contains xs) zs
 sorted_listing xs ys zs moved sorted filtered =
     let is = dedup_is (pointwise nat_eq) ys zs filtered in
     record {
-      rises = subst (IsStrictlySortedBy (slice_cmp nat_cmp)) (sym is) (IsStrictlySortedBy-dedup nat_list_cmp_total texts_ties ys sorted);
-      sound = λ l c. Contains-permutation ys xs l (IsPermutation-sym xs ys moved) (Contains-from_dedup (pointwise nat_eq) ys l (subst (λ ws. Contains ws l) is c));
-      complete = λ l c. subst (λ ws. Contains ws l) (sym is) (Contains-dedup nat_list_eq_equiv (λ x y e. (bytes_decides x y).0 e) ys l (Contains-permutation xs ys l moved c));
+      rises = subst (IsStrictlySortedBy (slice_cmp nat_cmp)) (sym is)
+          (IsStrictlySortedBy-dedup nat_list_cmp_total texts_ties ys sorted);
+      sound = λ l c. Contains-permutation ys xs l (IsPermutation-sym xs ys moved)
+          (Contains-from_dedup (pointwise nat_eq) ys l (subst (λ ws. Contains ws l) is c));
+      complete = λ l c. subst (λ ws. Contains ws l) (sym is)
+          (Contains-dedup nat_list_eq_equiv (λ x y e. (bytes_decides x y).0 e) ys l
+          (Contains-permutation xs ys l moved c));
     }
 
--- one line more of a text
-pub joined_more : (xs : List (List ℕ)) (i : ℕ) (x old new : List ℕ) → i < length xs → x ≡ get_or xs i x → old ≡ concat (take i xs) → new ≡ old ++ x → new ≡ concat (take (i + 1) xs)
+-- One line more is appended to the text.
+pub joined_more : (xs : List (List ℕ)) (i : ℕ) (x old new : List ℕ) → i < length xs → x ≡ get_or xs i x → old
+    ≡ concat (take i xs) → new ≡ old ++ x → new ≡ concat (take (i + 1) xs)
 joined_more xs i x old new below at so_far more =
-    let taken : take (i + 1) xs ≡ take i xs ++ x ∷ [] = take_more xs i x below ∙ ap (λ z. take i xs ++ z ∷ []) (sym at) in
-    more ∙ ap (λ t. t ++ x) so_far ∙ ap (λ t. concat (take i xs) ++ t) (sym (append-nil x)) ∙ sym (concat-append (take i xs) (x ∷ [])) ∙ ap concat (sym taken)
+    let taken : take (i + 1) xs ≡ take i xs ++ x ∷ [] = take_more xs i x below ∙ ap (λ z. take i xs ++ z ∷ [])
+    (sym at) in
+    more ∙ ap (λ t. t ++ x) so_far ∙ ap (λ t. concat (take i xs) ++ t) (sym (append-nil x))
+    ∙ sym (concat-append (take i xs) (x ∷ [])) ∙ ap concat (sym taken)
 
 -- The export.
 
-module _ (core : Kept) (s : State) (holds : Holds core s) (gathered lines : List (List ℕ)) (added : Adds (IsLineOf (IsUpTo core (length core.resources))) [] gathered) (sorted : IsListing (slice_cmp nat_cmp) (Contains gathered) lines) where
+module _ (core : CoreView) (s : State) (holds : IsViewOf core s) (gathered lines : List (List ℕ))
+    (added : Adds (IsLineOf (IsUpTo core (length core.resources))) [] gathered)
+    (sorted : IsListing (slice_cmp nat_cmp) (Contains gathered) lines) where
   abbrev base : List ℕ
   base = core.setting.base
 
@@ -69,11 +89,12 @@ module _ (core : Kept) (s : State) (holds : Holds core s) (gathered lines : List
   legal : Legal base k
   legal = subst (Legal base) (sym holds.state) holds.legal
 
-  to : (l : List ℕ) → Contains gathered l → IsTripleLine base k l
-  to l c = ⊎_elim (λ none. absurd (Contains-none l none)) (λ w. let of = w.1 in (w.0, written_to core s.histories legal of.0 w.0 of.3, w.2)) ((added.each l).0 c)
+  line_asserted : (l : List ℕ) → Contains gathered l → IsTripleLine base k l
+  line_asserted l c = ⊎_elim (λ none. absurd (Contains-none l none)) (λ w. let of = w.1 in
+      (w.0, written_to core s.histories legal of.0 w.0 of.3, w.2)) ((added.each l).0 c)
 
-  from : (l : List ℕ) → IsTripleLine base k l → Contains gathered l
-  from l is =
+  line_gathered : (l : List ℕ) → IsTripleLine base k l → Contains gathered l
+  line_gathered l is =
       let w = written_from core s.histories legal is.0 is.1 in
       let there = w.1 in
       let b = numbered_bound core.resources w.0 there.0 there.1 in
@@ -84,6 +105,11 @@ module _ (core : Kept) (s : State) (holds : Holds core s) (gathered lines : List
       subst (λ z. IsExport base z text) holds.state
       (record {
         lines = lines;
-        listed = record { rises = sorted.rises; sound = λ l c. to l (sorted.sound l c); complete = λ l is. sorted.complete l (from l is) };
+        listed = record {
+          rises = sorted.rises;
+          sound = λ l c. line_asserted l (sorted.sound l c);
+          complete =
+              λ l is. sorted.complete l (line_gathered l is);
+        };
         is = e;
       })

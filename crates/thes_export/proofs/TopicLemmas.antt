@@ -1,7 +1,9 @@
--- What is written of a number is what its topics have.
-use Rattle.std.proofs.Common.{◌≡◌, ◌⊎◌, ◌∙◌, sym, ap, refl, subst, inl, inr, ⊎_elim, ℕ, ◌==◌, Bool, true, false, ◌&&◌, ◌||◌, not, List, [], ◌∷◌, length, Contains, Option, None, Some, ◌≤◌, take, Result, arith, eqb-true, true≢false}
+-- Proves that the lines pushed for a resource are those of its topics.
+use Rattle.std.proofs.Common.{◌≡◌, ◌⊎◌, ◌∙◌, sym, ap, refl, subst, inl, inr, ⊎_elim, ℕ, ◌==◌, Bool, true, false, ◌&&◌}
+use Rattle.std.proofs.Common.{◌||◌, not, List, [], ◌∷◌, length, Contains, Option, None, Some, ◌≤◌, take, Result}
+use Rattle.std.proofs.Common.{arith, eqb-true, true≢false}
 use Rattle.std.specs.Prelude.{option_and_then, OnOk, nat_lt, if◌then◌else◌}
-use Rattle.thes_base.specs.Links.{HeldIn, exchanged, is_symmetric, norm}
+use Rattle.thes_base.specs.Links.{HeldIn, reversed_link, is_symmetric, normal_form}
 use Rattle.std.specs.Ordering.{nat_cmp, eq_by_cmp}
 use Rattle.std.specs.Cmp.{Equal-is}
 use Rattle.std.proofs.lemmas.Bool.{and_parts, both_ways, not-true, or_cases, or_left, or_right}
@@ -16,30 +18,39 @@ use Rattle.thes_base.specs.declared.triple.Class.{Class as SkosClass}
 use Rattle.thes_base.specs.declared.triple.Class.TheVariants.{Concept, ConceptScheme, Collection}
 use Rattle.thes_base.specs.Data.{LabelData}
 use Rattle.thes_base.specs.Listing.{IsListing}
-use Rattle.thes_base.specs.Resources.{numbered, scheme_of, is_outside, IsConcept, is_concept_kind, is_scheme_kind, is_collection_kind}
+use Rattle.thes_base.specs.Resources.{entry_at, scheme_of, is_outside, IsConcept, is_concept_kind, is_scheme_kind}
+use Rattle.thes_base.specs.Resources.{is_collection_kind}
 use Rattle.thes_base.specs.Triples.{Triple}
 use Rattle.thes_base.specs.Views.{HasLink, HasBroader, IsMapping, mapping_cmp}
-use Rattle.thes_base.proofs.ListMembers.{Contains-none, Contains-head, Contains-later, Contains-cons_cases}
-use Rattle.thes_vocab.specs.LabelData.{AreLabelsOf, data_cmp, has_own}
-use Rattle.thes_vocab.proofs.OwnLemmas.{data_exact}
-use Rattle.thes_core.specs.Kept.{Kept}
-use Rattle.thes_core.proofs.ShownLemmas.{data_itself}
+use Rattle.thes_base.proofs.ListMemberLemmas.{Contains-none, Contains-head, Contains-later, Contains-cons_cases}
+use Rattle.thes_vocab.specs.OwnLabels.{AreLabelsOf, data_cmp, has_own}
+use Rattle.thes_vocab.proofs.OwnLabelLemmas.{data_exact}
+use Rattle.thes_core.specs.CoreView.{CoreView}
+use Rattle.thes_core.proofs.LabelListLemmas.{data_itself}
 use Rattle.thes_export.specs.declared.topic.Topic.{Topic}
-use Rattle.thes_export.specs.declared.topic.Topic.TheVariants.{Kind, Belonging, Top, Death, Replacement, Labels, Broader, Narrower, Related, Mappings, Memberships}
+use Rattle.thes_export.specs.declared.topic.Topic.TheVariants.{Kind, Belonging, Top, Death, Replacement, Labels}
+use Rattle.thes_export.specs.declared.topic.Topic.TheVariants.{Broader, Narrower, Related, Mappings, Memberships}
 use Rattle.thes_export.specs.Spelling.{line_of}
-use Rattle.thes_export.specs.Topics.{Adds, IsLineOf, IsNode, IsOf, IsAbout, IsOfClass, IsTopIn, IsTopScheme, IsMatch, MapsOne, MapsBy, Nodes, class_in, class_triple, dead_triple, label_triple, node_triple, topics}
-use Rattle.thes_export.proofs.AddedLemmas.{OfSome, added_then, all_taken, no_lines, one_triple, same_lines}
+use Rattle.thes_export.specs.Topics.{Adds, IsLineOf, IsNode, IsOf, IsAbout, IsOfClass, IsTopIn, IsTopScheme, IsMatch}
+use Rattle.thes_export.specs.Topics.{MapsOne, MapsBy, Nodes, class_in, class_triple, dead_triple, label_triple}
+use Rattle.thes_export.specs.Topics.{node_triple, topics}
+use Rattle.thes_export.proofs.LineAppendLemmas.{OfSome, added_then, all_taken, no_lines, one_triple, same_lines}
 
-module _ (core : Kept) (n : ℕ) (r : Resource) where
-  same_resource : (q : Resource) → numbered core.resources n ≡ Some r → numbered core.resources n ≡ Some q → q ≡ r
+module _ (core : CoreView) (n : ℕ) (r : Resource) where
+  same_resource : (q : Resource) → entry_at core.resources n ≡ Some r → entry_at core.resources n ≡ Some q → q ≡ r
   same_resource q found other = let e : Some q ≡ Some r = sym other ∙ found in cc
 
   -- Classes.
 
-  class_from : (k : ResourceKind) (class : SkosClass) → Some class ≡ class_in k → numbered core.resources n ≡ Some r → r.kind ≡ k → IsOfClass core class n
-  class_from kinds.Scheme class e found is = subst (λ c. IsOfClass core c n) (sym (let q : class ≡ ConceptScheme = cc in q)) (r, found, ap is_scheme_kind is)
-  class_from kinds.Concept class e found is = subst (λ c. IsOfClass core c n) (sym (let q : class ≡ Concept = cc in q)) (r, found, ap is_concept_kind is)
-  class_from kinds.Collection class e found is = subst (λ c. IsOfClass core c n) (sym (let q : class ≡ Collection = cc in q)) (r, found, ap is_collection_kind is)
+  class_from : (k : ResourceKind) (class : SkosClass) → Some class ≡ class_in k → entry_at core.resources n ≡ Some r
+      → r.kind ≡ k → IsOfClass core class n
+  class_from kinds.Scheme class e found is =
+      subst (λ c. IsOfClass core c n) (sym (let q : class ≡ ConceptScheme = cc in q)) (r, found, ap is_scheme_kind is)
+  class_from kinds.Concept class e found is =
+      subst (λ c. IsOfClass core c n) (sym (let q : class ≡ Concept = cc in q)) (r, found, ap is_concept_kind is)
+  class_from kinds.Collection class e found is =
+      subst (λ c. IsOfClass core c n) (sym (let q : class ≡ Collection = cc in q))
+      (r, found, ap is_collection_kind is)
   class_from kinds.Outside class e found is = absurd (cc)
 
   scheme_kind : (k : ResourceKind) → is_scheme_kind k ≡ true → class_in k ≡ Some ConceptScheme
@@ -60,71 +71,103 @@ module _ (core : Kept) (n : ℕ) (r : Resource) where
   collection_kind kinds.Collection e = refl
   collection_kind kinds.Outside e = absurd (true≢false (sym e))
 
-  class_to : (class : SkosClass) → numbered core.resources n ≡ Some r → IsOfClass core class n → class_in r.kind ≡ Some class
-  class_to ConceptScheme found (q, at, is) = scheme_kind r.kind (ap (λ (z : Resource). is_scheme_kind z.kind) (sym (same_resource q found at)) ∙ is)
-  class_to Concept found (q, at, is) = concept_kind r.kind (ap (λ (z : Resource). is_concept_kind z.kind) (sym (same_resource q found at)) ∙ is)
-  class_to Collection found (q, at, is) = collection_kind r.kind (ap (λ (z : Resource). is_collection_kind z.kind) (sym (same_resource q found at)) ∙ is)
+  class_to : (class : SkosClass) → entry_at core.resources n ≡ Some r → IsOfClass core class n → class_in r.kind
+      ≡ Some class
+  class_to ConceptScheme found (q, at, is) =
+      scheme_kind r.kind (ap (λ (z : Resource). is_scheme_kind z.kind) (sym (same_resource q found at)) ∙ is)
+  class_to Concept found (q, at, is) =
+      concept_kind r.kind (ap (λ (z : Resource). is_concept_kind z.kind) (sym (same_resource q found at)) ∙ is)
+  class_to Collection found (q, at, is) =
+      collection_kind r.kind (ap (λ (z : Resource). is_collection_kind z.kind) (sym (same_resource q found at)) ∙ is)
 
-  pub kind_line : (class : SkosClass) (line : List ℕ) (old new : List (List ℕ)) → numbered core.resources n ≡ Some r → Some class ≡ class_in r.kind → line ≡ line_of (class_triple core n class) → Adds (λ l. l ≡ line) old new → Adds (IsLineOf (IsOf core Kind n)) old new
-  kind_line class line old new found e made =
-      one_triple (IsOf core Kind n) (class_triple core n class) line old new made (class, class_from r.kind class e found refl, refl)
-      (λ t w. let same : w.0 ≡ class = (let q : Some w.0 ≡ Some class = sym (class_to w.0 found w.1) ∙ sym e in cc) in w.2 ∙ ap (class_triple core n) same)
+  pub kind_line : (class : SkosClass) (line : List ℕ) (old new : List (List ℕ)) → entry_at core.resources n ≡ Some r
+      → Some class ≡ class_in r.kind → line ≡ line_of (class_triple core n class) → Adds (λ l. l ≡ line) old new
+      → Adds (IsLineOf (IsOf core Kind n)) old new
+  kind_line class line old new found e spelling =
+      one_triple (IsOf core Kind n) (class_triple core n class) line old new spelling
+      (class, class_from r.kind class e found refl, refl)
+      (λ t w. let same : w.0 ≡ class = (let q : Some w.0 ≡ Some class = sym (class_to w.0 found w.1) ∙ sym e in cc) in
+      w.2 ∙ ap (class_triple core n) same)
 
-  pub no_kind : (xs : List (List ℕ)) → numbered core.resources n ≡ Some r → None ≡ class_in r.kind → Adds (IsLineOf (IsOf core Kind n)) xs xs
-  no_kind xs found e = no_lines (IsOf core Kind n) xs (λ t w. let q : None ≡ Some w.0 = e ∙ class_to w.0 found w.1 in cc)
+  pub no_kind : (xs : List (List ℕ)) → entry_at core.resources n ≡ Some r → None ≡ class_in r.kind
+      → Adds (IsLineOf (IsOf core Kind n)) xs xs
+  no_kind xs found e = no_lines (IsOf core Kind n) xs (λ t w. let q : None ≡ Some w.0 = e ∙ class_to w.0 found w.1 in
+      cc)
 
   -- Schemes and replacements.
 
-  scheme_at : numbered core.resources n ≡ Some r → scheme_of core.resources n ≡ r.scheme
+  scheme_at : entry_at core.resources n ≡ Some r → scheme_of core.resources n ≡ r.scheme
   scheme_at found = ap (option_and_then (λ (z : Resource). z.scheme)) found
 
-  pub belonging_line : (m : ℕ) (old new : List (List ℕ)) → numbered core.resources n ≡ Some r → Some m ≡ r.scheme → Adds (IsLineOf (IsNode core n property.InScheme m)) old new → Adds (IsLineOf (IsOf core Belonging n)) old new
+  pub belonging_line : (m : ℕ) (old new : List (List ℕ)) → entry_at core.resources n ≡ Some r → Some m ≡ r.scheme
+      → Adds (IsLineOf (IsNode core n property.InScheme m)) old new → Adds (IsLineOf (IsOf core Belonging n)) old new
   belonging_line m old new found e =
       same_lines (IsNode core n property.InScheme m) (IsOf core Belonging n) old new
       (λ t is. (m, scheme_at found ∙ sym e, is))
-      (λ t w. let same : w.0 ≡ m = (let q : Some w.0 ≡ Some m = sym w.1 ∙ scheme_at found ∙ sym e in cc) in w.2 ∙ ap (node_triple core n property.InScheme) same)
+      (λ t w. let same : w.0 ≡ m = (let q : Some w.0 ≡ Some m = sym w.1 ∙ scheme_at found ∙ sym e in cc) in
+      w.2 ∙ ap (node_triple core n property.InScheme) same)
 
-  pub replacement_line : (m : ℕ) (old new : List (List ℕ)) → numbered core.resources n ≡ Some r → Some m ≡ r.replaced → Adds (IsLineOf (IsNode core n property.IsReplacedBy m)) old new → Adds (IsLineOf (IsOf core Replacement n)) old new
+  pub replacement_line : (m : ℕ) (old new : List (List ℕ)) → entry_at core.resources n ≡ Some r → Some m ≡ r.replaced
+      → Adds (IsLineOf (IsNode core n property.IsReplacedBy m)) old new → Adds (IsLineOf (IsOf core Replacement n))
+      old new
   replacement_line m old new found e =
       same_lines (IsNode core n property.IsReplacedBy m) (IsOf core Replacement n) old new
       (λ t is. (m, (r, found, sym e), is))
       (λ t w.
       let by = w.1 in
-      let same : w.0 ≡ m = (let q : Some w.0 ≡ Some m = sym by.2 ∙ ap (λ (z : Resource). z.replaced) (same_resource by.0 found by.1) ∙ sym e in cc) in
+      let same : w.0 ≡ m =
+      (let q : Some w.0 ≡ Some m = sym by.2 ∙ ap (λ (z : Resource). z.replaced) (same_resource by.0 found by.1)
+      ∙ sym e in cc) in
       w.2 ∙ ap (node_triple core n property.IsReplacedBy) same)
 
-  -- Dead concepts.
+  -- Deprecated concepts.
 
-  pub death_line : (line : List ℕ) (old new : List (List ℕ)) → numbered core.resources n ≡ Some r → (is_concept_kind r.kind && not r.live) ≡ true → line ≡ line_of (dead_triple core n) → Adds (λ l. l ≡ line) old new → Adds (IsLineOf (IsOf core Death n)) old new
-  death_line line old new found e made =
+  pub death_line : (line : List ℕ) (old new : List (List ℕ)) → entry_at core.resources n ≡ Some r
+      → (is_concept_kind r.kind && not r.live) ≡ true → line ≡ line_of (dead_triple core n) → Adds (λ l. l ≡ line) old
+      new → Adds (IsLineOf (IsOf core Death n)) old new
+  death_line line old new found e spelling =
       let parts = and_parts (is_concept_kind r.kind) (not r.live) e in
-      one_triple (IsOf core Death n) (dead_triple core n) line old new made
-      ((r, found, parts.0), (λ live. both_ways r.live (not-true r.live parts.1) (ap (λ (z : Resource). z.live) (sym (same_resource live.0 found live.1)) ∙ live.2)), refl)
+      one_triple (IsOf core Death n) (dead_triple core n) line old new spelling (
+        (r, found, parts.0),
+        (λ live. both_ways r.live (not-true r.live parts.1)
+            (ap (λ (z : Resource). z.live) (sym (same_resource live.0 found live.1)) ∙ live.2)),
+        refl,
+      )
       (λ t w. w.2)
 
   -- Top concepts.
 
-  pub no_top : (broader xs : List ℕ) (empty : Bool) → xs ≡ broader → IsListing nat_cmp (HasBroader core.links n) broader → empty ≡ (length xs == 0) → empty ≡ false → (m : ℕ) → IsTopIn core n m → ⊥
+  pub no_top : (broader xs : List ℕ) (empty : Bool) → xs ≡ broader → IsListing nat_cmp (HasBroader core.links n)
+      broader → empty ≡ (length xs == 0) → empty ≡ false → (m : ℕ) → IsTopIn core n m → ⊥
   no_top [] xs empty same listed is e m top = true≢false (sym (is ∙ ap (λ (ys : List ℕ). length ys == 0) same) ∙ e)
   no_top (b ∷ broader) xs empty same listed is e m top = top.2 b (listed.sound b (Contains-head b broader))
 
-  pub top_scheme : (broader xs : List ℕ) (empty : Bool) (scheme : Option ℕ) → xs ≡ broader → numbered core.resources n ≡ Some r → (is_concept_kind r.kind && r.live) ≡ true → IsListing nat_cmp (HasBroader core.links n) broader → empty ≡ (length xs == 0) → empty ≡ true → scheme ≡ r.scheme → IsTopScheme core n scheme
+  pub top_scheme : (broader xs : List ℕ) (empty : Bool) (scheme : Option ℕ) → xs ≡ broader → entry_at core.resources n
+      ≡ Some r → (is_concept_kind r.kind && r.live) ≡ true → IsListing nat_cmp (HasBroader core.links n) broader
+      → empty ≡ (length xs == 0) → empty ≡ true → scheme ≡ r.scheme → IsTopScheme core n scheme
   top_scheme (b ∷ broader) xs empty scheme same found live listed is e of =
-      let z = eqb-true (length (b ∷ broader)) 0 (sym (is ∙ ap (λ (ys : List ℕ). length ys == 0) same) ∙ e) in absurd (omega arith)
-  top_scheme [] xs empty None same found live listed is e of = λ m top. let q : Some m ≡ None = sym top.1 ∙ scheme_at found ∙ sym of in cc
-  top_scheme [] xs empty (Some m) same found live listed is e of = ((r, found, live), scheme_at found ∙ sym of, λ b has. Contains-none b (listed.complete b has))
+      let z = eqb-true (length (b ∷ broader)) 0 (sym (is ∙ ap (λ (ys : List ℕ). length ys == 0) same) ∙ e) in
+      absurd (omega arith)
+  top_scheme [] xs empty None same found live listed is e of = λ m top. let q : Some m ≡ None =
+      sym top.1 ∙ scheme_at found ∙ sym of in cc
+  top_scheme [] xs empty (Some m) same found live listed is e of =
+      ((r, found, live), scheme_at found ∙ sym of, λ b has. Contains-none b (listed.complete b has))
 
-module _ (core : Kept) (n : ℕ) where
+module _ (core : CoreView) (n : ℕ) where
   same_top : (m k : ℕ) → IsTopIn core n m → IsTopIn core n k → k ≡ m
   same_top m k a b = let q : Some k ≡ Some m = sym b.1 ∙ a.1 in cc
 
-  pub top_lines : (m : ℕ) (old mid new : List (List ℕ)) → IsTopIn core n m → Adds (IsLineOf (IsNode core n property.TopConceptOf m)) old mid → Adds (IsLineOf (IsNode core m property.HasTopConcept n)) mid new → Adds (IsLineOf (IsOf core Top n)) old new
+  pub top_lines : (m : ℕ) (old mid new : List (List ℕ)) → IsTopIn core n m
+      → Adds (IsLineOf (IsNode core n property.TopConceptOf m)) old mid
+      → Adds (IsLineOf (IsNode core m property.HasTopConcept n)) mid new → Adds (IsLineOf (IsOf core Top n)) old new
   top_lines m old mid new top =
-      added_then (IsLineOf (IsNode core n property.TopConceptOf m)) (IsLineOf (IsNode core m property.HasTopConcept n)) (IsLineOf (IsOf core Top n)) old mid new
+      added_then (IsLineOf (IsNode core n property.TopConceptOf m))
+      (IsLineOf (IsNode core m property.HasTopConcept n)) (IsLineOf (IsOf core Top n)) old mid new
       (λ l w.
       let of = w.1 in
       let same = same_top m of.0 top of.1 in
-      ⊎_elim (λ e. inl (w.0, e ∙ ap (node_triple core n property.TopConceptOf) same, w.2)) (λ e. inr (w.0, e ∙ ap (λ k. node_triple core k property.HasTopConcept n) same, w.2)) of.2)
+      ⊎_elim (λ e. inl (w.0, e ∙ ap (node_triple core n property.TopConceptOf) same, w.2))
+      (λ e. inr (w.0, e ∙ ap (λ k. node_triple core k property.HasTopConcept n) same, w.2)) of.2)
       (λ l w. (w.0, (m, top, inl w.1), w.2))
       (λ l w. (w.0, (m, top, inr w.1), w.2))
 
@@ -133,18 +176,23 @@ module _ (core : Kept) (n : ℕ) where
   own_contains : (own : List LabelData) (l : LabelData) → has_own own l ≡ true → Contains own l
   own_contains [] l e = absurd (true≢false (sym e))
   own_contains (d ∷ own) l e = ⊎_elim
-      (λ f. subst (λ x. Contains (d ∷ own) x) (sym (data_exact l d ((Equal-is (data_cmp l d)).0 f))) (Contains-head d own))
+      (λ f. subst (λ x. Contains (d ∷ own) x) (sym (data_exact l d ((Equal-is (data_cmp l d)).0 f)))
+      (Contains-head d own))
       (λ f. Contains-later d own l (own_contains own l f))
       (or_cases (eq_by_cmp data_cmp l d) (has_own own l) e)
 
   contains_own : (own : List LabelData) (l : LabelData) → Contains own l → has_own own l ≡ true
   contains_own [] l c = absurd (Contains-none l c)
   contains_own (d ∷ own) l c = ⊎_elim
-      (λ e. or_left (eq_by_cmp data_cmp l d) (has_own own l) (subst (λ x. eq_by_cmp data_cmp l x ≡ true) (sym e) (data_itself l)))
+      (λ e. or_left (eq_by_cmp data_cmp l d) (has_own own l) (subst (λ x. eq_by_cmp data_cmp l x ≡ true) (sym e)
+      (data_itself l)))
       (λ more. or_right (eq_by_cmp data_cmp l d) (has_own own l) (contains_own own l more))
       (Contains-cons_cases d own l c)
 
-  pub label_lines : (own : List LabelData) (i : ℕ) (old new : List (List ℕ)) → length own ≤ i → AreLabelsOf core.labels n own → Adds (IsLineOf (OfSome (λ (d : LabelData) (t : Triple). t ≡ label_triple core n d) (take i own))) old new → Adds (IsLineOf (IsOf core Labels n)) old new
+  pub label_lines : (own : List LabelData) (i : ℕ) (old new : List (List ℕ)) → length own ≤ i
+      → AreLabelsOf core.labels n own
+      → Adds (IsLineOf (OfSome (λ (d : LabelData) (t : Triple). t ≡ label_triple core n d) (take i own))) old new
+      → Adds (IsLineOf (IsOf core Labels n)) old new
   label_lines own i old new all are added =
       same_lines (OfSome (λ (d : LabelData) (t : Triple). t ≡ label_triple core n d) own) (IsOf core Labels n) old new
       (λ t w. (w.0, sym (are.each w.0) ∙ contains_own own w.0 w.1, w.2))
@@ -153,42 +201,63 @@ module _ (core : Kept) (n : ℕ) where
 
   -- Links.
 
-  listed_lines : (p : Property) (Is : ℕ → Type 0) (ms xs : List ℕ) (old new : List (List ℕ)) → xs ≡ ms → IsListing nat_cmp Is ms → Adds (IsLineOf (Nodes core p (Contains xs) n)) old new → Adds (IsLineOf (Nodes core p Is n)) old new
+  listed_lines : (p : Property) (Is : ℕ → Type 0) (ms xs : List ℕ) (old new : List (List ℕ)) → xs ≡ ms
+      → IsListing nat_cmp Is ms → Adds (IsLineOf (Nodes core p (Contains xs) n)) old new
+      → Adds (IsLineOf (Nodes core p Is n)) old new
   listed_lines p Is ms xs old new e listed =
-      same_lines (Nodes core p (Contains xs) n) (Nodes core p Is n) old new (λ t w. (w.0, listed.sound w.0 (subst (λ ys. Contains ys w.0) e w.1), w.2)) (λ t w. (w.0, subst (λ ys. Contains ys w.0) (sym e) (listed.complete w.0 w.1), w.2))
+      same_lines (Nodes core p (Contains xs) n) (Nodes core p Is n) old new
+      (λ t w. (w.0, listed.sound w.0 (subst (λ ys. Contains ys w.0) e w.1), w.2))
+      (λ t w. (w.0, subst (λ ys. Contains ys w.0) (sym e) (listed.complete w.0 w.1), w.2))
 
-  pub broader_lines : (ms xs : List ℕ) (old new : List (List ℕ)) → xs ≡ ms → IsListing nat_cmp (HasBroader core.links n) ms → Adds (IsLineOf (Nodes core property.Broader (Contains xs) n)) old new → Adds (IsLineOf (IsOf core Broader n)) old new
+  pub broader_lines : (ms xs : List ℕ) (old new : List (List ℕ)) → xs ≡ ms
+      → IsListing nat_cmp (HasBroader core.links n) ms → Adds (IsLineOf (Nodes core property.Broader (Contains xs) n))
+      old new → Adds (IsLineOf (IsOf core Broader n)) old new
   broader_lines = listed_lines property.Broader (HasBroader core.links n)
 
-  pub narrower_lines : (ms xs : List ℕ) (old new : List (List ℕ)) → xs ≡ ms → IsListing nat_cmp (λ m. HasBroader core.links m n) ms → Adds (IsLineOf (Nodes core property.Narrower (Contains xs) n)) old new → Adds (IsLineOf (IsOf core Narrower n)) old new
+  pub narrower_lines : (ms xs : List ℕ) (old new : List (List ℕ)) → xs ≡ ms
+      → IsListing nat_cmp (λ m. HasBroader core.links m n) ms
+      → Adds (IsLineOf (Nodes core property.Narrower (Contains xs) n)) old new
+      → Adds (IsLineOf (IsOf core Narrower n)) old new
   narrower_lines = listed_lines property.Narrower (λ m. HasBroader core.links m n)
 
-  pub related_lines : (ms xs : List ℕ) (old new : List (List ℕ)) → xs ≡ ms → IsListing nat_cmp (λ m. HasLink core.links kind.Related n m ⊎ HasLink core.links kind.Related m n) ms → Adds (IsLineOf (Nodes core property.Related (Contains xs) n)) old new → Adds (IsLineOf (IsOf core Related n)) old new
-  related_lines = listed_lines property.Related (λ m. HasLink core.links kind.Related n m ⊎ HasLink core.links kind.Related m n)
+  pub related_lines : (ms xs : List ℕ) (old new : List (List ℕ)) → xs ≡ ms
+      → IsListing nat_cmp (λ m. HasLink core.links kind.Related n m ⊎ HasLink core.links kind.Related m n) ms
+      → Adds (IsLineOf (Nodes core property.Related (Contains xs) n)) old new → Adds (IsLineOf (IsOf core Related n))
+      old new
+  related_lines = listed_lines property.Related (λ m. HasLink core.links kind.Related n m
+      ⊎ HasLink core.links kind.Related m n)
 
-  pub membership_lines : (ks xs : List ℕ) (i : ℕ) (old new : List (List ℕ)) → xs ≡ ks → length xs ≤ i → IsListing nat_cmp (λ k. HasLink core.links kind.Member k n) ks → Adds (IsLineOf (OfSome (λ (k : ℕ). IsNode core k property.Member n) (take i xs))) old new → Adds (IsLineOf (IsOf core Memberships n)) old new
+  pub membership_lines : (ks xs : List ℕ) (i : ℕ) (old new : List (List ℕ)) → xs ≡ ks → length xs ≤ i
+      → IsListing nat_cmp (λ k. HasLink core.links kind.Member k n) ks
+      → Adds (IsLineOf (OfSome (λ (k : ℕ). IsNode core k property.Member n) (take i xs))) old new
+      → Adds (IsLineOf (IsOf core Memberships n)) old new
   membership_lines ks xs i old new e all listed added =
-      same_lines (OfSome (λ (k : ℕ). IsNode core k property.Member n) xs) (IsOf core Memberships n) old new (λ t w. (w.0, listed.sound w.0 (subst (λ ys. Contains ys w.0) e w.1), w.2)) (λ t w. (w.0, subst (λ ys. Contains ys w.0) (sym e) (listed.complete w.0 w.1), w.2))
+      same_lines (OfSome (λ (k : ℕ). IsNode core k property.Member n) xs) (IsOf core Memberships n) old new
+      (λ t w. (w.0, listed.sound w.0 (subst (λ ys. Contains ys w.0) e w.1), w.2))
+      (λ t w. (w.0, subst (λ ys. Contains ys w.0) (sym e) (listed.complete w.0 w.1), w.2))
       (all_taken (λ (k : ℕ). IsNode core k property.Member n) xs i old new all added)
 
   -- Mappings.
 
-  pub match_line : (k : LinkKind) (p : Property) (m : ℕ) (old new : List (List ℕ)) → HasLink core.links k n m → Adds (IsLineOf (IsNode core n p m)) old new → Adds (IsLineOf (IsMatch core k n p m)) old new
-  match_line k p m old new held = same_lines (IsNode core n p m) (IsMatch core k n p m) old new (λ t e. (held, e)) (λ t w. w.1)
+  pub match_line : (k : LinkKind) (p : Property) (m : ℕ) (old new : List (List ℕ)) → HasLink core.links k n m
+      → Adds (IsLineOf (IsNode core n p m)) old new → Adds (IsLineOf (IsMatch core k n p m)) old new
+  match_line k p m old new held = same_lines (IsNode core n p m) (IsMatch core k n p m) old new (λ t e. (held, e))
+      (λ t w. w.1)
 
   abbrev Maps : Triple → Type 0
   Maps t = (p : Property) × Nodes core p (MapsBy core p n) n t
 
   maps_from : (k : LinkKind) (m : ℕ) (t : Triple) → IsMapping core.links n (k, m) → MapsOne core n (k, m) t → Maps t
-  maps_from kind.Exact m t is said = (property.ExactMatch, (m, is, said))
-  maps_from kind.Close m t is said = (property.CloseMatch, (m, is, said))
-  maps_from kind.RelMatch m t is said = (property.RelatedMatch, (m, is, said))
-  maps_from kind.Broad m t is said = (property.BroadMatch, (m, said.0, said.1))
-  maps_from kind.Narrow m t is said = (property.NarrowMatch, (m, said.0, said.1))
-  maps_from _ m t is said = absurd said
+  maps_from kind.Exact m t is content = (property.ExactMatch, (m, is, content))
+  maps_from kind.Close m t is content = (property.CloseMatch, (m, is, content))
+  maps_from kind.RelMatch m t is content = (property.RelatedMatch, (m, is, content))
+  maps_from kind.Broad m t is content = (property.BroadMatch, (m, content.0, content.1))
+  maps_from kind.Narrow m t is content = (property.NarrowMatch, (m, content.0, content.1))
+  maps_from _ m t is content = absurd content
 
   module _ (found : List (LinkKind × ℕ)) (listed : IsListing mapping_cmp (IsMapping core.links n) found) where
-    maps_to : (p : Property) (m : ℕ) (t : Triple) → MapsBy core p n m → IsNode core n p m t → OfSome (MapsOne core n) found t
+    maps_to : (p : Property) (m : ℕ) (t : Triple) → MapsBy core p n m → IsNode core n p m t → OfSome (MapsOne core n)
+        found t
     maps_to property.ExactMatch m t by is = ((kind.Exact, m), listed.complete (kind.Exact, m) by, is)
     maps_to property.CloseMatch m t by is = ((kind.Close, m), listed.complete (kind.Close, m) by, is)
     maps_to property.RelatedMatch m t by is = ((kind.RelMatch, m), listed.complete (kind.RelMatch, m) by, is)
@@ -196,15 +265,19 @@ module _ (core : Kept) (n : ℕ) where
     maps_to property.NarrowMatch m t by is = ((kind.Narrow, m), listed.complete (kind.Narrow, m) (inl by), (by, is))
     maps_to _ m t by is = absurd by
 
-    pub mapping_lines : (xs : List (LinkKind × ℕ)) (i : ℕ) (old new : List (List ℕ)) → xs ≡ found → length xs ≤ i → IsConcept core.resources n → Adds (IsLineOf (OfSome (MapsOne core n) (take i xs))) old new → Adds (IsLineOf (IsOf core Mappings n)) old new
+    pub mapping_lines : (xs : List (LinkKind × ℕ)) (i : ℕ) (old new : List (List ℕ)) → xs ≡ found → length xs ≤ i
+        → IsConcept core.resources n → Adds (IsLineOf (OfSome (MapsOne core n) (take i xs))) old new
+        → Adds (IsLineOf (IsOf core Mappings n)) old new
     mapping_lines xs i old new e all concept added =
         same_lines (OfSome (MapsOne core n) found) (IsOf core Mappings n) old new
         (λ t w. let pair = w.0 in (concept, maps_from pair.0 pair.1 t (listed.sound w.0 w.1) w.2))
         (λ t w. let by = w.1 in let node = by.1 in maps_to by.0 node.0 t node.1 node.2)
-        (subst (λ (ys : List (LinkKind × ℕ)). Adds (IsLineOf (OfSome (MapsOne core n) ys)) old new) e (all_taken (MapsOne core n) xs i old new all added))
+        (subst (λ (ys : List (LinkKind × ℕ)). Adds (IsLineOf (OfSome (MapsOne core n) ys)) old new) e
+        (all_taken (MapsOne core n) xs i old new all added))
 
   -- All topics.
 
+  -- The list of topics contains each topic.
   among_topics : (topic : Topic) → Contains topics topic
   among_topics Kind = (0, omega arith, refl)
   among_topics Belonging = (1, omega arith, refl)
@@ -218,19 +291,31 @@ module _ (core : Kept) (n : ℕ) where
   among_topics Mappings = (9, omega arith, refl)
   among_topics Memberships = (10, omega arith, refl)
 
-  pub all_topics : (xs : List Topic) (i : ℕ) (old new : List (List ℕ)) → xs ≡ topics → 11 ≤ i → Adds (IsLineOf (OfSome (λ (topic : Topic). IsOf core topic n) (take i xs))) old new → Adds (IsLineOf (IsAbout core n)) old new
+  pub all_topics : (xs : List Topic) (i : ℕ) (old new : List (List ℕ)) → xs ≡ topics → 11 ≤ i
+      → Adds (IsLineOf (OfSome (λ (topic : Topic). IsOf core topic n) (take i xs))) old new
+      → Adds (IsLineOf (IsAbout core n)) old new
   all_topics xs i old new e all added =
       same_lines (OfSome (λ (topic : Topic). IsOf core topic n) xs) (IsAbout core n) old new
       (λ t w. (w.0, w.2))
       (λ t w. (w.0, subst (λ ys. Contains ys w.0) (sym e) (among_topics w.0), w.1))
-      (all_taken (λ (topic : Topic). IsOf core topic n) xs i old new (subst (λ (ys : List Topic). length ys ≤ i) (sym e) all) added)
+      (all_taken (λ (topic : Topic). IsOf core topic n) xs i old new
+      (subst (λ (ys : List Topic). length ys ≤ i) (sym e) all) added)
 
-  pub as_topic : {T E : Type 0} (r : Result T E) (topic other : Topic) (old new : List (List ℕ)) → topic ≡ other → OnOk r (Adds (IsLineOf (IsOf core other n)) old new) → OnOk r (Adds (IsLineOf (IsOf core topic n)) old new)
-  as_topic r topic other old new e added = subst (λ (t : Topic). OnOk r (Adds (IsLineOf (IsOf core t n)) old new)) (sym e) added
+  pub as_topic : {T E : Type 0} (r : Result T E) (topic other : Topic) (old new : List (List ℕ)) → topic ≡ other
+      → OnOk r (Adds (IsLineOf (IsOf core other n)) old new) → OnOk r (Adds (IsLineOf (IsOf core topic n)) old new)
+  as_topic r topic other old new e added = subst (λ (t : Topic). OnOk r (Adds (IsLineOf (IsOf core t n)) old new))
+      (sym e) added
 
-  pub as_kind : {T E : Type 0} (r : Result T E) (k other : LinkKind) (m : ℕ) (old new : List (List ℕ)) → k ≡ other → OnOk r (Adds (IsLineOf (MapsOne core n (other, m))) old new) → OnOk r (Adds (IsLineOf (MapsOne core n (k, m))) old new)
-  as_kind r k other m old new e added = subst (λ (j : LinkKind). OnOk r (Adds (IsLineOf (MapsOne core n (j, m))) old new)) (sym e) added
+  pub as_kind : {T E : Type 0} (r : Result T E) (k other : LinkKind) (m : ℕ) (old new : List (List ℕ)) → k ≡ other
+      → OnOk r (Adds (IsLineOf (MapsOne core n (other, m))) old new)
+      → OnOk r (Adds (IsLineOf (MapsOne core n (k, m))) old new)
+  as_kind r k other m old new e added =
+      subst (λ (j : LinkKind). OnOk r (Adds (IsLineOf (MapsOne core n (j, m))) old new)) (sym e) added
 
-  pub one_way : (k : LinkKind) (m : ℕ) → ((o : Bool) → is_symmetric o k ≡ false) → HeldIn core.links (norm (is_outside core.resources) (record { kind = k; a = n; b = m })) → HasLink core.links k n m
+  pub one_way : (k : LinkKind) (m : ℕ) → ((o : Bool) → is_symmetric o k ≡ false)
+      → HeldIn core.links (normal_form (is_outside core.resources) (record { kind = k; a = n; b = m }))
+      → HasLink core.links k n m
   one_way k m one held =
-      subst (HeldIn core.links) (ap (λ (b : Bool). if b && nat_lt m n then exchanged (record { kind = k; a = n; b = m }) else record { kind = k; a = n; b = m }) (one (is_outside core.resources n || is_outside core.resources m))) held
+      subst (HeldIn core.links)
+      (ap (λ (b : Bool). if b && nat_lt m n then reversed_link (record { kind = k; a = n; b = m }) else
+      record { kind = k; a = n; b = m }) (one (is_outside core.resources n || is_outside core.resources m))) held

@@ -2,4 +2,4 @@ pub mod NTriples
 pub mod Spelling
 pub mod Export
 pub mod Topics
-pub mod Written
+pub mod ExportWrites

@@ -1,37 +1,38 @@
--- RDF 1.1 N-Triples (W3C Recommendation, 25 February 2014): which bytes are a document, and the triples that it has. Each
--- definition has the name of its production in the grammar (section 7) or stands for a part of one. White space, which may
--- stand between terminals, and comments are in sections 2.1 and 7. That a document is UTF-8 isn't asked here.
-use Rattle.std.specs.Prelude.{◌≡◌, ◌≢◌, ◌⊎◌, ◌==◌, ◌-◌, if◌then◌else◌, ℕ, ◌≤◌, List, slice_get, IsSomeAnd, [], ◌∷◌, ◌++◌, length, All, Contains, codes, flat_map, encode_utf8, encode_utf8_all}
+-- RDF 1.1 N-Triples (W3C Recommendation, 25 February 2014): which bytes are a document, and its triples. A definition
+-- is named after its production in the grammar (section 7), or is part of one. White space between terminals and
+-- comments are in sections 2.1 and 7. Whether a document is UTF-8 isn't checked here.
+use Rattle.std.specs.Prelude.{◌≡◌, ◌≢◌, ◌⊎◌, ◌==◌, ◌-◌, if◌then◌else◌, ℕ, ◌≤◌, List, slice_get, IsSomeAnd, [], ◌∷◌}
+use Rattle.std.specs.Prelude.{◌++◌, length, All, Contains, codes, flat_map, encode_utf8, encode_utf8_all}
 use Rattle.std.specs.Char.{IsAsciiAlphabetic, IsAsciiAlphanumeric, IsAsciiDigit, IsAsciiHexdigit}
 use Rattle.std.specs.Str.Parse.{digits_value}
 use Rattle.thes_base.specs.Forms.{IsIriByte}
 
--- What is read: RDF 1.1 terms and triples. A language tag is read as it is spelled.
+-- The result of reading: terms and triples of RDF 1.1. A language tag keeps its spelling.
 
-pub data Term : Type 0 where
-  Iri : (iri : List ℕ) → Term
-  Blank : (label : List ℕ) → Term
-  Tagged : (text tag : List ℕ) → Term
-  Typed : (text type : List ℕ) → Term
+pub data RdfTerm : Type 0 where
+  Iri : (iri : List ℕ) → RdfTerm
+  Blank : (label : List ℕ) → RdfTerm
+  Tagged : (text tag : List ℕ) → RdfTerm
+  Typed : (text type : List ℕ) → RdfTerm
 
--- a triple that is stated
+-- An RDF triple.
 pub record Statement : Type 0 where
-  pub subject : Term
+  pub subject : RdfTerm
   pub predicate : List ℕ
-  pub object : Term
+  pub object : RdfTerm
 
--- a literal without a tag and without a type has this one (RDF 1.1 Concepts, section 3.3)
+-- The type of a literal without a tag and without a type (RDF 1.1 Concepts, section 3.3).
 unfoldable pub string_type : List ℕ
 string_type = codes "http://www.w3.org/2001/XMLSchema#string"
 
 -- Terminals.
 
--- spaces and tabs
-abbrev pub IsBlank : ℕ → Type 0
-IsBlank b = (b ≡ 32) ⊎ (b ≡ 9)
+-- A space or a tab.
+abbrev pub IsBlankByte : ℕ → Type 0
+IsBlankByte b = (b ≡ 32) ⊎ (b ≡ 9)
 
 abbrev pub IsGap : List ℕ → Type 0
-IsGap bytes = All IsBlank bytes
+IsGap bytes = All IsBlankByte bytes
 
 abbrev pub IsEolByte : ℕ → Type 0
 IsEolByte b = (b ≡ 13) ⊎ (b ≡ 10)
@@ -40,13 +41,13 @@ IsEolByte b = (b ≡ 13) ⊎ (b ≡ 10)
 abbrev pub IsEol : List ℕ → Type 0
 IsEol bytes = (1 ≤ length bytes) × All IsEolByte bytes
 
--- a comment: # and what follows up to the end of the line
+-- A comment: `#` and the rest of the line.
 pub record IsComment (bytes : List ℕ) : Type 0 where
-  pub said : List ℕ
-  pub spelled : bytes ≡ 35 ∷ said
-  pub one_line : All (λ b. IsEolByte b → ⊥) said
+  pub content : List ℕ
+  pub text_is : bytes ≡ 35 ∷ content
+  pub one_line : All (λ b. IsEolByte b → ⊥) content
 
--- a code point in one of the ranges, of which both ends belong to it
+-- The code point is in one of the ranges, both ends included.
 abbrev pub IsIn : List (ℕ × ℕ) → ℕ → Type 0
 IsIn ranges c = (low : ℕ) × (high : ℕ) × Contains ranges (low, high) × (low ≤ c) × (c ≤ high)
 
@@ -71,7 +72,7 @@ pub record IsLabel (characters : List ℕ) : Type 0 where
   pub each : All (λ c. IsFurther c ⊎ (c ≡ 46)) characters
   pub last : IsSomeAnd (slice_get characters (length characters - 1)) IsFurther
 
--- what stands for a character between < and > or between quotes: a byte of it as it is, or an escape
+-- A piece of the text between angle brackets or quotation marks: a byte as it is, or an escape.
 pub data Piece : Type 0 where
   Plain : (byte : ℕ) → Piece
   Echar : (letter : ℕ) → Piece
@@ -91,13 +92,13 @@ pub record IsUchar (letter : ℕ) (digits : List ℕ) : Type 0 where
   pub size : ((letter ≡ 117) × (length digits ≡ 4)) ⊎ ((letter ≡ 85) × (length digits ≡ 8))
   pub each : All IsAsciiHexdigit digits
 
--- the byte for which the letter of an ECHAR stands
+-- The byte that the letter of an ECHAR encodes.
 abbrev pub escaped_value : ℕ → ℕ
 escaped_value letter =
     if letter == 116 then 9 else if letter == 98 then 8 else if letter == 110 then 10
     else if letter == 114 then 13 else if letter == 102 then 12 else letter
 
--- the bytes for which a piece stands
+-- The bytes that a piece encodes.
 abbrev pub piece_value : Piece → List ℕ
 piece_value (Plain b) = b ∷ []
 piece_value (Echar letter) = escaped_value letter ∷ []
@@ -115,28 +116,28 @@ IsStringPiece (Plain b) = (b ≢ 34) × (b ≢ 92) × (b ≢ 10) × (b ≢ 13)
 IsStringPiece (Echar letter) = IsEchar letter
 IsStringPiece (Uchar letter digits) = IsUchar letter digits
 
--- what stands between the brackets or the quotes: pieces, and the bytes for which they stand
-pub record IsMadeOf (IsPiece : Piece → Type 0) (spelled value : List ℕ) : Type 0 where
+-- The text between the brackets or quotation marks as pieces, and the value that they encode.
+pub record IsMadeOf (IsPiece : Piece → Type 0) (text_is value : List ℕ) : Type 0 where
   pub pieces : List Piece
   pub each : All IsPiece pieces
-  pub text : spelled ≡ flat_map piece_text pieces
+  pub text : text_is ≡ flat_map piece_text pieces
   pub read : value ≡ flat_map piece_value pieces
 
--- A text of a production is told with what follows it, so that each definition says where its text ends.
+-- A definition of a production takes the remaining text as an argument, too, so that it says where its own text ends.
 
 -- IRIREF ::= '<' ([^#x00-#x20<>"{}|^`\] | UCHAR)* '>'
 pub record IsIriref (text iri rest : List ℕ) : Type 0 where
   pub inner : List ℕ
-  pub made : IsMadeOf IsIriPiece inner iri
-  pub spelled : text ≡ 60 ∷ (inner ++ 62 ∷ rest)
+  pub spelling : IsMadeOf IsIriPiece inner iri
+  pub text_is : text ≡ 60 ∷ (inner ++ 62 ∷ rest)
 
 -- STRING_LITERAL_QUOTE ::= '"' ([^#x22#x5C#xA#xD] | ECHAR | UCHAR)* '"'
 pub record IsQuoted (text value rest : List ℕ) : Type 0 where
   pub inner : List ℕ
-  pub made : IsMadeOf IsStringPiece inner value
-  pub spelled : text ≡ 34 ∷ (inner ++ 34 ∷ rest)
+  pub spelling : IsMadeOf IsStringPiece inner value
+  pub text_is : text ≡ 34 ∷ (inner ++ 34 ∷ rest)
 
--- one or more bytes of a sort
+-- One or more bytes, each with this property.
 abbrev pub AreSome : (ℕ → Type 0) → List ℕ → Type 0
 AreSome Is bytes = (1 ≤ length bytes) × All Is bytes
 
@@ -147,58 +148,58 @@ pub record IsLangtag (text tag rest : List ℕ) : Type 0 where
   pub first : AreSome IsAsciiAlphabetic letters
   pub others : All (AreSome IsAsciiAlphanumeric) parts
   pub read : tag ≡ letters ++ flat_map (λ part. 45 ∷ part) parts
-  pub spelled : text ≡ 64 ∷ (tag ++ rest)
+  pub text_is : text ≡ 64 ∷ (tag ++ rest)
 
 -- BLANK_NODE_LABEL ::= '_:' (PN_CHARS_U | [0-9]) ((PN_CHARS | '.')* PN_CHARS)?
 pub record IsBlankNode (text label rest : List ℕ) : Type 0 where
   pub characters : List ℕ
-  pub formed : IsLabel characters
+  pub has_form : IsLabel characters
   pub read : label ≡ encode_utf8_all characters
-  pub spelled : text ≡ 95 ∷ 58 ∷ (label ++ rest)
+  pub text_is : text ≡ 95 ∷ 58 ∷ (label ++ rest)
 
--- after spaces and tabs, as many as there may be, comes the rest
+-- Any number of spaces and tabs, and then the rest.
 pub record IsSpaced (text rest : List ℕ) : Type 0 where
   pub gap : List ℕ
   pub blank : IsGap gap
-  pub spelled : text ≡ gap ++ rest
+  pub text_is : text ≡ gap ++ rest
 
 -- Productions.
 
 -- '^^' IRIREF
-pub record IsTypedAs (text : List ℕ) (value : List ℕ) (literal : Term) (rest : List ℕ) : Type 0 where
+pub record IsTypedAs (text : List ℕ) (value : List ℕ) (literal : RdfTerm) (rest : List ℕ) : Type 0 where
   pub carets : List ℕ
-  pub behind : IsSpaced text (94 ∷ 94 ∷ carets)
+  pub carets_follow : IsSpaced text (94 ∷ 94 ∷ carets)
   pub start : List ℕ
-  pub spaced : IsSpaced carets start
+  pub gap_before : IsSpaced carets start
   pub type : List ℕ
   pub iriref : IsIriref start type rest
   pub read : literal ≡ Typed value type
 
-pub record IsTaggedAs (text : List ℕ) (value : List ℕ) (literal : Term) (rest : List ℕ) : Type 0 where
+pub record IsTaggedAs (text : List ℕ) (value : List ℕ) (literal : RdfTerm) (rest : List ℕ) : Type 0 where
   pub start : List ℕ
-  pub spaced : IsSpaced text start
+  pub gap_before : IsSpaced text start
   pub tag : List ℕ
   pub langtag : IsLangtag start tag rest
   pub read : literal ≡ Tagged value tag
 
 -- literal ::= STRING_LITERAL_QUOTE ('^^' IRIREF | LANGTAG)?
-pub record IsLiteral (text : List ℕ) (literal : Term) (rest : List ℕ) : Type 0 where
+pub record IsLiteral (text : List ℕ) (literal : RdfTerm) (rest : List ℕ) : Type 0 where
   pub value : List ℕ
   pub after : List ℕ
   pub quoted : IsQuoted text value after
-  pub said :
+  pub content :
       ((literal ≡ Typed value string_type) × (after ≡ rest))
       ⊎ IsTypedAs after value literal rest
       ⊎ IsTaggedAs after value literal rest
 
 -- subject ::= IRIREF | BLANK_NODE_LABEL
-abbrev pub IsSubject : List ℕ → Term → List ℕ → Type 0
+abbrev pub IsSubject : List ℕ → RdfTerm → List ℕ → Type 0
 IsSubject text term rest =
     ((iri : List ℕ) × (term ≡ Iri iri) × IsIriref text iri rest)
     ⊎ ((label : List ℕ) × (term ≡ Blank label) × IsBlankNode text label rest)
 
 -- object ::= IRIREF | BLANK_NODE_LABEL | literal
-abbrev pub IsObject : List ℕ → Term → List ℕ → Type 0
+abbrev pub IsObject : List ℕ → RdfTerm → List ℕ → Type 0
 IsObject text term rest = IsSubject text term rest ⊎ IsLiteral text term rest
 
 -- triple ::= subject predicate object '.'
@@ -217,32 +218,32 @@ pub record IsTriple (text : List ℕ) (t : Statement) (rest : List ℕ) : Type 0
   pub object : IsObject third t.object after_object
   pub stop_spaced : IsSpaced after_object (46 ∷ rest)
 
--- what may stand between a triple and the end of its line: white space, and a comment
+-- White space and an optional comment, between a triple and the end of its line.
 pub record IsLineEnd (text rest : List ℕ) : Type 0 where
   pub start : List ℕ
-  pub spaced : IsSpaced text start
+  pub gap_before : IsSpaced text start
   pub comment : List ℕ
-  pub said : (comment ≡ []) ⊎ IsComment comment
-  pub spelled : start ≡ comment ++ rest
+  pub content : (comment ≡ []) ⊎ IsComment comment
+  pub text_is : start ≡ comment ++ rest
 
--- a triple comes first, and then what is asked for
+-- A triple, and then text with the property `Next`.
 pub record IsTripleThen (t : Statement) (Next : List ℕ → Type 0) (text : List ℕ) : Type 0 where
   pub rest : List ℕ
   pub triple : IsTriple text t rest
   pub more : Next rest
 
--- an end of line comes first
+-- An end of line, and then text with the property `Next`.
 pub record IsEolThen (Next : List ℕ → Type 0) (text : List ℕ) : Type 0 where
   pub eol : List ℕ
-  pub formed : IsEol eol
+  pub has_form : IsEol eol
   pub rest : List ℕ
-  pub spelled : text ≡ eol ++ rest
+  pub text_is : text ≡ eol ++ rest
   pub more : Next rest
 
--- the line goes on to its end
+-- The remainder of a line, and then text with the property `Next`.
 pub record IsEndThen (Next : List ℕ → Type 0) (text : List ℕ) : Type 0 where
   pub rest : List ℕ
-  pub ended : IsLineEnd text rest
+  pub at_line_end : IsLineEnd text rest
   pub more : Next rest
 
 -- (EOL triple)* EOL?

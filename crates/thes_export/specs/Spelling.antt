@@ -1,11 +1,15 @@
--- The triples of a state as triples of RDF, each spelled as one line.
+-- The RDF triples of a state, and the line that spells each.
 use Rattle.std.specs.Prelude.{ℕ, List, [], ◌∷◌, ◌++◌, ◌==◌, ◌||◌, if◌then◌else◌, codes, flat_map}
 use Rattle.thes_base.specs.declared.triple.Property.{Property}
-use Rattle.thes_base.specs.declared.triple.Property.TheVariants.{HasType, InScheme, TopConceptOf, HasTopConcept, Deprecated, IsReplacedBy, PrefLabel, AltLabel, HiddenLabel, ScopeNote, Broader, Narrower, Related, ExactMatch, CloseMatch, RelatedMatch, BroadMatch, NarrowMatch, Member}
+use Rattle.thes_base.specs.declared.triple.Property.TheVariants.{HasType, InScheme, TopConceptOf, HasTopConcept}
+use Rattle.thes_base.specs.declared.triple.Property.TheVariants.{Deprecated, IsReplacedBy, PrefLabel, AltLabel}
+use Rattle.thes_base.specs.declared.triple.Property.TheVariants.{HiddenLabel, ScopeNote, Broader, Narrower, Related}
+use Rattle.thes_base.specs.declared.triple.Property.TheVariants.{ExactMatch, CloseMatch, RelatedMatch, BroadMatch}
+use Rattle.thes_base.specs.declared.triple.Property.TheVariants.{NarrowMatch, Member}
 use Rattle.thes_base.specs.declared.triple.Class.{Class as SkosClass}
 use Rattle.thes_base.specs.declared.triple.Class.TheVariants.{Concept, ConceptScheme, Collection}
 use Rattle.thes_base.specs.Triples.{Triple, Object, Node, Class, Literal, True}
-use Rattle.thes_export.specs.NTriples.{Statement, Term, Iri, Tagged, Typed}
+use Rattle.thes_export.specs.NTriples.{Statement, RdfTerm, Iri, Tagged, Typed}
 
 -- Vocabularies.
 
@@ -18,7 +22,7 @@ skos name = codes "http://www.w3.org/2004/02/skos/core#" ++ name
 unfoldable pub owl : List ℕ → List ℕ
 owl name = codes "http://www.w3.org/2002/07/owl#" ++ name
 
--- DCMI Metadata Terms
+-- DCMI Metadata Terms.
 unfoldable pub dct : List ℕ → List ℕ
 dct name = codes "http://purl.org/dc/terms/" ++ name
 
@@ -53,42 +57,43 @@ class_iri Collection = skos (codes "Collection")
 
 -- Terms.
 
-abbrev pub term_of : Object → Term
+abbrev pub term_of : Object → RdfTerm
 term_of (Node iri) = Iri iri
 term_of (Class class) = Iri (class_iri class)
 term_of (Literal tag text) = Tagged text tag
 term_of True = Typed (codes "true") (xsd (codes "boolean"))
 
--- the triple of RDF
+-- The RDF triple.
 abbrev pub statement_of : Triple → Statement
 statement_of t =
     record { subject = Iri t.subject; predicate = property_iri t.property; object = term_of t.object }
 
--- The one spelling.
+-- Spelling.
 
--- a quotation mark and a backslash stand behind a backslash
-abbrev pub escaped : ℕ → List ℕ
-escaped b = if b == 34 || b == 92 then 92 ∷ b ∷ [] else b ∷ []
+-- A byte of a literal, after a backslash if it is a quotation mark or a backslash.
+abbrev pub byte_spelling : ℕ → List ℕ
+byte_spelling b = if b == 34 || b == 92 then 92 ∷ b ∷ [] else b ∷ []
 
--- an IRI stands between brackets
-abbrev pub bracketed : List ℕ → List ℕ
-bracketed iri = 60 ∷ (iri ++ 62 ∷ [])
+-- An IRI in angle brackets.
+abbrev pub iri_spelling : List ℕ → List ℕ
+iri_spelling iri = 60 ∷ (iri ++ 62 ∷ [])
 
--- a text stands between quotation marks
-abbrev pub quoted : List ℕ → List ℕ
-quoted text = 34 ∷ (flat_map escaped text ++ 34 ∷ [])
+-- A text in quotation marks, with escapes.
+abbrev pub text_spelling : List ℕ → List ℕ
+text_spelling text = 34 ∷ (flat_map byte_spelling text ++ 34 ∷ [])
 
 abbrev pub object_text : Object → List ℕ
-object_text (Node iri) = bracketed iri
-object_text (Class class) = bracketed (class_iri class)
-object_text (Literal tag text) = quoted text ++ (64 ∷ tag)
-object_text True = quoted (codes "true") ++ (94 ∷ 94 ∷ bracketed (xsd (codes "boolean")))
+object_text (Node iri) = iri_spelling iri
+object_text (Class class) = iri_spelling (class_iri class)
+object_text (Literal tag text) = text_spelling text ++ (64 ∷ tag)
+object_text True = text_spelling (codes "true") ++ (94 ∷ 94 ∷ iri_spelling (xsd (codes "boolean")))
 
--- how a line begins
-abbrev pub opening : List ℕ → List ℕ → List ℕ
-opening subject predicate = bracketed subject ++ (32 ∷ (bracketed predicate ++ (32 ∷ [])))
+-- The beginning of a line: the subject and the predicate, each followed by a space.
+abbrev pub line_start : List ℕ → List ℕ → List ℕ
+line_start subject predicate = iri_spelling subject ++ (32 ∷ (iri_spelling predicate ++ (32 ∷ [])))
 
--- subject, property and object, each with a space behind it, a full stop and an end of line
+-- The line of a triple: subject, predicate and object, each followed by a space, a full stop and a line feed.
 unfoldable pub line_of : Triple → List ℕ
 line_of t =
-    bracketed t.subject ++ (32 ∷ (bracketed (property_iri t.property) ++ (32 ∷ (object_text t.object ++ (32 ∷ 46 ∷ 10 ∷ [])))))
+    iri_spelling t.subject
+    ++ (32 ∷ (iri_spelling (property_iri t.property) ++ (32 ∷ (object_text t.object ++ (32 ∷ 46 ∷ 10 ∷ [])))))

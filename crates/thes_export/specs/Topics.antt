@@ -1,4 +1,4 @@
--- What an export writes when it comes to a number, topic by topic: the triples of a state, by numbers in place of IRIs.
+-- The triples that an export writes for each number, topic by topic.
 use Rattle.std.specs.Prelude.{◌≡◌, ◌⊎◌, ◌↔◌, ◌∷◌, ◌≤◌, [], ℕ, List, Contains, Option, None, Some, true}
 use Rattle.std.specs.FinSet as set
 use Rattle.thes_base.specs.declared.data.LabelKind.{LabelKind}
@@ -12,17 +12,18 @@ use Rattle.thes_base.specs.declared.triple.Property.TheVariants as property
 use Rattle.thes_base.specs.declared.triple.Class.{Class as SkosClass}
 use Rattle.thes_base.specs.declared.triple.Class.TheVariants.{Concept, ConceptScheme, Collection}
 use Rattle.thes_base.specs.Data.{LabelData}
-use Rattle.thes_base.specs.Machine.{owned}
+use Rattle.thes_base.specs.Machine.{owned_label}
 use Rattle.thes_base.specs.Resources.{IsScheme, IsConcept, IsCollection, IsLiveConcept, IsLive, IsReplacedBy, scheme_of}
 use Rattle.thes_base.specs.Triples.{Triple, Node, Class, Literal, True, triple, iri_of}
 use Rattle.thes_base.specs.Views.{HasLink, HasBroader}
-use Rattle.thes_core.specs.Kept.{Kept}
-use Rattle.thes_export.specs.declared.about.About.{About}
+use Rattle.thes_core.specs.CoreView.{CoreView}
+use Rattle.thes_export.specs.declared.line_source.LineSource.{LineSource}
 use Rattle.thes_export.specs.declared.topic.Topic.{Topic}
-use Rattle.thes_export.specs.declared.topic.Topic.TheVariants.{Kind, Belonging, Top, Death, Replacement, Labels, Broader, Narrower, Related, Mappings, Memberships}
+use Rattle.thes_export.specs.declared.topic.Topic.TheVariants.{Kind, Belonging, Top, Death, Replacement, Labels}
+use Rattle.thes_export.specs.declared.topic.Topic.TheVariants.{Broader, Narrower, Related, Mappings, Memberships}
 use Rattle.thes_export.specs.Spelling.{line_of}
 
-abbrev pub number_iri : Kept → ℕ → List ℕ
+abbrev pub number_iri : CoreView → ℕ → List ℕ
 number_iri core n = iri_of core.setting.base core.iris n
 
 abbrev pub label_property : LabelKind → Property
@@ -31,7 +32,7 @@ label_property Alt = property.AltLabel
 label_property Hidden = property.HiddenLabel
 label_property Scope = property.ScopeNote
 
-module _ (core : Kept) where
+module _ (core : CoreView) where
   abbrev pub node_triple : ℕ → Property → ℕ → Triple
   node_triple n p m = triple (number_iri core n) p (Node (number_iri core m))
 
@@ -47,7 +48,7 @@ module _ (core : Kept) where
   abbrev pub label_triple : ℕ → LabelData → Triple
   label_triple n l = triple (number_iri core n) (label_property l.kind) (Literal l.tag l.text)
 
-  -- the triples that say p of n, with an object that passes
+  -- The triples of subject `n` and property `p` whose objects have the property `Is`.
   abbrev pub Nodes : Property → (ℕ → Type 0) → ℕ → Triple → Type 0
   Nodes p Is n t = (m : ℕ) × Is m × IsNode n p m t
 
@@ -56,22 +57,22 @@ module _ (core : Kept) where
   IsOfClass Concept n = IsConcept core.resources n
   IsOfClass Collection n = IsCollection core.resources n
 
-  -- n is a top concept of the scheme m
+  -- Concept `n` is a top concept of the scheme `m`.
   abbrev pub IsTopIn : ℕ → ℕ → Type 0
   IsTopIn n m =
       IsLiveConcept core.resources n × (scheme_of core.resources n ≡ Some m)
       × ((b : ℕ) → HasBroader core.links n b → ⊥)
 
-  -- it is a top concept of the scheme, or of none
+  -- The scheme of which `n` is a top concept, or none.
   abbrev pub IsTopScheme : ℕ → Option ℕ → Type 0
   IsTopScheme n None = (m : ℕ) → IsTopIn n m → ⊥
   IsTopScheme n (Some m) = IsTopIn n m
 
-  -- the triple of a link that is held in this direction
+  -- The triple of a link from `n` to `m` in this direction.
   abbrev pub IsMatch : LinkKind → ℕ → Property → ℕ → Triple → Type 0
   IsMatch k n p m t = HasLink core.links k n m × IsNode n p m t
 
-  -- the triples of a mapping of n, as seen from it
+  -- The triple of one mapping of `n`.
   abbrev pub MapsOne : ℕ → LinkKind × ℕ → Triple → Type 0
   MapsOne n (kind.Exact, m) t = IsNode n property.ExactMatch m t
   MapsOne n (kind.Close, m) t = IsNode n property.CloseMatch m t
@@ -80,7 +81,7 @@ module _ (core : Kept) where
   MapsOne n (kind.Narrow, m) t = IsMatch kind.Narrow n property.NarrowMatch m t
   MapsOne n (_, m) t = ⊥
 
-  -- the mapping of n to m that this property says
+  -- `n` has a mapping to `m` that is stated by this property.
   abbrev pub MapsBy : Property → ℕ → ℕ → Type 0
   MapsBy property.ExactMatch n m = HasLink core.links kind.Exact n m ⊎ HasLink core.links kind.Exact m n
   MapsBy property.CloseMatch n m = HasLink core.links kind.Close n m ⊎ HasLink core.links kind.Close m n
@@ -89,7 +90,7 @@ module _ (core : Kept) where
   MapsBy property.NarrowMatch n m = HasLink core.links kind.Narrow n m
   MapsBy _ n m = ⊥
 
-  -- the triples that are written when it comes to n
+  -- The triples that are written for `n` under a topic.
   abbrev pub IsOf : Topic → ℕ → Triple → Type 0
   IsOf Kind n t = (class : SkosClass) × IsOfClass class n × (t ≡ class_triple n class)
   IsOf Belonging n t = Nodes property.InScheme (λ m. scheme_of core.resources n ≡ Some m) n t
@@ -98,7 +99,7 @@ module _ (core : Kept) where
       × (IsNode n property.TopConceptOf m t ⊎ IsNode m property.HasTopConcept n t)
   IsOf Death n t = IsConcept core.resources n × (IsLive core.resources n → ⊥) × (t ≡ dead_triple n)
   IsOf Replacement n t = Nodes property.IsReplacedBy (IsReplacedBy core.resources n) n t
-  IsOf Labels n t = (l : LabelData) × (set.contains core.labels (owned n l) ≡ true) × (t ≡ label_triple n l)
+  IsOf Labels n t = (l : LabelData) × (set.contains core.labels (owned_label n l) ≡ true) × (t ≡ label_triple n l)
   IsOf Broader n t = Nodes property.Broader (HasBroader core.links n) n t
   IsOf Narrower n t = Nodes property.Narrower (λ m. HasBroader core.links m n) n t
   IsOf Related n t =
@@ -106,7 +107,7 @@ module _ (core : Kept) where
   IsOf Mappings n t = IsConcept core.resources n × ((p : Property) × Nodes p (MapsBy p n) n t)
   IsOf Memberships n t = (k : ℕ) × HasLink core.links kind.Member k n × IsNode k property.Member n t
 
-  -- the triples of all topics
+  -- The triples of all topics.
   abbrev pub IsAbout : ℕ → Triple → Type 0
   IsAbout n t = (topic : Topic) × IsOf topic n t
 
@@ -114,25 +115,25 @@ abbrev pub topics : List Topic
 topics =
     Kind ∷ Belonging ∷ Top ∷ Death ∷ Replacement ∷ Labels ∷ Broader ∷ Narrower ∷ Related ∷ Mappings ∷ Memberships ∷ []
 
--- the lines of triples
+-- The lines of triples with the property `Is`.
 abbrev pub IsLineOf : (Triple → Type 0) → List ℕ → Type 0
 IsLineOf Is line = (t : Triple) × Is t × (line ≡ line_of t)
 
--- the new list has the lines of the old one, and these
+-- The new list has exactly the lines of the old one and those with the property `Is`.
 pub record Adds (Is : List ℕ → Type 0) (old new : List (List ℕ)) : Type 0 where
   pub each : (line : List ℕ) → Contains new line ↔ (Contains old line ⊎ Is line)
 
--- the class of a kind of resource, if it is ours to describe
+-- The SKOS class of a kind of resource; an outside concept has none, since it is described elsewhere.
 abbrev pub class_in : ResourceKind → Option SkosClass
 class_in kinds.Scheme = Some ConceptScheme
 class_in kinds.Concept = Some Concept
 class_in kinds.Collection = Some Collection
 class_in kinds.Outside = None
 
--- the triples of the numbers up to this one
-abbrev pub IsUpTo : Kept → ℕ → Triple → Type 0
+-- The triples of the numbers from 1 up to this one.
+abbrev pub IsUpTo : CoreView → ℕ → Triple → Type 0
 IsUpTo core most t = (n : ℕ) × (1 ≤ n) × (n ≤ most) × IsAbout core n t
 
--- the new list has the lines of the old one, and those of a topic of this resource
-abbrev pub AddsAbout : About → Topic → List (List ℕ) → List (List ℕ) → Type 0
-AddsAbout about topic old new = Adds (IsLineOf (IsOf about.core.now topic about.n)) old new
+-- The new list has exactly the lines of the old one and those of this topic of the resource.
+abbrev pub AddsTopic : LineSource → Topic → List (List ℕ) → List (List ℕ) → Type 0
+AddsTopic about topic old new = Adds (IsLineOf (IsOf about.core.now topic about.n)) old new

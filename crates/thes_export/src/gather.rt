@@ -5,19 +5,24 @@ ghost use Rattle.std.specs.Ordering.{nat_cmp};
 ghost use Rattle.std.specs.Cmp.Lexicographic.{slice_cmp};
 ghost use Rattle.thes_base.specs.Listing.{IsListing};
 ghost use Rattle.thes_base.specs.State.{State};
-ghost use Rattle.thes_core.specs.Kept.{Holds};
+ghost use Rattle.thes_core.specs.CoreView.{IsViewOf};
 ghost use Rattle.thes_export.specs.Export.{IsExport};
 ghost use Rattle.thes_export.specs.Topics.{Adds, IsAbout, IsLineOf, IsUpTo};
 
-use crate::about::About;
-use crate::line::Line;
+use crate::line::TripleLine;
+use crate::line_source::LineSource;
 use crate::topic::push_about;
 use std::alloc::{AllocError, Global};
 use thes_base::number::ResNo;
 use thes_core::Core;
 
-// Adds all lines of the resource at a place.
-fn push_at(alloc: Global, core: &Core, lines: &mut Vec<Line>, i: usize) -> Result<(), AllocError>
+// Adds all lines of the resource with this index.
+fn push_at(
+    alloc: Global,
+    core: &Core,
+    lines: &mut Vec<TripleLine>,
+    i: usize,
+) -> Result<(), AllocError>
     requires unspent { core.now.spent ≡ false }
     requires within { i < length core.now.resources }
     ensures { let is_about = IsAbout core.now (i + 1) in
@@ -25,7 +30,7 @@ fn push_at(alloc: Global, core: &Core, lines: &mut Vec<Line>, i: usize) -> Resul
 {
     let resources = core.resources();
     let n = ResNo::new(i as u32 + 1);
-    let about = About {
+    let about = LineSource {
         alloc,
         core,
         n,
@@ -35,7 +40,7 @@ fn push_at(alloc: Global, core: &Core, lines: &mut Vec<Line>, i: usize) -> Resul
     Ok(())
 }
 
-// How many resources there are.
+// Returns the number of resources.
 fn resource_count(core: &Core) -> usize
     requires { core.now.spent ≡ false }
     ensures { result ≡ length core.now.resources }
@@ -43,8 +48,8 @@ fn resource_count(core: &Core) -> usize
     core.resources().len()
 }
 
-// The lines of all resources.
-fn all_lines(alloc: Global, core: &Core) -> Result<Vec<Line>, AllocError>
+// Returns the lines of all resources.
+fn all_lines(alloc: Global, core: &Core) -> Result<Vec<TripleLine>, AllocError>
     requires { core.now.spent ≡ false }
     ensures { let is_told = IsUpTo core.now (length core.now.resources) in
         IfOk result (λ lines. Adds (IsLineOf is_told) [] lines.items) }
@@ -56,25 +61,26 @@ fn all_lines(alloc: Global, core: &Core) -> Result<Vec<Line>, AllocError>
     Ok(lines)
 }
 
-// Puts lines in the order of their bytes, each once.
-fn sort_lines(lines: &mut Vec<Line>) -> Result<(), AllocError>
-    ensures { OnOk result (IsListing (slice_cmp nat_cmp) (Contains lines.old.items) lines.new.items) }
+// Sorts lines by their bytes, and removes duplicates.
+fn sort_lines(lines: &mut Vec<TripleLine>) -> Result<(), AllocError>
+    ensures { OnOk result
+        (IsListing (slice_cmp nat_cmp) (Contains lines.old.items) lines.new.items) }
 {
     lines.sort()?;
     lines.dedup();
     Ok(())
 }
 
-// Adds a line to a text.
-fn push_text(text: &mut Vec<u8>, line: &Line) -> Result<(), AllocError>
+// Appends a line to a text.
+fn push_text(text: &mut Vec<u8>, line: &TripleLine) -> Result<(), AllocError>
     ensures { OnOk result (text.new.items ≡ text.old.items ++ line.now) }
 {
     text.extend_from_slice(line.as_bytes())?;
     Ok(())
 }
 
-// The lines one after another.
-fn joined(alloc: Global, lines: &[Line]) -> Result<Vec<u8>, AllocError>
+// Returns the concatenation of the lines.
+fn join_lines(alloc: Global, lines: &[TripleLine]) -> Result<Vec<u8>, AllocError>
     ensures { IfOk result (λ text. text.items ≡ concat lines.now) }
 {
     let mut text = Vec::new(alloc);
@@ -84,14 +90,14 @@ fn joined(alloc: Global, lines: &[Line]) -> Result<Vec<u8>, AllocError>
     Ok(text)
 }
 
-/// Makes the export of the state that the core holds.
+/// Returns the export of the state that the core holds.
 pub fn export_text(alloc: Global, core: &Core) -> Result<Vec<u8>, AllocError>
     requires { core.now.spent ≡ false }
-    ensures { (s : State) → Holds core.now s →
+    ensures { (s : State) → IsViewOf core.now s →
         IfOk result (λ text. IsExport core.now.setting.base s text.items) }
 {
     let mut lines = all_lines(alloc, core)?;
     sort_lines(&mut lines)?;
-    let text = joined(alloc, lines.as_slice())?;
+    let text = join_lines(alloc, lines.as_slice())?;
     Ok(text)
 }

@@ -1,8 +1,8 @@
-//! What holds of exports as they are defined, whatever writes them.
+//! Laws of exports as they are defined, whatever code writes them.
 ghost use Rattle.thes_export.specs.Export.{HasOneExport, ReadsExports};
 
-/// States that the export of a legal state is a document of N-Triples that has exactly the state's triples, and that it
-/// has no other reading.
+/// States that the export of a legal state is an N-Triples document with exactly the state's triples, and has no other
+/// reading.
 pub fn reads_exports()
     ensures { ReadsExports }
 {}

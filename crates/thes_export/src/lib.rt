@@ -1,13 +1,13 @@
-//! The triples of a thesaurus as a text of N-Triples.
+//! Exports the triples of a thesaurus as N-Triples.
 #![tactic(auto)]
 
-mod about;
 pub mod gather;
 pub mod laws;
 mod line;
-mod linked;
-mod pushed;
-mod said;
+mod line_source;
+mod link_lines;
+mod push;
+mod resource_lines;
 mod topic;
 mod vocabulary;
-pub mod written;
+pub mod writing;

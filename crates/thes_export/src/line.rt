@@ -4,7 +4,7 @@ ghost use Rattle.std.specs.Cmp;
 ghost use Rattle.std.specs.Cmp.Lexicographic.{pointwise, slice_cmp, nat_list_eq_equiv, nat_list_cmp_total, texts_ties, texts_po};
 ghost use Rattle.std.specs.Ordering.{nat_cmp};
 ghost use Rattle.thes_base.specs.Triples.{Class as OfClass, Literal, Node, True, triple, iri_of};
-ghost use Rattle.thes_export.specs.Spelling.{bracketed, escaped, line_of, object_text, opening, property_iri, quoted};
+ghost use Rattle.thes_export.specs.Spelling.{iri_spelling, byte_spelling, line_of, object_text, line_start, property_iri, text_spelling};
 ghost use Rattle.thes_export.specs.Topics.{label_property, label_triple, number_iri};
 
 use crate::vocabulary::{class_text, property_text, true_text};
@@ -17,43 +17,43 @@ use thes_base::number::ResNo;
 use thes_base::triple::{Class, Property};
 use thes_core::Core;
 
-/// A line, with the line feed at its end. Bytes order lines.
+/// A line with its line feed, ordered by its bytes.
 #[derive(Drop)]
-pub struct Line {
+pub struct TripleLine {
     text: Vec<u8>,
 }
 
-impl Model for Line {
+impl Model for TripleLine {
     ghost Value = { List ℕ };
 
     ghost view = { λ line. line.text.items };
 }
 
-impl PartialEq for Line {
+impl PartialEq for TripleLine {
     ghost eq = { pointwise nat_eq };
 
     ghost laws = { Cmp.partial_equiv_from_equiv nat_list_eq_equiv };
 
-    fn eq(&self, other: &Line) -> bool {
+    fn eq(&self, other: &TripleLine) -> bool {
         self.as_bytes() == other.as_bytes()
     }
 }
 
-impl Eq for Line {
+impl Eq for TripleLine {
     ghost laws = { nat_list_eq_equiv };
 }
 
-impl PartialOrd for Line {
+impl PartialOrd for TripleLine {
     ghost partial_cmp = { λ x y. Some (slice_cmp nat_cmp x y) };
 
     ghost laws = { texts_po };
 
-    fn partial_cmp(&self, other: &Line) -> Option<Ordering> {
+    fn partial_cmp(&self, other: &TripleLine) -> Option<Ordering> {
         Some(self.cmp(other))
     }
 }
 
-impl Ord for Line {
+impl Ord for TripleLine {
     ghost cmp = { slice_cmp nat_cmp };
 
     ghost total = { nat_list_cmp_total };
@@ -62,15 +62,16 @@ impl Ord for Line {
 
     ghost matches_eq = { texts_ties };
 
-    fn cmp(&self, other: &Line) -> Ordering {
+    fn cmp(&self, other: &TripleLine) -> Ordering {
         self.as_bytes().cmp(other.as_bytes())
     }
 }
 
-// Adds the IRI of a resource between brackets.
+// Appends the IRI of a resource in angle brackets.
 fn push_resource(text: &mut Vec<u8>, core: &Core, n: ResNo) -> Result<(), AllocError>
     requires { core.now.spent ≡ false }
-    ensures { OnOk result (text.new.items ≡ text.old.items ++ bracketed (number_iri core.now n)) }
+    ensures { OnOk result
+        (text.new.items ≡ text.old.items ++ iri_spelling (number_iri core.now n)) }
 {
     text.push(b'<')?;
     match core.outside_iri(n) {
@@ -84,9 +85,9 @@ fn push_resource(text: &mut Vec<u8>, core: &Core, n: ResNo) -> Result<(), AllocE
     Ok(())
 }
 
-// Adds an IRI between brackets.
+// Appends an IRI in angle brackets.
 fn push_iri(text: &mut Vec<u8>, iri: &str) -> Result<(), AllocError>
-    ensures { OnOk result (text.new.items ≡ text.old.items ++ bracketed iri.now) }
+    ensures { OnOk result (text.new.items ≡ text.old.items ++ iri_spelling iri.now) }
 {
     text.push(b'<')?;
     text.extend_from_slice(iri.as_bytes())?;
@@ -94,9 +95,9 @@ fn push_iri(text: &mut Vec<u8>, iri: &str) -> Result<(), AllocError>
     Ok(())
 }
 
-// Adds a byte of a text, with a backslash before a quotation mark or a backslash.
+// Appends a byte of a literal, after a backslash if it is a quotation mark or a backslash.
 fn push_byte(text: &mut Vec<u8>, byte: u8) -> Result<(), AllocError>
-    ensures { OnOk result (text.new.items ≡ text.old.items ++ escaped byte) }
+    ensures { OnOk result (text.new.items ≡ text.old.items ++ byte_spelling byte) }
 {
     if byte == b'"' || byte == b'\\' {
         text.push(b'\\')?;
@@ -105,9 +106,9 @@ fn push_byte(text: &mut Vec<u8>, byte: u8) -> Result<(), AllocError>
     Ok(())
 }
 
-// Adds a text between quotation marks, with a backslash before each quotation mark and each backslash.
+// Appends a text in quotation marks, with escapes.
 fn push_quoted(text: &mut Vec<u8>, value: &str) -> Result<(), AllocError>
-    ensures { OnOk result (text.new.items ≡ text.old.items ++ quoted value.now) }
+    ensures { OnOk result (text.new.items ≡ text.old.items ++ text_spelling value.now) }
 {
     text.push(b'"')?;
     for byte in value.as_bytes() {
@@ -117,7 +118,7 @@ fn push_quoted(text: &mut Vec<u8>, value: &str) -> Result<(), AllocError>
     Ok(())
 }
 
-// The property that says a kind of label.
+// Returns the property for a kind of label.
 fn property_of(kind: LabelKind) -> Property
     ensures { result ≡ label_property kind }
 {
@@ -129,7 +130,7 @@ fn property_of(kind: LabelKind) -> Property
     }
 }
 
-// Adds the word true, with its type.
+// Appends the literal `true` with its type.
 fn push_true(text: &mut Vec<u8>) -> Result<(), AllocError>
     ensures { OnOk result (text.new.items ≡ text.old.items ++ object_text True) }
 {
@@ -137,10 +138,10 @@ fn push_true(text: &mut Vec<u8>) -> Result<(), AllocError>
     Ok(())
 }
 
-// Adds what a label says, with its tag.
-fn push_said(text: &mut Vec<u8>, label: &Label) -> Result<(), AllocError>
-    ensures { let said = object_text (Literal label.now.tag label.now.text) in
-        OnOk result (text.new.items ≡ text.old.items ++ said) }
+// Appends a label's text and tag.
+fn push_label_text(text: &mut Vec<u8>, label: &Label) -> Result<(), AllocError>
+    ensures { let content = object_text (Literal label.now.tag label.now.text) in
+        OnOk result (text.new.items ≡ text.old.items ++ content) }
 {
     push_quoted(text, label.text())?;
     text.push(b'@')?;
@@ -148,10 +149,16 @@ fn push_said(text: &mut Vec<u8>, label: &Label) -> Result<(), AllocError>
     Ok(())
 }
 
-// Begins a line: its subject and its property, each with a space behind it.
-fn begin(alloc: Global, core: &Core, n: ResNo, property: Property) -> Result<Vec<u8>, AllocError>
+// Begins a line with the subject and the property, each followed by a space.
+fn begin_line(
+    alloc: Global,
+    core: &Core,
+    n: ResNo,
+    property: Property,
+) -> Result<Vec<u8>, AllocError>
     requires { core.now.spent ≡ false }
-    ensures { IfOk result (λ text. text.items ≡ opening (number_iri core.now n) (property_iri property)) }
+    ensures { IfOk result
+        (λ text. text.items ≡ line_start (number_iri core.now n) (property_iri property)) }
 {
     let mut text = Vec::with_capacity(alloc, 160)?;
     push_resource(&mut text, core, n)?;
@@ -162,81 +169,96 @@ fn begin(alloc: Global, core: &Core, n: ResNo, property: Property) -> Result<Vec
 }
 
 // Begins the line of a label.
-fn begin_label(alloc: Global, core: &Core, n: ResNo, label: &Label) -> Result<Vec<u8>, AllocError>
+fn begin_label_line(
+    alloc: Global,
+    core: &Core,
+    n: ResNo,
+    label: &Label,
+) -> Result<Vec<u8>, AllocError>
     requires { core.now.spent ≡ false }
     ensures { let property = property_iri (label_property label.now.kind) in
-        IfOk result (λ text. text.items ≡ opening (number_iri core.now n) property) }
+        IfOk result (λ text. text.items ≡ line_start (number_iri core.now n) property) }
 {
-    let text = begin(alloc, core, n, property_of(label.kind()))?;
+    let text = begin_line(alloc, core, n, property_of(label.kind()))?;
     Ok(text)
 }
 
-// Ends a line.
-fn end(mut text: Vec<u8>) -> Result<Line, AllocError>
+// Completes a line.
+fn end_line(mut text: Vec<u8>) -> Result<TripleLine, AllocError>
     ensures { IfOk result (λ line. line ≡ text.items ++ codes " .\n") }
 {
     text.extend_from_slice(b" .\n")?;
-    Ok(Line { text })
+    Ok(TripleLine { text })
 }
 
-impl Line {
-    /// Returns the bytes.
+impl TripleLine {
+    /// Returns the line as bytes.
     pub fn as_bytes(&self) -> &[u8]
         ensures { result.now ≡ self.now }
     {
         self.text.as_slice()
     }
 
-    /// Makes the line that says of a resource that another one has this property of it.
+    /// Makes the line of a triple whose object is a resource.
     pub fn of_node(
         alloc: Global,
         core: &Core,
         n: ResNo,
         property: Property,
         object: ResNo,
-    ) -> Result<Line, AllocError>
+    ) -> Result<TripleLine, AllocError>
         requires { core.now.spent ≡ false }
         ensures { let iri = number_iri core.now in
             IfOk result (λ line. line ≡ line_of (triple (iri n) property (Node (iri object)))) }
     {
-        let mut text = begin(alloc, core, n, property)?;
+        let mut text = begin_line(alloc, core, n, property)?;
         push_resource(&mut text, core, object)?;
-        let line = end(text)?;
+        let line = end_line(text)?;
         Ok(line)
     }
 
-    /// Makes the line that says of which class a resource is.
-    pub fn of_class(alloc: Global, core: &Core, n: ResNo, class: Class) -> Result<Line, AllocError>
+    /// Makes the line that states the class of a resource.
+    pub fn of_class(
+        alloc: Global,
+        core: &Core,
+        n: ResNo,
+        class: Class,
+    ) -> Result<TripleLine, AllocError>
         requires { core.now.spent ≡ false }
         ensures { let subject = number_iri core.now n in
             IfOk result (λ line. line ≡ line_of (triple subject Property.HasType (OfClass class))) }
     {
-        let mut text = begin(alloc, core, n, Property::HasType)?;
+        let mut text = begin_line(alloc, core, n, Property::HasType)?;
         push_iri(&mut text, class_text(class))?;
-        let line = end(text)?;
+        let line = end_line(text)?;
         Ok(line)
     }
 
-    /// Makes the line that says that a resource is deprecated.
-    pub fn of_dead(alloc: Global, core: &Core, n: ResNo) -> Result<Line, AllocError>
+    /// Makes the line that states that a concept is deprecated.
+    pub fn of_dead(alloc: Global, core: &Core, n: ResNo) -> Result<TripleLine, AllocError>
         requires { core.now.spent ≡ false }
         ensures { let subject = number_iri core.now n in
             IfOk result (λ line. line ≡ line_of (triple subject Property.Deprecated True)) }
     {
-        let mut text = begin(alloc, core, n, Property::Deprecated)?;
+        let mut text = begin_line(alloc, core, n, Property::Deprecated)?;
         push_true(&mut text)?;
-        let line = end(text)?;
+        let line = end_line(text)?;
         Ok(line)
     }
 
     /// Makes the line of a label.
-    pub fn of_label(alloc: Global, core: &Core, n: ResNo, label: &Label) -> Result<Line, AllocError>
+    pub fn of_label(
+        alloc: Global,
+        core: &Core,
+        n: ResNo,
+        label: &Label,
+    ) -> Result<TripleLine, AllocError>
         requires { core.now.spent ≡ false }
         ensures { IfOk result (λ line. line ≡ line_of (label_triple core.now n label.now)) }
     {
-        let mut text = begin_label(alloc, core, n, label)?;
-        push_said(&mut text, label)?;
-        let line = end(text)?;
+        let mut text = begin_label_line(alloc, core, n, label)?;
+        push_label_text(&mut text, label)?;
+        let line = end_line(text)?;
         Ok(line)
     }
 }

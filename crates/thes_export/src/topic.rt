@@ -1,42 +1,46 @@
-//! What lines are written of each resource, topic by topic.
+//! The topics under which lines are written for each resource.
 ghost use Rattle.std.specs.Prelude.{◌≡◌, OnOk};
-ghost use Rattle.thes_export.specs.Topics.{Adds, AddsAbout, IsAbout, IsLineOf, topics};
+ghost use Rattle.thes_export.specs.Topics.{Adds, AddsTopic, IsAbout, IsLineOf, topics};
 
-use crate::about::About;
-use crate::line::Line;
-use crate::linked::{push_broader, push_mappings, push_memberships, push_narrower, push_related};
-use crate::said::{push_belonging, push_death, push_kind, push_labels, push_replacement, push_top};
+use crate::line::TripleLine;
+use crate::line_source::LineSource;
+use crate::link_lines::{
+    push_broader, push_mappings, push_memberships, push_narrower, push_related,
+};
+use crate::resource_lines::{
+    push_belonging, push_death, push_kind, push_labels, push_replacement, push_top,
+};
 use std::alloc::AllocError;
 
-/// A topic: something that may be said of a resource.
+/// A topic of the triples about a resource.
 #[derive(Clone, Copy, Debug, PartialEq, Eq)]
 pub enum Topic {
-    /// Its class.
+    /// The class.
     Kind,
     /// The scheme that it belongs to.
     Belonging,
-    /// Of which scheme it is a top concept.
+    /// The scheme of which it is a top concept.
     Top,
-    /// That it is dead.
+    /// The deprecation of a concept.
     Death,
-    /// Its replacement.
+    /// The replacement of a deprecated concept.
     Replacement,
-    /// Its labels.
+    /// The labels.
     Labels,
-    /// The concepts that are broader.
+    /// The broader concepts.
     Broader,
-    /// The concepts that are narrower.
+    /// The narrower concepts.
     Narrower,
-    /// The concepts related to it.
+    /// The related concepts.
     Related,
-    /// The concepts of other schemes, and of other publishers, that it is mapped to.
+    /// The mappings to concepts of other schemes and to outside concepts.
     Mappings,
-    /// The collections that it is a member of.
+    /// The collections of which it is a member.
     Memberships,
 }
 
 impl Topic {
-    /// Lists all topics.
+    /// Returns all topics.
     pub fn all() -> [Topic; 11]
         ensures { result ≡ topics }
     {
@@ -57,8 +61,12 @@ impl Topic {
 }
 
 // Adds the lines of a topic.
-fn push_topic(about: &About, lines: &mut Vec<Line>, topic: Topic) -> Result<(), AllocError>
-    ensures { OnOk result (AddsAbout about.now topic lines.old.items lines.new.items) }
+fn push_topic(
+    about: &LineSource,
+    lines: &mut Vec<TripleLine>,
+    topic: Topic,
+) -> Result<(), AllocError>
+    ensures { OnOk result (AddsTopic about.now topic lines.old.items lines.new.items) }
 {
     match topic {
         Topic::Kind => push_kind(about, lines),
@@ -76,7 +84,7 @@ fn push_topic(about: &About, lines: &mut Vec<Line>, topic: Topic) -> Result<(), 
 }
 
 /// Adds all lines of a resource.
-pub fn push_about(about: &About, lines: &mut Vec<Line>) -> Result<(), AllocError>
+pub fn push_about(about: &LineSource, lines: &mut Vec<TripleLine>) -> Result<(), AllocError>
     ensures { let is_about = IsAbout about.now.core.now about.now.n in
         OnOk result (Adds (IsLineOf is_about) lines.old.items lines.new.items) }
 {

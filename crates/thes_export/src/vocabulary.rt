@@ -1,4 +1,4 @@
-//! The IRIs of the properties and the classes that triples name.
+//! The IRIs of properties and classes.
 ghost use Rattle.std.specs.Prelude.{◌≡◌};
 ghost use Rattle.thes_export.specs.Spelling.{class_iri, object_text, property_iri};
 ghost use Rattle.thes_base.specs.Triples.{True};
@@ -45,7 +45,7 @@ pub fn class_text(class: Class) -> &'static str
     }
 }
 
-/// Returns the text of the triple that tells a dead concept: the word true, with its type.
+/// Returns the literal `true` with its type, the object of the triple of a deprecated concept.
 #[tactic(auto, unfolding(crate::specs::Spelling::xsd))]
 pub fn true_text() -> &'static str
     ensures { result.now ≡ object_text True }

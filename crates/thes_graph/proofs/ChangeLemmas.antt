@@ -1,63 +1,91 @@
--- Sets of links after several changes.
-use Rattle.std.proofs.Common.{◌≡◌, ◌≢◌, ◌+◌, ◌-◌, ◌<◌, ◌≤◌, ◌⊎◌, inl, inr, ℕ, List, [], ◌∷◌, ◌++◌, cond, not, Contains, length, take, get_or, Option, Some, None, slice_get, refl, sym, ap, subst, ◌∙◌, arith}
+-- Sets of links after additions and removals have the expected members.
+use Rattle.std.proofs.Common.{◌≡◌, ◌≢◌, ◌+◌, ◌-◌, ◌<◌, ◌≤◌, ◌⊎◌, inl, inr, ℕ, List, [], ◌∷◌, ◌++◌, cond, not}
+use Rattle.std.proofs.Common.{Contains, length, take, get_or, Option, Some, None, slice_get, refl, sym, ap, subst}
+use Rattle.std.proofs.Common.{◌∙◌, arith}
 use Rattle.std.specs.Option.{MatchOption}
 use Rattle.std.specs.FinSet.{insert, remove, contains, len, len-remove, empty_of_len, contains-empty}
 use Rattle.std.proofs.lemmas.Option.{slice_get_within, get_or_from_slice_get}
 use Rattle.std.proofs.lemmas.List.{take_more}
 use Rattle.std.proofs.lemmas.Bool.{both_ways}
 use Rattle.thes_base.specs.declared.data.Link.{Link}
-use Rattle.thes_base.specs.Links.{Links, link_cmp, HeldIn, without_node, HasEnd}
-use Rattle.thes_base.proofs.LinkSets.{links_total, link_inserted_cases, link_retained, without_node_from, without_node_to}
-use Rattle.thes_base.proofs.ListMembers.{Contains-none, Contains-head, Contains-later, Contains-cons_cases}
+use Rattle.thes_base.specs.Links.{Links, link_cmp, HeldIn, links_after_deprecation, HasEnd}
+use Rattle.thes_base.proofs.LinkSetLemmas.{links_total, link_inserted_cases, link_retained, without_node_from}
+use Rattle.thes_base.proofs.LinkSetLemmas.{without_node_to}
+use Rattle.thes_base.proofs.ListMemberLemmas.{Contains-none, Contains-head, Contains-later, Contains-cons_cases}
 use Rattle.thes_graph.specs.Net.{Net, ends_at}
-use Rattle.thes_graph.specs.Moved.{with_all, without_all}
+use Rattle.thes_graph.specs.MergeAdditions.{with_all, without_all}
 use Rattle.thes_graph.proofs.WeightLemmas.{past_of_none}
 use Rattle.thes_graph.proofs.SetLemmas.{same_links, inserted_held, insert_keeps, remove_keeps, removed_cases}
 
--- the last item of a list, if there is one
-pub last_of : {X : Type 0} (xs : List X) (o : Option X) → o ≡ slice_get xs (length xs - 1) → MatchOption o ((x : X) → Contains xs x → ⊥) (λ x. Contains xs x)
-last_of xs None e = λ x (k, within, is). let past : length xs ≤ length xs - 1 = past_of_none xs (length xs - 1) (sym e) in absurd (omega arith)
-last_of xs (Some x) e = (length xs - 1, slice_get_within xs (length xs - 1) x (sym e), get_or_from_slice_get xs (length xs - 1) x x (sym e))
+-- A read of the last item gives an item of the list, or shows that it is empty.
+pub last_of : {X : Type 0} (xs : List X) (o : Option X) → o ≡ slice_get xs (length xs - 1)
+    → MatchOption o ((x : X) → Contains xs x → ⊥) (λ x. Contains xs x)
+last_of xs None e = λ x (k, within, is). let past : length xs ≤ length xs - 1 =
+    past_of_none xs (length xs - 1) (sym e) in absurd (omega arith)
+last_of xs (Some x) e = (
+  length xs - 1,
+  slice_get_within xs (length xs - 1) x (sym e),
+  get_or_from_slice_get xs
+      (length xs - 1) x x (sym e),
+)
 
--- taking away one link at the node leaves the same without the node
-pub without_node_removed : (n : ℕ) (links : Links) (l : Link) → HasEnd n l → without_node n (remove links l) ≡ without_node n links
+-- The removal of a link at the node doesn't change the set without the node's links.
+pub without_node_removed : (n : ℕ) (links : Links) (l : Link) → HasEnd n l → links_after_deprecation n
+    (remove links l) ≡ links_after_deprecation n links
 without_node_removed n links l at =
-    same_links (without_node n (remove links l)) (without_node n links)
-    (λ m held. let r = without_node_from n (remove links l) m held in without_node_to n links m ((removed_cases links l m r.0).1, r.1))
-    (λ m held. let r = without_node_from n links m held in without_node_to n (remove links l) m (remove_keeps links l m (λ same. r.1 (subst (HasEnd n) (sym same) at)) r.0, r.1))
+    same_links (links_after_deprecation n (remove links l)) (links_after_deprecation n links)
+    (λ m held. let r = without_node_from n (remove links l) m held in
+    without_node_to n links m ((removed_cases links l m r.0).1, r.1))
+    (λ m held. let r = without_node_from n links m held in without_node_to n (remove links l) m
+    (remove_keeps links l m (λ same. r.1 (subst (HasEnd n) (sym same) at)) r.0, r.1))
 
-pub without_node_none : (n : ℕ) (links : Links) → ((l : Link) → HeldIn links l → HasEnd n l → ⊥) → without_node n links ≡ links
+pub without_node_none : (n : ℕ) (links : Links) → ((l : Link) → HeldIn links l → HasEnd n l → ⊥)
+    → links_after_deprecation n links ≡ links
 without_node_none n links none =
-    same_links (without_node n links) links
+    same_links (links_after_deprecation n links) links
     (λ m held. (link_retained links (λ l. not (ends_at n l)) m held).0)
     (λ m held. without_node_to n links m (held, none m held))
 
 pub fewer_links : (links : Links) (l : Link) → HeldIn links l → len (remove links l) < len links
 fewer_links links l held =
-    let less : len (remove links l) ≡ len links - 1 = len-remove links_total links l ∙ ap (λ b. cond b (len links - 1) (len links)) held in
-    let some : len links ≢ 0 = λ none. both_ways (contains links l) (ap (λ (s : Links). contains s l) (empty_of_len links none) ∙ contains-empty link_cmp l) held in
+    let less : len (remove links l) ≡ len links - 1 = len-remove links_total links l
+    ∙ ap (λ b. cond b (len links - 1) (len links)) held in
+    let some : len links ≢ 0 = λ none. both_ways (contains links l)
+    (ap (λ (s : Links). contains s l) (empty_of_len links none) ∙ contains-empty link_cmp l) held in
     omega arith
 
--- several at once
+-- Members of a set after the addition or removal of a list of links.
 
-pub with_push : (links : Links) (xs : List Link) (x : Link) → with_all links (xs ++ x ∷ []) ≡ insert (with_all links xs) x
+pub with_push : (links : Links) (xs : List Link) (x : Link) → with_all links (xs ++ x ∷ [])
+    ≡ insert (with_all links xs) x
 with_push links [] x = refl
 with_push links (y ∷ ys) x = with_push (insert links y) ys x
 
-pub without_push : (links : Links) (xs : List Link) (x : Link) → without_all links (xs ++ x ∷ []) ≡ remove (without_all links xs) x
+pub without_push : (links : Links) (xs : List Link) (x : Link) → without_all links (xs ++ x ∷ [])
+    ≡ remove (without_all links xs) x
 without_push links [] x = refl
 without_push links (y ∷ ys) x = without_push (remove links y) ys x
 
-with_more : (links : Links) (xs : List Link) (i : ℕ) (x : Link) → i < length xs → x ≡ get_or xs i x → with_all links (take (i + 1) xs) ≡ insert (with_all links (take i xs)) x
-with_more links xs i x within is = ap (with_all links) (take_more xs i x within ∙ ap (λ y. take i xs ++ y ∷ []) (sym is)) ∙ with_push links (take i xs) x
+with_more : (links : Links) (xs : List Link) (i : ℕ) (x : Link) → i < length xs → x ≡ get_or xs i x
+    → with_all links (take (i + 1) xs) ≡ insert (with_all links (take i xs)) x
+with_more links xs i x within is =
+    ap (with_all links) (take_more xs i x within ∙ ap (λ y. take i xs ++ y ∷ []) (sym is))
+    ∙ with_push links (take i xs) x
 
-without_more : (links : Links) (xs : List Link) (i : ℕ) (x : Link) → i < length xs → x ≡ get_or xs i x → without_all links (take (i + 1) xs) ≡ remove (without_all links (take i xs)) x
-without_more links xs i x within is = ap (without_all links) (take_more xs i x within ∙ ap (λ y. take i xs ++ y ∷ []) (sym is)) ∙ without_push links (take i xs) x
+without_more : (links : Links) (xs : List Link) (i : ℕ) (x : Link) → i < length xs → x ≡ get_or xs i x
+    → without_all links (take (i + 1) xs) ≡ remove (without_all links (take i xs)) x
+without_more links xs i x within is =
+    ap (without_all links) (take_more xs i x within ∙ ap (λ y. take i xs ++ y ∷ []) (sym is))
+    ∙ without_push links (take i xs) x
 
-pub with_from : (links : Links) (xs : List Link) (m : Link) → HeldIn (with_all links xs) m → HeldIn links m ⊎ Contains xs m
+pub with_from : (links : Links) (xs : List Link) (m : Link) → HeldIn (with_all links xs) m → HeldIn links m
+    ⊎ Contains xs m
 with_from links [] m held = inl held
 with_from links (x ∷ xs) m held = elim (with_from (insert links x) xs m held) [
-  | inl now ↦ elim (link_inserted_cases links x m now) [ inl same ↦ inr (subst (λ (w : Link). Contains (x ∷ xs) w) (sym same) (Contains-head x xs)) | inr old ↦ inl old ]
+  | inl now ↦ elim (link_inserted_cases links x m now) [
+    | inl same ↦ inr (subst (λ (w : Link). Contains (x ∷ xs) w) (sym same) (Contains-head x xs))
+    | inr old ↦ inl old
+  ]
   | inr later ↦ inr (Contains-later x xs m later)
 ]
 
@@ -72,21 +100,27 @@ with_has links (x ∷ xs) m has = elim (Contains-cons_cases x xs m has) [
   | inr later ↦ with_has (insert links x) xs m later
 ]
 
-without_from : (links : Links) (xs : List Link) (m : Link) → HeldIn (without_all links xs) m → HeldIn links m × (Contains xs m → ⊥)
+without_from : (links : Links) (xs : List Link) (m : Link) → HeldIn (without_all links xs) m → HeldIn links m
+    × (Contains xs m → ⊥)
 without_from links [] m held = (held, λ has. Contains-none m has)
 without_from links (x ∷ xs) m held =
     let r = without_from (remove links x) xs m held in
     let c = removed_cases links x m r.0 in
     (c.1, λ has. elim (Contains-cons_cases x xs m has) [ inl same ↦ c.0 (sym same) | inr later ↦ r.1 later ])
 
-without_keeps : (links : Links) (xs : List Link) (m : Link) → HeldIn links m → (Contains xs m → ⊥) → HeldIn (without_all links xs) m
+without_keeps : (links : Links) (xs : List Link) (m : Link) → HeldIn links m → (Contains xs m → ⊥)
+    → HeldIn (without_all links xs) m
 without_keeps links [] m held off = held
 without_keeps links (x ∷ xs) m held off =
-    without_keeps (remove links x) xs m (remove_keeps links x m (λ same. off (subst (λ (w : Link). Contains (x ∷ xs) w) (sym same) (Contains-head x xs))) held) (λ has. off (Contains-later x xs m has))
+    without_keeps (remove links x) xs m
+    (remove_keeps links x m
+    (λ same. off (subst (λ (w : Link). Contains (x ∷ xs) w) (sym same) (Contains-head x xs))) held)
+    (λ has. off (Contains-later x xs m has))
 
--- new links that were added and taken back
-pub taken_back : (links : Links) (xs : List Link) → ((l : Link) → Contains xs l → HeldIn links l → ⊥) → without_all (with_all links xs) xs ≡ links
-taken_back links xs new = same_links (without_all (with_all links xs) xs) links to from
+-- The removal of new links undoes their addition.
+pub undo_additions : (links : Links) (xs : List Link) → ((l : Link) → Contains xs l → HeldIn links l → ⊥)
+    → without_all (with_all links xs) xs ≡ links
+undo_additions links xs new = same_links (without_all (with_all links xs) xs) links to from
   where
     to : (m : Link) → HeldIn (without_all (with_all links xs) xs) m → HeldIn links m
     to m held =
@@ -96,16 +130,21 @@ taken_back links xs new = same_links (without_all (with_all links xs) xs) links 
     from : (m : Link) → HeldIn links m → HeldIn (without_all (with_all links xs) xs) m
     from m held = without_keeps (with_all links xs) xs m (with_keeps links xs m held) (λ has. new m has held)
 
--- a loop's step: one link more was added, or taken away
-pub net_with : (links : Links) (xs : List Link) (i : ℕ) (x y : Link) (before after : Net) → i < length xs → x ≡ get_or xs i x → y ≡ x
-    → (outside : Net) → before ≡ record { links = with_all links (take i xs); outside = outside.outside } → after ≡ record { links = insert before.links y; outside = before.outside }
+-- One iteration of a loop that adds or removes the links of a list.
+pub net_with : (links : Links) (xs : List Link) (i : ℕ) (x y : Link) (before after : Net) → i < length xs → x
+    ≡ get_or xs i x → y ≡ x
+    → (outside : Net) → before ≡ record { links = with_all links (take i xs); outside = outside.outside } → after
+    ≡ record { links = insert before.links y; outside = before.outside }
     → after ≡ record { links = with_all links (take (i + 1) xs); outside = outside.outside }
 net_with links xs i x y before after within is same outside e f =
     f ∙ ap (λ (n : Net). record { links = insert n.links y; outside = n.outside }) e
-    ∙ ap (λ (s : Links). record { links = s; outside = outside.outside }) (ap (insert (with_all links (take i xs))) same ∙ sym (with_more links xs i x within is))
+    ∙ ap (λ (s : Links). record { links = s; outside = outside.outside })
+    (ap (insert (with_all links (take i xs))) same ∙ sym (with_more links xs i x within is))
 
-pub net_without : (links : Links) (xs : List Link) (i : ℕ) (x : Link) (before after : Net) → i < length xs → x ≡ get_or xs i x
-    → (outside : Net) → before ≡ record { links = without_all links (take i xs); outside = outside.outside } → after ≡ record { links = remove before.links x; outside = before.outside }
+pub net_without : (links : Links) (xs : List Link) (i : ℕ) (x : Link) (before after : Net) → i < length xs → x
+    ≡ get_or xs i x
+    → (outside : Net) → before ≡ record { links = without_all links (take i xs); outside = outside.outside } → after
+    ≡ record { links = remove before.links x; outside = before.outside }
     → after ≡ record { links = without_all links (take (i + 1) xs); outside = outside.outside }
 net_without links xs i x before after within is outside e f =
     f ∙ ap (λ (n : Net). record { links = remove n.links x; outside = n.outside }) e

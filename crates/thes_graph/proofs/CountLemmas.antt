@@ -1,11 +1,12 @@
--- Nodes that stand once in a list meet a link at most twice, and on one side at most once.
-use Rattle.std.proofs.Common.{◌≡◌, ◌==◌, ◌+◌, ◌*◌, ◌≤◌, ℕ, List, [], ◌∷◌, length, get_or, ap, ◌∙◌, arith, refl, sum_by, true, false, nat_eq, if◌then◌else◌}
+-- Distinct nodes touch each link at most twice, and at one given end at most once.
+use Rattle.std.proofs.Common.{◌≡◌, ◌==◌, ◌+◌, ◌*◌, ◌≤◌, ℕ, List, [], ◌∷◌, length, get_or, ap, ◌∙◌, arith, refl}
+use Rattle.std.proofs.Common.{sum_by, true, false, nat_eq, if◌then◌else◌}
 use Rattle.std.specs.List.{IsDistinct, AllByRecursion}
 use Rattle.std.proofs.lemmas.List.Sums.{sum_by-cons, sum_by-le}
 use Rattle.thes_base.specs.declared.data.Link.{Link}
-use Rattle.thes_base.proofs.Counts.{sums_same}
-use Rattle.thes_graph.specs.declared.sight.Sight.{Sight}
-use Rattle.thes_graph.specs.Sight.{node_after, touches}
+use Rattle.thes_base.proofs.AssignedCountLemmas.{sums_same}
+use Rattle.thes_graph.specs.declared.edit.LinkEdit.{LinkEdit}
+use Rattle.thes_graph.specs.LinkEdit.{node_after, touches}
 use Rattle.thes_graph.proofs.ReadLemmas.{one_at}
 
 module _ {X : Type 0} where
@@ -22,8 +23,9 @@ module _ {X : Type 0} where
   sum_by-none [] = refl
   sum_by-none (x ∷ xs) = omega (arith, sum_by-none xs, sum_by-cons (λ (_ : X). 0) x xs)
 
--- a number is at most once among distinct ones
-absent : (p x : ℕ) (xs : List ℕ) → (p == x) ≡ true → AllByRecursion (λ y. nat_eq x y ≡ false) xs → AllByRecursion (λ y. one_at p y ≡ 0) xs
+-- A number occurs at most once in a list of distinct numbers.
+absent : (p x : ℕ) (xs : List ℕ) → (p == x) ≡ true → AllByRecursion (λ y. nat_eq x y ≡ false) xs
+    → AllByRecursion (λ y. one_at p y ≡ 0) xs
 absent p x [] here apart = tt
 absent p x (y ∷ ys) here apart = ((let h : nat_eq x y ≡ false = apart.0 in grind arith), absent p x ys here apart.1)
 
@@ -35,7 +37,13 @@ unfolding IsDistinct
 sum_by-one_at p [] distinct = omega arith
 sum_by-one_at p (x ∷ xs) distinct =
     elim (p == x) as (λ b. (p == x) ≡ b → sum_by (one_at p) (x ∷ xs) ≤ 1) [
-      | true ↦ λ here. omega (arith, sum_by-cons (one_at p) x xs, at_most_one p x 0, sum_by-zero (one_at p) xs (absent p x xs here distinct.0))
+      | true ↦ λ here. omega (
+        arith,
+        sum_by-cons (one_at p) x xs,
+        at_most_one p x 0,
+        sum_by-zero (one_at p) xs
+            (absent p x xs here distinct.0),
+      )
       | false ↦ λ off. omega (arith, sum_by-cons (one_at p) x xs, off_zero off, sum_by-one_at p xs distinct.1)
     ] refl
   where
@@ -43,29 +51,39 @@ sum_by-one_at p (x ∷ xs) distinct =
     off_zero off = ap (λ b. if b then 1 else 0) off
 
 module _ (nodes : List ℕ) (weight : ℕ → Link → ℕ) where
-  -- what the nodes weigh over all links is what the links weigh over all nodes
-  swapped : (ns : List Link) → sum_by (λ n. sum_by (weight n) ns) nodes ≡ sum_by (λ l. sum_by (λ n. weight n l) nodes) ns
+  -- The sum over nodes and links doesn't depend on the order of summation.
+  swapped : (ns : List Link) → sum_by (λ n. sum_by (weight n) ns) nodes ≡ sum_by (λ l. sum_by (λ n. weight n l) nodes)
+      ns
   swapped [] = sum_by-none nodes
   swapped (l ∷ ns) = omega (arith, split, swapped ns, sum_by-cons (λ l. sum_by (λ n. weight n l) nodes) l ns)
     where
-      split : sum_by (λ n. sum_by (weight n) (l ∷ ns)) nodes ≡ sum_by (λ n. weight n l) nodes + sum_by (λ n. sum_by (weight n) ns) nodes
-      split = sums_same (λ n. sum_by (weight n) (l ∷ ns)) (λ n. weight n l + sum_by (weight n) ns) (λ n. sum_by-cons (weight n) l ns) nodes
+      split : sum_by (λ n. sum_by (weight n) (l ∷ ns)) nodes ≡ sum_by (λ n. weight n l) nodes
+          + sum_by (λ n. sum_by (weight n) ns) nodes
+      split = sums_same (λ n. sum_by (weight n) (l ∷ ns)) (λ n. weight n l + sum_by (weight n) ns)
+          (λ n. sum_by-cons (weight n) l ns) nodes
           ∙ sum_by-plus (λ n. weight n l) (λ n. sum_by (weight n) ns) nodes
 
-  -- links of which each weighs so much at most
-  pub met_at_most : (most : ℕ) → ((l : Link) → sum_by (λ n. weight n l) nodes ≤ most) → (ns : List Link) → sum_by (λ n. sum_by (weight n) ns) nodes ≤ length ns * most
-  met_at_most most each ns = omega (arith, swapped ns, sum_by-le (λ l. sum_by (λ n. weight n l) nodes) most ns (λ k d lt. each (get_or ns k d)))
+  -- A bound for each link bounds the sum over all links.
+  pub met_at_most : (most : ℕ) → ((l : Link) → sum_by (λ n. weight n l) nodes ≤ most) → (ns : List Link)
+      → sum_by (λ n. sum_by (weight n) ns) nodes ≤ length ns * most
+  met_at_most most each ns =
+      omega (
+        arith,
+        swapped ns,
+        sum_by-le (λ l. sum_by (λ n. weight n l) nodes) most ns
+            (λ k d lt. each (get_or ns k d)),
+      )
 
-module _ (sight : Sight) (nodes : List ℕ) (distinct : IsDistinct nat_eq nodes) where
-  link_twice : (l : Link) → sum_by (λ n. touches sight n l) nodes ≤ 2
+module _ (edit : LinkEdit) (nodes : List ℕ) (distinct : IsDistinct nat_eq nodes) where
+  link_twice : (l : Link) → sum_by (λ n. touches edit n l) nodes ≤ 2
   link_twice l =
       omega (
         arith,
-        sum_by-plus (one_at (node_after sight l.a)) (one_at (node_after sight l.b)) nodes,
-        sum_by-one_at (node_after sight l.a) nodes distinct,
-        sum_by-one_at (node_after sight l.b) nodes distinct,
+        sum_by-plus (one_at (node_after edit l.a)) (one_at (node_after edit l.b)) nodes,
+        sum_by-one_at (node_after edit l.a) nodes distinct,
+        sum_by-one_at (node_after edit l.b) nodes distinct,
       )
 
-  -- over distinct nodes each link is met at most twice
-  pub met_twice : (ns : List Link) → sum_by (λ n. sum_by (touches sight n) ns) nodes ≤ 2 * length ns
-  met_twice ns = omega (arith, met_at_most nodes (touches sight) 2 link_twice ns)
+  -- Distinct nodes have at most two ends of each link.
+  pub met_twice : (ns : List Link) → sum_by (λ n. sum_by (touches edit n) ns) nodes ≤ 2 * length ns
+  met_twice ns = omega (arith, met_at_most nodes (touches edit) 2 link_twice ns)

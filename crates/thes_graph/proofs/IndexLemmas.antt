@@ -1,12 +1,14 @@
--- A graph's set of links, and the rows by their ends.
-use Rattle.std.proofs.Common.{◌≡◌, ◌≢◌, ◌+◌, ◌⊎◌, inl, inr, ℕ, List, [], ◌∷◌, Bool, true, false, cond, ◌||◌, ◌==◌, ◌<◌, Contains, length, get_or, map, Less, refl, sym, ap, subst, ◌∙◌, arith}
+-- The index of a graph stays correct: at each node it has the links of the set with an end there, sorted by side.
+use Rattle.std.proofs.Common.{◌≡◌, ◌≢◌, ◌+◌, ◌⊎◌, inl, inr, ℕ, List, [], ◌∷◌, Bool, true, false, cond, ◌||◌, ◌==◌}
+use Rattle.std.proofs.Common.{◌<◌, Contains, length, get_or, map, Less, refl, sym, ap, subst, ◌∙◌, arith}
 use Rattle.std.specs.Prelude.{filter}
 use Rattle.std.specs.List.{list_any}
 use Rattle.std.specs.List.Sorted.{IsStrictlySortedBy}
 use Rattle.std.specs.Ordering.{nat_cmp, is_eq}
 use Rattle.std.specs.Cmp.{IsTotalOrder}
 use Rattle.std.specs.declared.cmp.Ordering.{Ordering}
-use Rattle.std.specs.FinSet.{FinSet, IsAntisymmetric, insert, remove, contains, items, from_list, len, contains-from_list, len-insert, len-empty}
+use Rattle.std.specs.FinSet.{FinSet, IsAntisymmetric, insert, remove, contains, items, from_list, len}
+use Rattle.std.specs.FinSet.{contains-from_list, len-insert, len-empty}
 use Rattle.std.specs.BTreeMap.{is_at}
 use Rattle.std.specs.BTreeSet.{insert_key}
 use Rattle.std.specs.Set.{remove_key}
@@ -15,25 +17,30 @@ use Rattle.std.proofs.lemmas.List.{length-map, get_or-map, get_or_default}
 use Rattle.std.proofs.lemmas.Map.Keys.{sorted_tail, Less-from_sorted}
 use Rattle.std.proofs.lemmas.Bool.{false_from_ne_true, cases_eq}
 use Rattle.thes_base.specs.declared.data.Link.{Link}
-use Rattle.thes_base.specs.Links.{Links, link_cmp, HeldIn, norm, HasEnd}
+use Rattle.thes_base.specs.Links.{Links, link_cmp, HeldIn, normal_form, HasEnd}
 use Rattle.thes_base.specs.Listing.{IsListing}
-use Rattle.thes_base.proofs.LinkSets.{links_total, links_exact, link_inserted_cases}
-use Rattle.thes_base.proofs.OneListing.{one_listing}
-use Rattle.thes_base.proofs.ListMembers.{Contains-none, Contains-map, Contains-from_map, Contains-filter, Contains-from_filter}
+use Rattle.thes_base.proofs.LinkSetLemmas.{links_total, links_exact, link_inserted_cases}
+use Rattle.thes_base.proofs.UniqueListingLemmas.{one_listing}
+use Rattle.thes_base.proofs.ListMemberLemmas.{Contains-none, Contains-map, Contains-from_map, Contains-filter}
+use Rattle.thes_base.proofs.ListMemberLemmas.{Contains-from_filter}
 use Rattle.thes_lists.specs.declared.lists.Lists.{Lists}
-use Rattle.thes_lists.specs.Lists.{listed_at, AreSame, ChangesAt}
+use Rattle.thes_lists.specs.Lists.{listed_at, HaveSameValues, ChangesOnlyAt}
 use Rattle.thes_lists.proofs.MemberLemmas.{Has-from, Contains-from}
-use Rattle.thes_lists.proofs.OrderLemmas.{sorted_none, above_head, insert_cases, insert_sorted, remove_had, remove_sorted, never_below_itself}
+use Rattle.thes_lists.proofs.OrderLemmas.{sorted_none, above_head, insert_cases, insert_sorted, remove_had}
+use Rattle.thes_lists.proofs.OrderLemmas.{remove_sorted, never_below_itself}
 use Rattle.thes_lists.proofs.OrderLemmas as order
-use Rattle.thes_lists.proofs.ListingLemmas.{insert_has, remove_apart, remove_keeps, listing_as, listing_insert, listing_remove}
-use Rattle.thes_graph.specs.declared.side.Standing.{Standing}
-use Rattle.thes_graph.specs.Side.{standing_at, standing_cmp}
+use Rattle.thes_lists.proofs.ListingLemmas.{insert_has, remove_apart, remove_keeps, listing_as, listing_insert}
+use Rattle.thes_lists.proofs.ListingLemmas.{listing_remove}
+use Rattle.thes_graph.specs.declared.side.SidedLink.{SidedLink}
+use Rattle.thes_graph.specs.Side.{sided_link_at, sided_link_cmp}
 use Rattle.thes_graph.specs.Reading.{IsRow}
-use Rattle.thes_graph.specs.Net.{Net, ends_at, in_order, listed, arranged, standings_at, links_at}
+use Rattle.thes_graph.specs.Net.{Net, ends_at, insertion_sort, sorted_links, sorted_row, sided_links_at, links_at}
 use Rattle.thes_graph.specs.Whole.{AreAll}
 use Rattle.thes_graph.specs.Index.{IsIndexed}
-use Rattle.thes_graph.proofs.LinkOrderLemmas.{computed, computed_is, arranging, arranging_is, standings_total, standings_exact}
-use Rattle.thes_graph.proofs.SetLemmas.{same_links, held_from_list, listed_of_held, held_of_item, item_of_held, inserted_held, insert_keeps, remove_keeps as remove_keeps_link, removed_cases}
+use Rattle.thes_graph.proofs.LinkOrderLemmas.{derived_link_cmp, derived_link_cmp_is, derived_sided_cmp}
+use Rattle.thes_graph.proofs.LinkOrderLemmas.{derived_sided_cmp_is, sided_links_total, sided_links_exact}
+use Rattle.thes_graph.proofs.SetLemmas.{same_links, held_from_list, listed_of_held, held_of_item, item_of_held}
+use Rattle.thes_graph.proofs.SetLemmas.{inserted_held, insert_keeps, remove_keeps as remove_keeps_link, removed_cases}
 
 abbrev net_of : Links → FinSet nat_cmp → Net
 net_of links outside = record { links = links; outside = outside }
@@ -47,11 +54,12 @@ with_key = insert_key link_cmp
 abbrev without_key : Link → List Link → List Link
 without_key l = remove_key (is_at (link_cmp l))
 
--- a list with one value more, and with one less
+-- Members of a sorted list after an insertion or a removal.
 
 module _ {A : Type 0} (c : A → A → Ordering) (o : IsTotalOrder c) (exact : IsAntisymmetric c) where
   insert_members : (ks : List A) (x m : A) → Contains (insert_key c ks x) m → (m ≡ x) ⊎ Contains ks m
-  insert_members ks x m has = elim (insert_cases c ks x m (Has-from (insert_key c ks x) m has)) [ inl same ↦ inl (sym same) | inr old ↦ inr (Contains-from ks m old) ]
+  insert_members ks x m has = elim (insert_cases c ks x m (Has-from (insert_key c ks x) m has))
+      [ inl same ↦ inl (sym same) | inr old ↦ inr (Contains-from ks m old) ]
 
   insert_it : (ks : List A) (x : A) → Contains (insert_key c ks x) x
   insert_it ks x = Contains-from (insert_key c ks x) x (insert_has c o exact ks x)
@@ -59,24 +67,24 @@ module _ {A : Type 0} (c : A → A → Ordering) (o : IsTotalOrder c) (exact : I
   insert_old : (ks : List A) (x m : A) → Contains ks m → Contains (insert_key c ks x) m
   insert_old ks x m has = Contains-from (insert_key c ks x) m (order.insert_keeps c ks x m (Has-from ks m has))
 
-  -- the values in their order
+  -- Insertion sort keeps the members, and sorts them.
 
-  in_order_sorted : (xs : List A) → IsStrictlySortedBy c (in_order c xs)
+  in_order_sorted : (xs : List A) → IsStrictlySortedBy c (insertion_sort c xs)
   in_order_sorted [] = sorted_none c
-  in_order_sorted (x ∷ xs) = insert_sorted c o (in_order c xs) x (in_order_sorted xs)
+  in_order_sorted (x ∷ xs) = insert_sorted c o (insertion_sort c xs) x (in_order_sorted xs)
 
-  in_order_from : (xs : List A) (m : A) → Contains (in_order c xs) m → Contains xs m
+  in_order_from : (xs : List A) (m : A) → Contains (insertion_sort c xs) m → Contains xs m
   in_order_from [] m has = has
-  in_order_from (x ∷ xs) m has = Contains-from (x ∷ xs) m (elim (insert_members (in_order c xs) x m has) [
+  in_order_from (x ∷ xs) m has = Contains-from (x ∷ xs) m (elim (insert_members (insertion_sort c xs) x m has) [
     | inl same ↦ inl (sym same)
     | inr old ↦ inr (Has-from xs m (in_order_from xs m old))
   ])
 
-  in_order_to : (xs : List A) (m : A) → Contains xs m → Contains (in_order c xs) m
+  in_order_to : (xs : List A) (m : A) → Contains xs m → Contains (insertion_sort c xs) m
   in_order_to [] m has = has
   in_order_to (x ∷ xs) m has = elim (Has-from (x ∷ xs) m has) [
-    | inl same ↦ subst (Contains (insert_key c (in_order c xs) x)) same (insert_it (in_order c xs) x)
-    | inr later ↦ insert_old (in_order c xs) x m (in_order_to xs m (Contains-from xs m later))
+    | inl same ↦ subst (Contains (insert_key c (insertion_sort c xs) x)) same (insert_it (insertion_sort c xs) x)
+    | inr later ↦ insert_old (insertion_sort c xs) x m (in_order_to xs m (Contains-from xs m later))
   ]
 
 with_cases : (ks : List Link) (l m : Link) → Contains (with_key ks l) m → (m ≡ l) ⊎ Contains ks m
@@ -90,27 +98,31 @@ with_old = insert_old link_cmp links_total links_exact
 
 without_cases : (ks : List Link) (l m : Link) → IsSorted ks → Contains (without_key l ks) m → Contains ks m × (m ≢ l)
 without_cases ks l m sorted has =
-    let left = Has-from (without_key l ks) m has in
-    (Contains-from ks m (remove_had link_cmp ks (is_at (link_cmp l)) m left), remove_apart link_cmp links_total links_exact ks l m sorted left)
+    let left = Has-from (without_key l ks) m has in (
+      Contains-from ks m (remove_had link_cmp ks (is_at (link_cmp l)) m left),
+      remove_apart link_cmp links_total
+          links_exact ks l m sorted left,
+    )
 
 without_old : (ks : List Link) (l m : Link) → Contains ks m → m ≢ l → Contains (without_key l ks) m
-without_old ks l m has other = Contains-from (without_key l ks) m (remove_keeps link_cmp links_total links_exact ks l m other (Has-from ks m has))
+without_old ks l m has other = Contains-from (without_key l ks) m (remove_keeps link_cmp links_total links_exact ks l
+    m other (Has-from ks m has))
 
--- the links of a set in their order
+-- The sorted list of a set's links has exactly these.
 
-pub held_of_listed : (links : Links) (m : Link) → Contains (listed links) m → HeldIn links m
+pub held_of_listed : (links : Links) (m : Link) → Contains (sorted_links links) m → HeldIn links m
 held_of_listed links m has = held_of_item links m (in_order_from link_cmp links_total links_exact (items links) m has)
 
-pub listed_held : (links : Links) (m : Link) → HeldIn links m → Contains (listed links) m
+pub listed_held : (links : Links) (m : Link) → HeldIn links m → Contains (sorted_links links) m
 listed_held links m held = in_order_to link_cmp links_total links_exact (items links) m (item_of_held links m held)
 
-pub listed_sorted : (links : Links) → IsSorted (listed links)
+pub listed_sorted : (links : Links) → IsSorted (sorted_links links)
 listed_sorted links = in_order_sorted link_cmp links_total links_exact (items links)
 
--- a list in order is that of its set
-pub listed_is : (ks : List Link) → IsSorted ks → listed (from_list ks) ≡ ks
+-- A sorted list is the sorted list of its set.
+pub listed_is : (ks : List Link) → IsSorted ks → sorted_links (from_list ks) ≡ ks
 listed_is ks sorted =
-    one_listing links_total {P = Contains ks} (listed (from_list ks)) ks
+    one_listing links_total {P = Contains ks} (sorted_links (from_list ks)) ks
     (record {
       rises = listed_sorted (from_list ks);
       sound = λ m has. listed_of_held ks m (held_of_listed (from_list ks) m has);
@@ -118,7 +130,7 @@ listed_is ks sorted =
     })
     (record { rises = sorted; sound = λ m has. has; complete = λ m has. has })
 
--- the links at a node
+-- The test for an end at a node is exact.
 
 pub ends_of_test : (n : ℕ) (l : Link) → ends_at n l ≡ true → HasEnd n l
 ends_of_test n l e = go (l.a == n) refl e
@@ -135,121 +147,168 @@ test_of_ends n l (inr at) = go (l.a == n)
     go true = refl
     go false = (Decides-eqb l.b n).1 at
 
--- one of these links, as it stands at the node
-abbrev Stands : List Link → ℕ → Standing → Type 0
-Stands ks n s = Contains ks s.link × HasEnd n s.link × (standing_at n s.link ≡ s)
+-- A link of the list with its side at the node.
+abbrev CoversSide : List Link → ℕ → SidedLink → Type 0
+CoversSide ks n s = Contains ks s.link × HasEnd n s.link × (sided_link_at n s.link ≡ s)
 
-arranged_listing : (n : ℕ) (ks : List Link) → IsListing standing_cmp (Stands ks n) (arranged n ks)
+-- The sorted row of a node lists exactly the links with an end at it.
+arranged_listing : (n : ℕ) (ks : List Link) → IsListing sided_link_cmp (CoversSide ks n) (sorted_row n ks)
 arranged_listing n ks = record {
-  rises = in_order_sorted standing_cmp standings_total standings_exact (map (standing_at n) (filter (ends_at n) ks));
+  rises = in_order_sorted sided_link_cmp sided_links_total sided_links_exact
+      (map (sided_link_at n) (filter (ends_at n) ks));
   sound = λ s has.
-      let from = Contains-from_map (standing_at n) (filter (ends_at n) ks) s (in_order_from standing_cmp standings_total standings_exact (map (standing_at n) (filter (ends_at n) ks)) s has) in
+      let from = Contains-from_map (sided_link_at n) (filter (ends_at n) ks) s
+      (in_order_from sided_link_cmp sided_links_total sided_links_exact
+      (map (sided_link_at n) (filter (ends_at n) ks)) s has) in
       let both = Contains-from_filter (ends_at n) ks from.0 from.1 in
-      subst (Stands ks n) from.2 (both.0, ends_of_test n from.0 both.1, refl);
+      subst (CoversSide ks n) from.2 (both.0, ends_of_test n from.0 both.1, refl);
   complete = λ s (has, ends, same).
-      subst (Contains (arranged n ks)) same
-      (in_order_to standing_cmp standings_total standings_exact (map (standing_at n) (filter (ends_at n) ks)) (standing_at n s.link)
-      (Contains-map (standing_at n) (filter (ends_at n) ks) s.link (Contains-filter (ends_at n) ks s.link has (test_of_ends n s.link ends))));
+      subst (Contains (sorted_row n ks)) same
+      (in_order_to sided_link_cmp sided_links_total sided_links_exact (map (sided_link_at n) (filter (ends_at n) ks))
+      (sided_link_at n s.link)
+      (Contains-map (sided_link_at n) (filter (ends_at n) ks) s.link
+      (Contains-filter (ends_at n) ks s.link has (test_of_ends n s.link ends))));
 }
 
--- two arrangements of which each has what the other has
-same_arranged : (n : ℕ) (ks : List Link) (P : Standing → Type 0) (ss : List Standing) → ((s : Standing) → P s → Stands ks n s) → ((s : Standing) → Stands ks n s → P s) → IsListing standing_cmp P ss
-    → arranged n ks ≡ ss
+-- Two sorted rows with the same members are equal.
+same_arranged : (n : ℕ) (ks : List Link) (P : SidedLink → Type 0) (ss : List SidedLink)
+    → ((s : SidedLink) → P s → CoversSide ks n s) → ((s : SidedLink) → CoversSide ks n s → P s)
+    → IsListing sided_link_cmp P ss
+    → sorted_row n ks ≡ ss
 same_arranged n ks P ss to from is =
-    one_listing standings_total (arranged n ks) ss (arranged_listing n ks) (listing_as standing_cmp P (Stands ks n) ss to from is)
+    one_listing sided_links_total (sorted_row n ks) ss (arranged_listing n ks)
+    (listing_as sided_link_cmp P (CoversSide ks n) ss to from is)
 
 module _ (n : ℕ) (ks : List Link) (l : Link) where
-  arranged_with : HasEnd n l → arranged n (with_key ks l) ≡ insert_key standing_cmp (arranged n ks) (standing_at n l)
+  arranged_with : HasEnd n l → sorted_row n (with_key ks l) ≡ insert_key sided_link_cmp (sorted_row n ks)
+      (sided_link_at n l)
   arranged_with at =
-      same_arranged n (with_key ks l) (λ s. Stands ks n s ⊎ (s ≡ standing_at n l)) (insert_key standing_cmp (arranged n ks) (standing_at n l))
+      same_arranged n (with_key ks l) (λ s. CoversSide ks n s ⊎ (s ≡ sided_link_at n l))
+      (insert_key sided_link_cmp (sorted_row n ks) (sided_link_at n l))
       (λ s p. elim p [
         | inl (has, ends, same) ↦ (with_old ks l s.link has, ends, same)
-        | inr same ↦ subst (Stands (with_key ks l) n) (sym same) (with_it ks l, at, refl)
+        | inr same ↦ subst (CoversSide (with_key ks l) n) (sym same) (with_it ks l, at, refl)
       ])
-      (λ s (has, ends, same). elim (with_cases ks l s.link has) [ inl here ↦ inr (sym same ∙ ap (standing_at n) here) | inr old ↦ inl (old, ends, same) ])
-      (listing_insert standing_cmp standings_total standings_exact (Stands ks n) (arranged n ks) (standing_at n l) (arranged_listing n ks))
+      (λ s (has, ends, same). elim (with_cases ks l s.link has)
+      [ inl here ↦ inr (sym same ∙ ap (sided_link_at n) here) | inr old ↦ inl (old, ends, same) ])
+      (listing_insert sided_link_cmp sided_links_total sided_links_exact (CoversSide ks n) (sorted_row n ks)
+      (sided_link_at n l) (arranged_listing n ks))
 
-  arranged_with_other : (HasEnd n l → ⊥) → arranged n (with_key ks l) ≡ arranged n ks
+  arranged_with_other : (HasEnd n l → ⊥) → sorted_row n (with_key ks l) ≡ sorted_row n ks
   arranged_with_other off =
-      same_arranged n (with_key ks l) (Stands ks n) (arranged n ks)
+      same_arranged n (with_key ks l) (CoversSide ks n) (sorted_row n ks)
       (λ s (has, ends, same). (with_old ks l s.link has, ends, same))
-      (λ s (has, ends, same). (elim (with_cases ks l s.link has) [ inl here ↦ absurd (off (subst (HasEnd n) here ends)) | inr old ↦ old ], ends, same))
+      (λ s (has, ends, same). (
+        elim (with_cases ks l s.link has) [ inl here ↦ absurd (off (subst (HasEnd n) here ends)) | inr old ↦ old ],
+        ends,
+        same,
+      ))
       (arranged_listing n ks)
 
-  arranged_without : IsSorted ks → arranged n (without_key l ks) ≡ remove_key (is_at (standing_cmp (standing_at n l))) (arranged n ks)
+  arranged_without : IsSorted ks → sorted_row n (without_key l ks)
+      ≡ remove_key (is_at (sided_link_cmp (sided_link_at n l))) (sorted_row n ks)
   arranged_without sorted =
-      same_arranged n (without_key l ks) (λ s. Stands ks n s × (s ≢ standing_at n l)) (remove_key (is_at (standing_cmp (standing_at n l))) (arranged n ks))
-      (λ s ((has, ends, same), apart). (without_old ks l s.link has (λ e. apart (sym same ∙ ap (standing_at n) e)), ends, same))
-      (λ s (has, ends, same). let old = without_cases ks l s.link sorted has in ((old.0, ends, same), λ e. old.1 (ap (λ (w : Standing). w.link) e)))
-      (listing_remove standing_cmp standings_total standings_exact (Stands ks n) (arranged n ks) (standing_at n l) (arranged_listing n ks))
+      same_arranged n (without_key l ks) (λ s. CoversSide ks n s × (s ≢ sided_link_at n l))
+      (remove_key (is_at (sided_link_cmp (sided_link_at n l))) (sorted_row n ks))
+      (λ s ((has, ends, same), apart). (
+        without_old ks l s.link has (λ e. apart (sym same ∙ ap (sided_link_at n) e)),
+        ends,
+        same,
+      ))
+      (λ s (has, ends, same). let old = without_cases ks l s.link sorted has in
+      ((old.0, ends, same), λ e. old.1 (ap (λ (w : SidedLink). w.link) e)))
+      (listing_remove sided_link_cmp sided_links_total sided_links_exact (CoversSide ks n) (sorted_row n ks)
+      (sided_link_at n l) (arranged_listing n ks))
 
-  arranged_without_other : IsSorted ks → (HasEnd n l → ⊥) → arranged n (without_key l ks) ≡ arranged n ks
+  arranged_without_other : IsSorted ks → (HasEnd n l → ⊥) → sorted_row n (without_key l ks) ≡ sorted_row n ks
   arranged_without_other sorted off =
-      same_arranged n (without_key l ks) (Stands ks n) (arranged n ks)
+      same_arranged n (without_key l ks) (CoversSide ks n) (sorted_row n ks)
       (λ s (has, ends, same). (without_old ks l s.link has (λ e. off (subst (HasEnd n) e ends)), ends, same))
       (λ s (has, ends, same). ((without_cases ks l s.link sorted has).0, ends, same))
       (arranged_listing n ks)
 
-pub standings_sorted : (links : Links) (n : ℕ) → IsStrictlySortedBy standing_cmp (standings_at links n)
-standings_sorted links n = (arranged_listing n (listed links)).rises
+pub sided_links_sorted : (links : Links) (n : ℕ) → IsStrictlySortedBy sided_link_cmp (sided_links_at links n)
+sided_links_sorted links n = (arranged_listing n (sorted_links links)).rises
 
-pub standings_from : (links : Links) (n : ℕ) (s : Standing) → Contains (standings_at links n) s → HeldIn links s.link × HasEnd n s.link × (standing_at n s.link ≡ s)
-standings_from links n s has = let is = (arranged_listing n (listed links)).sound s has in (held_of_listed links s.link is.0, is.1, is.2)
+pub sided_links_from : (links : Links) (n : ℕ) (s : SidedLink) → Contains (sided_links_at links n) s
+    → HeldIn links s.link × HasEnd n s.link × (sided_link_at n s.link ≡ s)
+sided_links_from links n s has = let is = (arranged_listing n (sorted_links links)).sound s has in
+    (held_of_listed links s.link is.0, is.1, is.2)
 
-pub standings_to : (links : Links) (n : ℕ) (l : Link) → HeldIn links l → HasEnd n l → Contains (standings_at links n) (standing_at n l)
-standings_to links n l held ends = (arranged_listing n (listed links)).complete (standing_at n l) (listed_held links l held, ends, refl)
+pub sided_links_to : (links : Links) (n : ℕ) (l : Link) → HeldIn links l → HasEnd n l
+    → Contains (sided_links_at links n) (sided_link_at n l)
+sided_links_to links n l held ends = (arranged_listing n (sorted_links links)).complete (sided_link_at n l)
+    (listed_held links l held, ends, refl)
 
-abbrev link_of : Standing → Link
+abbrev link_of : SidedLink → Link
 link_of s = s.link
 
 pub links_at_from : (links : Links) (n : ℕ) (l : Link) → Contains (links_at links n) l → HeldIn links l × HasEnd n l
 links_at_from links n l has =
-    let from = Contains-from_map link_of (standings_at links n) l has in
-    let is = standings_from links n from.0 from.1 in
+    let from = Contains-from_map link_of (sided_links_at links n) l has in
+    let is = sided_links_from links n from.0 from.1 in
     subst (λ (w : Link). HeldIn links w × HasEnd n w) from.2 (is.0, is.1)
 
 pub links_at_to : (links : Links) (n : ℕ) (l : Link) → HeldIn links l → HasEnd n l → Contains (links_at links n) l
-links_at_to links n l held ends = Contains-map link_of (standings_at links n) (standing_at n l) (standings_to links n l held ends)
+links_at_to links n l held ends = Contains-map link_of (sided_links_at links n) (sided_link_at n l)
+    (sided_links_to links n l held ends)
 
--- the links that stand at two places differ
-links_once : (links : Links) (n : ℕ) (i j : ℕ) (d : Link) → i < j → j < length (links_at links n) → get_or (links_at links n) i d ≢ get_or (links_at links n) j d
+-- The links at different places of a row differ.
+links_once : (links : Links) (n : ℕ) (i j : ℕ) (d : Link) → i < j → j < length (links_at links n)
+    → get_or (links_at links n) i d ≢ get_or (links_at links n) j d
 links_once links n i j d lt within same =
-    never_below_itself standing_cmp standings_total (get_or (standings_at links n) i (standing_at n d))
-    (subst (λ (s : Standing). standing_cmp (get_or (standings_at links n) i (standing_at n d)) s ≡ Less) (sym one)
-    (Less-from_sorted standing_cmp (standings_at links n) i j (standing_at n d) (standings_sorted links n) lt inside))
+    never_below_itself sided_link_cmp sided_links_total (get_or (sided_links_at links n) i (sided_link_at n d))
+    (subst (λ (s : SidedLink). sided_link_cmp (get_or (sided_links_at links n) i (sided_link_at n d)) s ≡ Less)
+    (sym one)
+    (Less-from_sorted sided_link_cmp (sided_links_at links n) i j (sided_link_at n d) (sided_links_sorted links n) lt
+    inside))
   where
-    inside : j < length (standings_at links n)
-    inside = let P : ℕ → Type 0 = λ k. j < k in subst P (length-map (standings_at links n) link_of) within
+    inside : j < length (sided_links_at links n)
+    inside = let P : ℕ → Type 0 = λ k. j < k in subst P (length-map (sided_links_at links n) link_of) within
 
-    at : (k : ℕ) → k < length (standings_at links n) → standing_at n (get_or (links_at links n) k d) ≡ get_or (standings_at links n) k (standing_at n d)
+    at : (k : ℕ) → k < length (sided_links_at links n) → sided_link_at n (get_or (links_at links n) k d)
+        ≡ get_or (sided_links_at links n) k (sided_link_at n d)
     at k lt =
-        ap (standing_at n) (get_or-map link_of (standings_at links n) k (standing_at n d) d lt)
-        ∙ (standings_from links n (get_or (standings_at links n) k (standing_at n d)) (k, lt, get_or_default (standings_at links n) k _ (standing_at n d) lt)).2
+        ap (sided_link_at n) (get_or-map link_of (sided_links_at links n) k (sided_link_at n d) d lt)
+        ∙ (sided_links_from links n (get_or (sided_links_at links n) k (sided_link_at n d))
+        (k, lt, get_or_default (sided_links_at links n) k _ (sided_link_at n d) lt)).2
 
-    one : get_or (standings_at links n) i (standing_at n d) ≡ get_or (standings_at links n) j (standing_at n d)
-    one = let last : j < length (standings_at links n) = inside in sym (at i (omega arith)) ∙ ap (standing_at n) same ∙ at j last
+    one : get_or (sided_links_at links n) i (sided_link_at n d) ≡ get_or (sided_links_at links n) j (sided_link_at n d)
+    one = let last : j < length (sided_links_at links n) = inside in sym (at i (omega arith))
+        ∙ ap (sided_link_at n) same ∙ at j last
 
 pub IsRow-links_at : (links : Links) (n : ℕ) → IsRow links n (links_at links n)
-IsRow-links_at links n = record { sound = links_at_from links n; complete = links_at_to links n; once = links_once links n }
+IsRow-links_at links n = record {
+  sound = links_at_from links n;
+  complete = links_at_to links n;
+  once =
+      links_once links n;
+}
 
--- what a row has is what the set has
-pub row_is : (ks : List Link) (n : ℕ) → IsSorted ks → arranged n ks ≡ standings_at (from_list ks) n
-row_is ks n sorted = ap (arranged n) (sym (listed_is ks sorted))
+-- The row of a sorted list is the row of its set.
+pub row_is : (ks : List Link) (n : ℕ) → IsSorted ks → sorted_row n ks ≡ sided_links_at (from_list ks) n
+row_is ks n sorted = ap (sorted_row n) (sym (listed_is ks sorted))
 
--- what the set's own order has put in
-pub with_computed : (ks : List Link) (l : Link) (keys : List Link) → keys ≡ insert_key computed ks l → keys ≡ with_key ks l
-with_computed ks l keys is = let P : (Link → Link → Ordering) → Type 0 = λ cmp. keys ≡ insert_key cmp ks l in subst P computed_is is
+-- An insertion or removal by the derived order is one by the defined order.
+pub with_computed : (ks : List Link) (l : Link) (keys : List Link) → keys ≡ insert_key derived_link_cmp ks l → keys
+    ≡ with_key ks l
+with_computed ks l keys is = let P : (Link → Link → Ordering) → Type 0 = λ cmp. keys ≡ insert_key cmp ks l in
+    subst P derived_link_cmp_is is
 
-pub without_computed : (ks : List Link) (l : Link) (keys : List Link) → keys ≡ remove_key (is_at (computed l)) ks → keys ≡ without_key l ks
-without_computed ks l keys is = let P : (Link → Link → Ordering) → Type 0 = λ cmp. keys ≡ remove_key (is_at (cmp l)) ks in subst P computed_is is
+pub without_computed : (ks : List Link) (l : Link) (keys : List Link) → keys ≡ remove_key (is_at (derived_link_cmp l))
+    ks → keys ≡ without_key l ks
+without_computed ks l keys is = let P : (Link → Link → Ordering) → Type 0 = λ cmp. keys ≡ remove_key (is_at (cmp l))
+    ks in subst P derived_link_cmp_is is
 
--- a look-up in the keys is one in the set
-pub looked_up : (ks : List Link) (l : Link) (b : Bool) → b ≡ list_any (λ k. is_eq (computed l k)) ks → b ≡ contains (from_list {R = link_cmp} ks) l
-looked_up ks l b e =
-    (let P : (Link → Link → Ordering) → Type 0 = λ cmp. b ≡ list_any (λ k. is_eq (cmp l k)) ks in subst P computed_is e)
+-- A look-up among the keys is a look-up in the set.
+pub lookup_in_keys : (ks : List Link) (l : Link) (b : Bool) → b ≡ list_any (λ k. is_eq (derived_link_cmp l k)) ks → b
+    ≡ contains (from_list {R = link_cmp} ks) l
+lookup_in_keys ks l b e =
+    (let P : (Link → Link → Ordering) → Type 0 = λ cmp. b ≡ list_any (λ k. is_eq (cmp l k)) ks in
+    subst P derived_link_cmp_is e)
     ∙ sym (contains-from_list links_total ks l)
 
--- the set after a key was put in or taken out
+-- The set of the keys after an insertion or a removal.
 
 pub from_list_with : (ks : List Link) (l : Link) → from_list (with_key ks l) ≡ insert (from_list {R = link_cmp} ks) l
 from_list_with ks l = same_links (from_list (with_key ks l)) (insert (from_list ks) l) to from
@@ -266,53 +325,65 @@ from_list_with ks l = same_links (from_list (with_key ks l)) (insert (from_list 
       | inr old ↦ with_old ks l m (listed_of_held ks m old)
     ])
 
-pub from_list_without : (ks : List Link) (l : Link) → IsSorted ks → from_list (without_key l ks) ≡ remove (from_list {R = link_cmp} ks) l
+pub from_list_without : (ks : List Link) (l : Link) → IsSorted ks → from_list (without_key l ks)
+    ≡ remove (from_list {R = link_cmp} ks) l
 from_list_without ks l sorted = same_links (from_list (without_key l ks)) (remove (from_list ks) l) to from
   where
     to : (m : Link) → HeldIn (from_list (without_key l ks)) m → HeldIn (remove (from_list ks) l) m
-    to m held = let c = without_cases ks l m sorted (listed_of_held (without_key l ks) m held) in remove_keeps_link (from_list ks) l m c.1 (held_from_list ks m c.0)
+    to m held = let c = without_cases ks l m sorted (listed_of_held (without_key l ks) m held) in
+        remove_keeps_link (from_list ks) l m c.1 (held_from_list ks m c.0)
 
     from : (m : Link) → HeldIn (remove (from_list ks) l) m → HeldIn (from_list (without_key l ks)) m
-    from m held = let c = removed_cases (from_list ks) l m held in held_from_list (without_key l ks) m (without_old ks l m (listed_of_held ks m c.1) c.0)
+    from m held = let c = removed_cases (from_list ks) l m held in
+        held_from_list (without_key l ks) m (without_old ks l m (listed_of_held ks m c.1) c.0)
 
--- the rows after a change at both ends of a link
+-- The rows after a change at both ends of a link.
 
-module _ (op : List Standing → Standing → List Standing) (ks later : List Link) (old one both : Lists Standing) (l : Link) (two : l.a ≢ l.b)
-    (first : ChangesAt old one l.a (op (listed_at old l.a) (standing_at l.a l))) (second : ChangesAt one both l.b (op (listed_at one l.b) (standing_at l.b l)))
-    (was : (n : ℕ) → listed_at old n ≡ arranged n ks) (here : (n : ℕ) → HasEnd n l → arranged n later ≡ op (arranged n ks) (standing_at n l))
-    (others : (n : ℕ) → (HasEnd n l → ⊥) → arranged n later ≡ arranged n ks) where
-  rows_changed : (n : ℕ) → listed_at both n ≡ arranged n later
+module _ (op : List SidedLink → SidedLink → List SidedLink) (ks later : List Link) (old one both : Lists SidedLink)
+    (l : Link) (two : l.a ≢ l.b)
+    (first : ChangesOnlyAt old one l.a (op (listed_at old l.a) (sided_link_at l.a l)))
+    (second : ChangesOnlyAt one both l.b (op (listed_at one l.b) (sided_link_at l.b l)))
+    (was : (n : ℕ) → listed_at old n ≡ sorted_row n ks) (here : (n : ℕ) → HasEnd n l → sorted_row n later
+    ≡ op (sorted_row n ks) (sided_link_at n l))
+    (others : (n : ℕ) → (HasEnd n l → ⊥) → sorted_row n later ≡ sorted_row n ks) where
+  -- If the rows at both ends of a link have changed as the list has, all rows fit the new list.
+  rows_changed : (n : ℕ) → listed_at both n ≡ sorted_row n later
   rows_changed n = go (cases_eq l.a n) (cases_eq l.b n)
     where
-      at_a : listed_at both l.a ≡ arranged l.a later
-      at_a = second.others l.a two ∙ first.here ∙ ap (λ row. op row (standing_at l.a l)) (was l.a) ∙ sym (here l.a (inl refl))
+      at_a : listed_at both l.a ≡ sorted_row l.a later
+      at_a = second.others l.a two ∙ first.here ∙ ap (λ row. op row (sided_link_at l.a l)) (was l.a)
+          ∙ sym (here l.a (inl refl))
 
-      at_b : listed_at both l.b ≡ arranged l.b later
-      at_b = second.here ∙ ap (λ row. op row (standing_at l.b l)) (first.others l.b (λ e. two (sym e)) ∙ was l.b) ∙ sym (here l.b (inr refl))
+      at_b : listed_at both l.b ≡ sorted_row l.b later
+      at_b = second.here ∙ ap (λ row. op row (sided_link_at l.b l)) (first.others l.b (λ e. two (sym e)) ∙ was l.b)
+          ∙ sym (here l.b (inr refl))
 
-      go : (l.a ≡ n) ⊎ (l.a ≢ n) → (l.b ≡ n) ⊎ (l.b ≢ n) → listed_at both n ≡ arranged n later
-      go (inl a) _ = subst (λ (k : ℕ). listed_at both k ≡ arranged k later) a at_a
-      go (inr _) (inl b) = subst (λ (k : ℕ). listed_at both k ≡ arranged k later) b at_b
+      go : (l.a ≡ n) ⊎ (l.a ≢ n) → (l.b ≡ n) ⊎ (l.b ≢ n) → listed_at both n ≡ sorted_row n later
+      go (inl a) _ = subst (λ (k : ℕ). listed_at both k ≡ sorted_row k later) a at_a
+      go (inr _) (inl b) = subst (λ (k : ℕ). listed_at both k ≡ sorted_row k later) b at_b
       go (inr a) (inr b) =
           second.others n (λ e. b (sym e)) ∙ first.others n (λ e. a (sym e)) ∙ was n
           ∙ sym (others n (λ at. elim at [ inl e ↦ a e | inr e ↦ b e ]))
 
--- how many links a set has
+-- A set has as many links as its list of keys.
 pub len_is : (ks : List Link) → IsSorted ks → len (from_list {R = link_cmp} ks) ≡ length ks
 len_is [] sorted = len-empty link_cmp
 len_is (k ∷ ks) sorted =
     len-insert links_total (from_list ks) k
-    ∙ ap (λ b. cond b (len (from_list {R = link_cmp} ks)) (len (from_list {R = link_cmp} ks) + 1)) (false_from_ne_true (contains (from_list {R = link_cmp} ks) k) absent)
+    ∙ ap (λ b. cond b (len (from_list {R = link_cmp} ks)) (len (from_list {R = link_cmp} ks) + 1))
+    (false_from_ne_true (contains (from_list {R = link_cmp} ks) k) absent)
     ∙ one_more (len_is ks (sorted_tail link_cmp k ks sorted))
   where
     absent : HeldIn (from_list ks) k → ⊥
-    absent held = never_below_itself link_cmp links_total k (above_head link_cmp k ks k sorted (Has-from ks k (listed_of_held ks k held)))
+    absent held = never_below_itself link_cmp links_total k
+        (above_head link_cmp k ks k sorted (Has-from ks k (listed_of_held ks k held)))
 
     one_more : len (from_list {R = link_cmp} ks) ≡ length ks → len (from_list {R = link_cmp} ks) + 1 ≡ length (k ∷ ks)
     one_more e = omega arith
 
--- no links
-pub IsIndexed-none : (ks : List Link) (rows : Lists Standing) (outside : List ℕ) → ks ≡ [] → ((n : ℕ) → listed_at rows n ≡ []) → IsIndexed ks rows outside
+-- The index of no links.
+pub IsIndexed-none : (ks : List Link) (rows : Lists SidedLink) (outside : List ℕ) → ks ≡ []
+    → ((n : ℕ) → listed_at rows n ≡ []) → IsIndexed ks rows outside
 IsIndexed-none ks rows outside none no_rows =
     subst (λ (xs : List Link). IsIndexed xs rows outside) (sym none) (record {
       ordered = sorted_none link_cmp;
@@ -321,36 +392,57 @@ IsIndexed-none ks rows outside none no_rows =
       rows = no_rows;
     })
 
--- rows that have the same links
-pub IsIndexed-same : (ks : List Link) (outside : List ℕ) (old new : Lists Standing) → AreSame old new → IsIndexed ks old outside → IsIndexed ks new outside
-IsIndexed-same ks outside old new same index = record { ordered = index.ordered; two_ends = index.two_ends; normal = index.normal; rows = λ n. same n ∙ index.rows n }
+-- The index stays correct if the rows keep their values.
+pub IsIndexed-same : (ks : List Link) (outside : List ℕ) (old new : Lists SidedLink) → HaveSameValues old new
+    → IsIndexed ks old outside → IsIndexed ks new outside
+IsIndexed-same ks outside old new same index = record {
+  ordered = index.ordered;
+  two_ends = index.two_ends;
+  normal =
+      index.normal;
+  rows = λ n. same n ∙ index.rows n;
+}
 
-module _ (ks : List Link) (outside : List ℕ) (old : Lists Standing) (index : IsIndexed ks old outside) where
-  pub row_sorted : (n : ℕ) → IsStrictlySortedBy arranging (listed_at old n)
+module _ (ks : List Link) (outside : List ℕ) (old : Lists SidedLink) (index : IsIndexed ks old outside) where
+  pub row_sorted : (n : ℕ) → IsStrictlySortedBy derived_sided_cmp (listed_at old n)
   row_sorted n =
-      let P : (Standing → Standing → Ordering) → Type 0 = λ cmp. IsStrictlySortedBy cmp (listed_at old n) in
-      subst P (sym arranging_is) (subst (IsStrictlySortedBy standing_cmp) (sym (index.rows n)) (arranged_listing n ks).rises)
+      let P : (SidedLink → SidedLink → Ordering) → Type 0 = λ cmp. IsStrictlySortedBy cmp (listed_at old n) in
+      subst P (sym derived_sided_cmp_is) (subst (IsStrictlySortedBy sided_link_cmp) (sym (index.rows n))
+      (arranged_listing n ks).rises)
 
-  -- the second of two ends has its row as it was
-  pub other_sorted : (new : Lists Standing) (a b : ℕ) (row : List Standing) → a ≢ b → ChangesAt old new a row → IsStrictlySortedBy arranging (listed_at new b)
-  other_sorted new a b row two changes = subst (IsStrictlySortedBy arranging) (sym (changes.others b (λ e. two (sym e)))) (row_sorted b)
+  -- A change at one end of a link leaves the row at its other end sorted.
+  pub other_sorted : (new : Lists SidedLink) (a b : ℕ) (row : List SidedLink) → a ≢ b → ChangesOnlyAt old new a row
+      → IsStrictlySortedBy derived_sided_cmp (listed_at new b)
+  other_sorted new a b row two changes = subst (IsStrictlySortedBy derived_sided_cmp)
+      (sym (changes.others b (λ e. two (sym e)))) (row_sorted b)
 
-  -- a graph with one link more, and with one less
-  module _ (one both : Lists Standing) (l : Link) (s t : Standing) (at_a : s ≡ standing_at l.a l) (at_b : t ≡ standing_at l.b l) (two : l.a ≢ l.b) (keys : List Link) where
-    module _ (op : (Standing → Standing → Ordering) → List Standing → Standing → List Standing)
-        (first : ChangesAt old one l.a (op arranging (listed_at old l.a) s)) (second : ChangesAt one both l.b (op arranging (listed_at one l.b) t)) where
-      first_as : ChangesAt old one l.a (op standing_cmp (listed_at old l.a) (standing_at l.a l))
+  -- The index after an insertion or a removal of a link at both its ends.
+  module _ (one both : Lists SidedLink) (l : Link) (s t : SidedLink) (at_a : s ≡ sided_link_at l.a l)
+      (at_b : t ≡ sided_link_at l.b l) (two : l.a ≢ l.b) (keys : List Link) where
+    module _ (op : (SidedLink → SidedLink → Ordering) → List SidedLink → SidedLink → List SidedLink)
+        (first : ChangesOnlyAt old one l.a (op derived_sided_cmp (listed_at old l.a) s))
+        (second : ChangesOnlyAt one both l.b (op derived_sided_cmp (listed_at one l.b) t)) where
+      first_as : ChangesOnlyAt old one l.a (op sided_link_cmp (listed_at old l.a) (sided_link_at l.a l))
       first_as =
-          let P : (Standing → Standing → Ordering) → Type 0 = λ cmp. ChangesAt old one l.a (op cmp (listed_at old l.a) (standing_at l.a l)) in
-          subst P arranging_is (subst (λ (w : Standing). ChangesAt old one l.a (op arranging (listed_at old l.a) w)) at_a first)
+          let P : (SidedLink → SidedLink → Ordering) → Type 0 =
+          λ cmp. ChangesOnlyAt old one l.a (op cmp (listed_at old l.a) (sided_link_at l.a l)) in
+          subst P derived_sided_cmp_is
+          (subst (λ (w : SidedLink). ChangesOnlyAt old one l.a (op derived_sided_cmp (listed_at old l.a) w)) at_a
+          first)
 
-      second_as : ChangesAt one both l.b (op standing_cmp (listed_at one l.b) (standing_at l.b l))
+      second_as : ChangesOnlyAt one both l.b (op sided_link_cmp (listed_at one l.b) (sided_link_at l.b l))
       second_as =
-          let P : (Standing → Standing → Ordering) → Type 0 = λ cmp. ChangesAt one both l.b (op cmp (listed_at one l.b) (standing_at l.b l)) in
-          subst P arranging_is (subst (λ (w : Standing). ChangesAt one both l.b (op arranging (listed_at one l.b) w)) at_b second)
+          let P : (SidedLink → SidedLink → Ordering) → Type 0 =
+          λ cmp. ChangesOnlyAt one both l.b (op cmp (listed_at one l.b) (sided_link_at l.b l)) in
+          subst P derived_sided_cmp_is
+          (subst (λ (w : SidedLink). ChangesOnlyAt one both l.b (op derived_sided_cmp (listed_at one l.b) w)) at_b
+          second)
 
-    pub IsIndexed-added : norm (contains (from_list {R = nat_cmp} outside)) l ≡ l → keys ≡ insert_key computed ks l
-        → ChangesAt old one l.a (insert_key arranging (listed_at old l.a) s) → ChangesAt one both l.b (insert_key arranging (listed_at one l.b) t) → IsIndexed keys both outside
+    -- The index is correct after the insertion of a new link at both its ends.
+    pub IsIndexed-added : normal_form (contains (from_list {R = nat_cmp} outside)) l ≡ l → keys
+        ≡ insert_key derived_link_cmp ks l
+        → ChangesOnlyAt old one l.a (insert_key derived_sided_cmp (listed_at old l.a) s) → ChangesOnlyAt one both l.b
+        (insert_key derived_sided_cmp (listed_at one l.b) t) → IsIndexed keys both outside
     IsIndexed-added is_normal is first second =
         subst (λ (xs : List Link). IsIndexed xs both outside) (sym (with_computed ks l keys is)) (record {
           ordered = insert_sorted link_cmp links_total ks l index.ordered;
@@ -359,34 +451,45 @@ module _ (ks : List Link) (outside : List ℕ) (old : Lists Standing) (index : I
             | inr was ↦ index.two_ends m (held_from_list ks m was)
           ];
           normal = λ m held. elim (with_cases ks l m (listed_of_held (with_key ks l) m held)) [
-            | inl same ↦ subst (λ (w : Link). norm (contains (from_list {R = nat_cmp} outside)) w ≡ w) (sym same) is_normal
+            | inl same ↦ subst (λ (w : Link). normal_form (contains (from_list {R = nat_cmp} outside)) w ≡ w)
+                (sym same) is_normal
             | inr was ↦ index.normal m (held_from_list ks m was)
           ];
-          rows = rows_changed (insert_key standing_cmp) ks (with_key ks l) old one both l two (first_as insert_key first second) (second_as insert_key first second) index.rows
+          rows = rows_changed (insert_key sided_link_cmp) ks (with_key ks l) old one both l two
+              (first_as insert_key first second) (second_as insert_key first second) index.rows
               (λ n. arranged_with n ks l) (λ n. arranged_with_other n ks l);
         })
 
-    abbrev removed : (Standing → Standing → Ordering) → List Standing → Standing → List Standing
+    abbrev removed : (SidedLink → SidedLink → Ordering) → List SidedLink → SidedLink → List SidedLink
     removed cmp row w = remove_key (is_at (cmp w)) row
 
-    pub IsIndexed-taken : keys ≡ remove_key (is_at (computed l)) ks
-        → ChangesAt old one l.a (remove_key (is_at (arranging s)) (listed_at old l.a)) → ChangesAt one both l.b (remove_key (is_at (arranging t)) (listed_at one l.b)) → IsIndexed keys both outside
+    pub IsIndexed-taken : keys ≡ remove_key (is_at (derived_link_cmp l)) ks
+        → ChangesOnlyAt old one l.a (remove_key (is_at (derived_sided_cmp s)) (listed_at old l.a))
+        → ChangesOnlyAt one both l.b (remove_key (is_at (derived_sided_cmp t)) (listed_at one l.b))
+        → IsIndexed keys both outside
     IsIndexed-taken is first second =
         subst (λ (xs : List Link). IsIndexed xs both outside) (sym (without_computed ks l keys is)) (record {
           ordered = remove_sorted link_cmp links_total ks (is_at (link_cmp l)) index.ordered;
-          two_ends = λ m held. index.two_ends m (held_from_list ks m (without_cases ks l m index.ordered (listed_of_held (without_key l ks) m held)).0);
-          normal = λ m held. index.normal m (held_from_list ks m (without_cases ks l m index.ordered (listed_of_held (without_key l ks) m held)).0);
-          rows = rows_changed (removed standing_cmp) ks (without_key l ks) old one both l two (first_as removed first second) (second_as removed first second) index.rows
+          two_ends =
+              λ m held. index.two_ends m
+              (held_from_list ks m (without_cases ks l m index.ordered (listed_of_held (without_key l ks) m held)).0);
+          normal =
+              λ m held. index.normal m
+              (held_from_list ks m (without_cases ks l m index.ordered (listed_of_held (without_key l ks) m held)).0);
+          rows = rows_changed (removed sided_link_cmp) ks (without_key l ks) old one both l two
+              (first_as removed first second) (second_as removed first second) index.rows
               (λ n at. arranged_without n ks l index.ordered) (λ n. arranged_without_other n ks l index.ordered);
         })
 
--- the keys are all the links of their set
+-- The keys are exactly the links of their set.
 pub AreAll-keys : (ks : List Link) → AreAll (from_list {R = link_cmp} ks) ks
 AreAll-keys ks = record { sound = held_from_list ks; complete = listed_of_held ks }
 
--- what is seen of a graph after a key was put in, whether or not it was there
-pub Net-added : (ks keys : List Link) (outside : FinSet nat_cmp) (net : Net) (l m : Link) → net_of (from_list ks) outside ≡ net → keys ≡ insert_key computed ks l → l ≡ m
+-- The view of a graph after the insertion of a key, whether or not it was there.
+pub Net-added : (ks keys : List Link) (outside : FinSet nat_cmp) (net : Net) (l m : Link)
+    → net_of (from_list ks) outside ≡ net → keys ≡ insert_key derived_link_cmp ks l → l ≡ m
     → net_of (from_list keys) outside ≡ net_of (insert net.links m) net.outside
 Net-added ks keys outside net l m is put same =
-    ap (λ (links : Links). net_of links outside) (ap from_list (with_computed ks l keys put) ∙ from_list_with ks l ∙ ap (insert (from_list ks)) same)
+    ap (λ (links : Links). net_of links outside) (ap from_list (with_computed ks l keys put) ∙ from_list_with ks l
+    ∙ ap (insert (from_list ks)) same)
     ∙ ap (λ (seen : Net). net_of (insert seen.links m) seen.outside) is

@@ -1,15 +1,15 @@
 mod NumberLemmas
-mod MetLemmas
+mod NodeSetLemmas
 mod StepLemmas
 mod ReachLemmas
 pub mod PivotLemmas
 mod WeightLemmas
 mod ReadLemmas
 mod CountLemmas
-mod SightLemmas
+mod EditLemmas
 mod WalkLemmas
 mod ProbeLemmas
-mod JudgeLemmas
+mod EditCheckLemmas
 mod NeighbourhoodLemmas
 pub mod NormLemmas
 pub mod SetLemmas
@@ -19,16 +19,16 @@ mod IndexLemmas
 mod LookUpLemmas
 mod MarkLemmas
 pub mod ChangeLemmas
-mod MovedLemmas
+mod MergeAdditionLemmas
 mod MappingLemmas
 mod ReaderLemmas
 mod WholeLemmas
-mod ClimbLemmas
+mod CycleSearchLemmas
 mod SideLemmas
 mod KindLemmas
-mod TrailLemmas
-mod SpentLemmas
-mod GoesLemmas
-mod MergedLemmas
-mod BetweenLemmas
-mod TowardsLemmas
+mod SideSearchLemmas
+mod ReadCostLemmas
+mod AdvanceLemmas
+mod MergeStepLemmas
+mod UpwardLinkLemmas
+mod PairedSearchLemmas

@@ -1,42 +1,50 @@
--- The resources marked as outside concepts.
-use Rattle.std.proofs.Common.{◌≡◌, ◌≢◌, inl, inr, ℕ, List, Bool, true, cond, ◌&&◌, ◌||◌, nat_lt, if◌then◌else◌, sym, ap, ◌∙◌}
+-- A new mark for an outside concept keeps the index correct, if no link has an end there.
+use Rattle.std.proofs.Common.{◌≡◌, ◌≢◌, inl, inr, ℕ, List, Bool, true, cond, ◌&&◌, ◌||◌, nat_lt, if◌then◌else◌, sym}
+use Rattle.std.proofs.Common.{ap, ◌∙◌}
 use Rattle.std.specs.List.{list_any}
 use Rattle.std.specs.Ordering.{nat_cmp, eq_by_cmp}
 use Rattle.std.specs.Cmp.{nat_cmp_total, nat_eq_equiv, unsigned_tied}
-use Rattle.std.specs.FinSet.{FinSet, insert, contains, from_list, same_set, contains-from_list, contains-insert, nat_cmp-IsAntisymmetric}
+use Rattle.std.specs.FinSet.{FinSet, insert, contains, from_list, same_set, contains-from_list, contains-insert}
+use Rattle.std.specs.FinSet.{nat_cmp-IsAntisymmetric}
 use Rattle.std.specs.BTreeMap.{is_at}
 use Rattle.std.proofs.lemmas.Bool.{false_from_ne_true}
 use Rattle.thes_base.specs.declared.data.Link.{Link}
-use Rattle.thes_base.specs.Links.{HeldIn, is_symmetric, exchanged, norm, HasEnd}
+use Rattle.thes_base.specs.Links.{HeldIn, is_symmetric, reversed_link, normal_form, HasEnd}
 use Rattle.thes_lists.specs.declared.lists.Lists.{Lists}
-use Rattle.thes_graph.specs.declared.side.Standing.{Standing}
+use Rattle.thes_graph.specs.declared.side.SidedLink.{SidedLink}
 use Rattle.thes_graph.specs.Index.{IsIndexed}
 use Rattle.thes_graph.proofs.NumberLemmas.{same_of}
 use Rattle.thes_graph.proofs.SetLemmas.{cond-or}
 
--- one more number
-pub from_list_marked : (old new : List ℕ) (n : ℕ) → ((q : ℕ) → list_any (eq_by_cmp nat_cmp q) new ≡ cond (is_at (nat_cmp n) q) true (list_any (eq_by_cmp nat_cmp q) old))
+-- The set of marks after the insertion of a number.
+pub from_list_marked : (old new : List ℕ) (n : ℕ)
+    → ((q : ℕ) → list_any (eq_by_cmp nat_cmp q) new ≡ cond (is_at (nat_cmp n) q) true
+    (list_any (eq_by_cmp nat_cmp q) old))
     → from_list {R = nat_cmp} new ≡ insert (from_list old) n
 from_list_marked old new n updates =
     same_set nat_cmp_total nat_cmp-IsAntisymmetric (from_list new) (insert (from_list old) n)
     (λ q. contains-from_list nat_cmp_total new q ∙ updates q
-    ∙ ap (λ b. cond b true (list_any (eq_by_cmp nat_cmp q) old)) (unsigned_tied n q ∙ nat_eq_equiv.symm n q ∙ sym (unsigned_tied q n))
+    ∙ ap (λ b. cond b true (list_any (eq_by_cmp nat_cmp q) old)) (unsigned_tied n q ∙ nat_eq_equiv.symm n q
+    ∙ sym (unsigned_tied q n))
     ∙ cond-or (eq_by_cmp nat_cmp q n) (list_any (eq_by_cmp nat_cmp q) old)
-    ∙ sym (contains-insert nat_cmp_total (from_list old) n q ∙ ap (λ b. eq_by_cmp nat_cmp q n || b) (contains-from_list nat_cmp_total old q)))
+    ∙ sym (contains-insert nat_cmp_total (from_list old) n q ∙ ap (λ b. eq_by_cmp nat_cmp q n || b)
+    (contains-from_list nat_cmp_total old q)))
 
 still_marked : (s : FinSet nat_cmp) (n q : ℕ) → q ≢ n → contains (insert s n) q ≡ contains s q
 still_marked s n q other =
     contains-insert nat_cmp_total s n q
-    ∙ ap (λ b. b || contains s q) (false_from_ne_true (eq_by_cmp nat_cmp q n) (λ e. other (same_of q n (sym (unsigned_tied q n) ∙ e))))
+    ∙ ap (λ b. b || contains s q)
+    (false_from_ne_true (eq_by_cmp nat_cmp q n) (λ e. other (same_of q n (sym (unsigned_tied q n) ∙ e))))
 
--- the norm asks for the two ends alone
-pub norm_same : (f g : ℕ → Bool) (l : Link) → f l.a ≡ g l.a → f l.b ≡ g l.b → norm f l ≡ norm g l
+-- The normal order of a link depends on whether its two ends are outside concepts, and on nothing else.
+pub norm_same : (f g : ℕ → Bool) (l : Link) → f l.a ≡ g l.a → f l.b ≡ g l.b → normal_form f l ≡ normal_form g l
 norm_same f g l a b =
-    ap (λ o. if is_symmetric (o || f l.b) l.kind && nat_lt l.b l.a then exchanged l else l) a
-    ∙ ap (λ o. if is_symmetric (g l.a || o) l.kind && nat_lt l.b l.a then exchanged l else l) b
+    ap (λ o. if is_symmetric (o || f l.b) l.kind && nat_lt l.b l.a then reversed_link l else l) a
+    ∙ ap (λ o. if is_symmetric (g l.a || o) l.kind && nat_lt l.b l.a then reversed_link l else l) b
 
--- links without an end at n stay as they are kept
-pub IsIndexed-marked : (ks : List Link) (rows : Lists Standing) (old new : List ℕ) (n : ℕ) → IsIndexed ks rows old → from_list {R = nat_cmp} new ≡ insert (from_list old) n
+-- The index stays correct if no link has an end at the new outside concept.
+pub IsIndexed-marked : (ks : List Link) (rows : Lists SidedLink) (old new : List ℕ) (n : ℕ) → IsIndexed ks rows old
+    → from_list {R = nat_cmp} new ≡ insert (from_list old) n
     → ((l : Link) → HeldIn (from_list ks) l → HasEnd n l → ⊥) → IsIndexed ks rows new
 IsIndexed-marked ks rows old new n index is free = record {
   ordered = index.ordered;

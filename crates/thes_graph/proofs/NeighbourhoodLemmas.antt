@@ -1,47 +1,80 @@
--- The neighbourhood of an edit, as thes_base defines it, has all that the walks may read.
+-- The neighbourhood that thes_base defines for a check, an addition or a merge has all links that the searches may
+-- read.
 use Rattle.std.proofs.Common.{◌≡◌, ◌⊎◌, inl, inr, ℕ, List, Bool, Contains, refl, sym}
 use Rattle.std.specs.FinSet.{insert}
 use Rattle.thes_base.specs.declared.data.Link.{Link}
-use Rattle.thes_base.specs.Links.{Links, HeldIn, HasEnd, IsAbove, IsExact, contracted}
-use Rattle.thes_base.specs.Neighbourhood.{Add, Merge, Check}
+use Rattle.thes_base.specs.Links.{Links, HeldIn, HasEnd, IsAbove, IsExactMatch, links_after_merge}
+use Rattle.thes_base.specs.Neighbourhood.{Add, Merge, Recheck}
 use Rattle.thes_base.specs.Neighbourhood as edit
-use Rattle.thes_graph.specs.declared.sight.Sight.TheVariants.{AsHeld, With, Merged}
-use Rattle.thes_graph.specs.Sight.{WouldBe}
+use Rattle.thes_graph.specs.declared.edit.LinkEdit.TheVariants.{NoEdit, WithLink, AfterMerge}
+use Rattle.thes_graph.specs.LinkEdit.{HeldAfter}
 use Rattle.thes_graph.specs.Local.{IsNear}
-use Rattle.thes_graph.specs.Judge.{IsChanged, CoversEdit}
-use Rattle.thes_graph.proofs.NormLemmas.{Says, Says-itself, above_to, exact_to}
+use Rattle.thes_graph.specs.EditChecks.{IsChanged, CoversEdit}
+use Rattle.thes_graph.proofs.NormLemmas.{IsEntailedBy, IsEntailedBy-itself, above_to, exact_to}
 use Rattle.thes_graph.proofs.ContractLemmas.{inserted_to, would_to}
 
--- what is near in links that say the same is near
-near_to : (Would After : Link → Type 0) → ((l : Link) → Would l → (m : Link) × After m × Says l m) → (p n : ℕ) → IsNear Would p n
-    → (n ≡ p) ⊎ IsAbove After p n ⊎ IsAbove After n p ⊎ IsExact After p n
+-- Nodes that are near in some links are near in links that entail these.
+near_to : (Would After : Link → Type 0) → ((l : Link) → Would l → (m : Link) × After m × IsEntailedBy l m) → (p n : ℕ)
+    → IsNear Would p n
+    → (n ≡ p) ⊎ IsAbove After p n ⊎ IsAbove After n p ⊎ IsExactMatch After p n
 near_to Would After to p n (inl (inl same)) = inl (sym same)
 near_to Would After to p n (inl (inr above)) = inr (inl (above_to Would After to p n above))
 near_to Would After to p n (inr (inl below)) = inr (inr (inl (above_to Would After to n p below)))
 near_to Would After to p n (inr (inr alike)) = inr (inr (inr (exact_to Would After to p n alike)))
 
 module _ (is_outside : ℕ → Bool) (held : Links) (ns : List Link) where
-  pub check_neighbourhood : (p : ℕ) → edit.HasNeighbourhood is_outside (Check p) held ns → CoversEdit AsHeld held p ns
+  pub check_neighbourhood : (p : ℕ) → edit.HasNeighbourhood is_outside (Recheck p) held ns → CoversEdit NoEdit held p ns
   check_neighbourhood p has l there n near at = has l (there, near_one near)
     where
-      near_one : IsChanged AsHeld p n ⊎ IsNear (HeldIn held) p n → (e : ℕ) × (m : ℕ) × (e ≡ p) × edit.IsNear is_outside (Check p) held e m × HasEnd m l
+      near_one : IsChanged NoEdit p n ⊎ IsNear (HeldIn held) p n → (e : ℕ) × (m : ℕ) × (e ≡ p)
+          × edit.IsNear is_outside (Recheck p) held e m × HasEnd m l
       near_one (inl same) = (p, n, refl, inl (sym same), at)
-      near_one (inr close) = (p, n, refl, near_to (HeldIn held) (HeldIn held) (λ l h. (l, h, Says-itself l)) p n close, at)
+      near_one (inr close) = (
+        p,
+        n,
+        refl,
+        near_to (HeldIn held) (HeldIn held) (λ l h. (l, h, IsEntailedBy-itself l)) p
+            n close,
+        at,
+      )
 
-  pub add_neighbourhood : (new : Link) → edit.HasNeighbourhood is_outside (Add new) held ns → Contains ns new × CoversEdit (With new) held new.a ns
-  add_neighbourhood new has = (has new (inl refl, (new.a, new.a, refl, inl refl, inl refl)), λ l there n near at. has l (inr there, near_one l n at near))
+  pub add_neighbourhood : (new : Link) → edit.HasNeighbourhood is_outside (Add new) held ns → Contains ns new
+      × CoversEdit (WithLink new) held new.a ns
+  add_neighbourhood new has = (
+    has new (inl refl, (new.a, new.a, refl, inl refl, inl refl)),
+    λ l there n near at.
+        has l (inr there, near_one l n at near),
+  )
     where
-      near_one : (l : Link) (n : ℕ) → HasEnd n l → IsChanged (With new) new.a n ⊎ IsNear (WouldBe (With new) held) new.a n
+      near_one : (l : Link) (n : ℕ) → HasEnd n l → IsChanged (WithLink new) new.a n
+          ⊎ IsNear (HeldAfter (WithLink new) held) new.a n
           → (e : ℕ) × (m : ℕ) × (e ≡ new.a) × edit.IsNear is_outside (Add new) held e m × HasEnd m l
       near_one l n at (inl same) = (new.a, n, refl, inl (sym same), at)
-      near_one l n at (inr close) = (new.a, n, refl, near_to (WouldBe (With new) held) (HeldIn (insert held new)) (inserted_to held new) new.a n close, at)
+      near_one l n at (inr close) = (
+        new.a,
+        n,
+        refl,
+        near_to (HeldAfter (WithLink new) held) (HeldIn (insert held new)) (inserted_to held new)
+            new.a n close,
+        at,
+      )
 
-  pub merge_neighbourhood : (source target : ℕ) → edit.HasNeighbourhood is_outside (Merge source target) held ns → CoversEdit (Merged source target) held target ns
+  pub merge_neighbourhood : (source target : ℕ) → edit.HasNeighbourhood is_outside (Merge source target) held ns
+      → CoversEdit (AfterMerge source target) held target ns
   merge_neighbourhood source target has l there n near at = has l (there, near_one near)
     where
-      near_one : IsChanged (Merged source target) target n ⊎ IsNear (WouldBe (Merged source target) held) target n
-          → (e : ℕ) × (m : ℕ) × ((e ≡ source) ⊎ (e ≡ target)) × edit.IsNear is_outside (Merge source target) held e m × HasEnd m l
+      near_one : IsChanged (AfterMerge source target) target n ⊎ IsNear (HeldAfter (AfterMerge source target) held)
+          target n
+          → (e : ℕ) × (m : ℕ) × ((e ≡ source) ⊎ (e ≡ target)) × edit.IsNear is_outside (Merge source target) held e m
+          × HasEnd m l
       near_one (inl (inl same)) = (n, n, inl (sym same), inl refl, at)
       near_one (inl (inr same)) = (n, n, inr (sym same), inl refl, at)
-      near_one (inr close) =
-          (target, n, inr refl, near_to (WouldBe (Merged source target) held) (HeldIn (contracted is_outside source target held)) (would_to is_outside source target held) target n close, at)
+      near_one (inr close) = (
+        target,
+        n,
+        inr refl,
+        near_to (HeldAfter (AfterMerge source target) held)
+            (HeldIn (links_after_merge is_outside source target held)) (would_to is_outside source target held)
+            target n close,
+        at,
+      )

@@ -1,20 +1,21 @@
--- What a walk from the pivot finds, for each of the three rules.
+-- The checks at the pivot decide the rules there, and read links near the pivot alone.
 use Rattle.std.proofs.Common.{◌≡◌, ◌⊎◌, inl, inr, ℕ, List, [], ◌∷◌, sym, subst, refl, Contains, Some}
 use Rattle.thes_base.specs.declared.data.Link.{Link}
 use Rattle.thes_base.specs.declared.data.Direction.{Direction}
 use Rattle.thes_base.specs.declared.data.Direction.TheVariants.{Forward, Backward, Either, Never}
-use Rattle.thes_base.specs.Links.{broader_way, apart_way, Leads, Path, Chain, IsBroader, IsApart}
-use Rattle.thes_graph.specs.Steps.{turned, Steps, Reaches, Ties}
-use Rattle.thes_graph.specs.Local.{UpTo, InClassOf, NoS46At, IsGathered, IsNear, IsFirstBrokenAt}
+use Rattle.thes_base.specs.Links.{broader_direction, disjoint_direction, LinkLeads, Path, Chain, IsBroader}
+use Rattle.thes_base.specs.Links.{IsDisjointMatch}
+use Rattle.thes_graph.specs.Steps.{reverse_of, Steps, Reaches, Ties}
+use Rattle.thes_graph.specs.Local.{ReachesUp, InClassOf, NoS46At, IsReachableSet, IsNear, IsFirstBrokenAt}
 use Rattle.thes_graph.specs.Reading.{HaveTwoEnds}
-use Rattle.thes_graph.specs.Trail.{IsBrokenBetween}
+use Rattle.thes_graph.specs.SideSearch.{IsBrokenBetween}
 use Rattle.thes_base.specs.declared.fault.Refusal.{Refusal}
 use Rattle.thes_base.specs.declared.fault.Refusal.TheVariants as no
 use Rattle.thes_graph.specs.declared.relation.Relation.TheVariants.{Narrower, Exact, Apart}
 use Rattle.thes_graph.proofs.StepLemmas.{Leads-first}
 use Rattle.thes_graph.proofs.PivotLemmas.{Reaches-turn, Leads-two}
 
--- the last step of a chain
+-- The last step of a path.
 module _ (S : ℕ → ℕ → Type 0) where
   pub Path-last : (x : ℕ) (ms : List ℕ) (z : ℕ) → Path S x ms z → (y : ℕ) × Reaches S x y × S y z
   Path-last x [] z one = (x, inl refl, one)
@@ -25,14 +26,14 @@ module _ (S : ℕ → ℕ → Type 0) where
       front y (inl same) = subst (λ (w : ℕ). Chain S x w) same ([], path.0)
       front y (inr (ns, more)) = (m ∷ ns, (path.0, more))
 
-Leads-turned : (d : Direction) (a b x y : ℕ) → Leads (turned d) a b x y → Leads d a b y x
-Leads-turned Forward a b x y (e, f) = (f, e)
-Leads-turned Backward a b x y (e, f) = (f, e)
-Leads-turned Either a b x y (inl (e, f)) = inr (f, e)
-Leads-turned Either a b x y (inr (e, f)) = inl (f, e)
-Leads-turned Never a b x y h = h
+Leads-reverse_of : (d : Direction) (a b x y : ℕ) → LinkLeads (reverse_of d) a b x y → LinkLeads d a b y x
+Leads-reverse_of Forward a b x y (e, f) = (f, e)
+Leads-reverse_of Backward a b x y (e, f) = (f, e)
+Leads-reverse_of Either a b x y (inl (e, f)) = inr (f, e)
+Leads-reverse_of Either a b x y (inr (e, f)) = inl (f, e)
+Leads-reverse_of Never a b x y h = h
 
-turned_Leads : (d : Direction) (a b x y : ℕ) → Leads d a b x y → Leads (turned d) a b y x
+turned_Leads : (d : Direction) (a b x y : ℕ) → LinkLeads d a b x y → LinkLeads (reverse_of d) a b y x
 turned_Leads Forward a b x y (e, f) = (f, e)
 turned_Leads Backward a b x y (e, f) = (f, e)
 turned_Leads Either a b x y (inl (e, f)) = inr (f, e)
@@ -41,40 +42,43 @@ turned_Leads Never a b x y h = h
 
 module _ (Would : Link → Type 0) (p : ℕ) where
   pub narrower_from : (x y : ℕ) → Steps Narrower Would x y → IsBroader Would y x
-  narrower_from x y (l, would, leads) = (l, would, Leads-turned (broader_way l.kind) l.a l.b x y leads)
+  narrower_from x y (l, would, leads) = (l, would, Leads-reverse_of (broader_direction l.kind) l.a l.b x y leads)
 
   pub narrower_to : (x y : ℕ) → IsBroader Would x y → Steps Narrower Would y x
-  narrower_to x y (l, would, leads) = (l, would, turned_Leads (broader_way l.kind) l.a l.b x y leads)
+  narrower_to x y (l, would, leads) = (l, would, turned_Leads (broader_direction l.kind) l.a l.b x y leads)
 
-  pub below_from : (x : ℕ) → Reaches (Steps Narrower Would) p x → UpTo Would x p
+  pub below_from : (x : ℕ) → Reaches (Steps Narrower Would) p x → ReachesUp Would x p
   below_from x = Reaches-turn (Steps Narrower Would) (IsBroader Would) narrower_from p x
 
-  pub below_to : (x : ℕ) → UpTo Would x p → Reaches (Steps Narrower Would) p x
+  pub below_to : (x : ℕ) → ReachesUp Would x p → Reaches (Steps Narrower Would) p x
   below_to x = Reaches-turn (IsBroader Would) (Steps Narrower Would) narrower_to x p
 
-  module _ (same : List ℕ) (links : List Link) (alike : IsGathered Would Exact p same links) where
-    pub s46_found : (l : Link) × Contains links l × Ties Apart l same same → (x : ℕ) × (y : ℕ) × InClassOf Would p x × InClassOf Would p y × IsApart Would x y
-    s46_found (l, has, (x, y, in_x, in_y, leads)) = (x, y, alike.reach.sound x in_x, alike.reach.sound y in_y, (l, alike.sound l has, leads))
+  module _ (same : List ℕ) (links : List Link) (alike : IsReachableSet Would Exact p same links) where
+    pub s46_found : (l : Link) × Contains links l × Ties Apart l same same → (x : ℕ) × (y : ℕ) × InClassOf Would p x
+        × InClassOf Would p y × IsDisjointMatch Would x y
+    s46_found (l, has, (x, y, in_x, in_y, leads)) =
+        (x, y, alike.reach.sound x in_x, alike.reach.sound y in_y, (l, alike.sound l has, leads))
 
     pub s46_none : ((l : Link) → Contains links l → Ties Apart l same same → ⊥) → NoS46At Would p
     s46_none none x y to from (l, would, leads) =
         let in_x : Contains same x = alike.reach.complete x to in
-        none l (alike.complete l would x in_x (Leads-first (apart_way l.kind) l.a l.b x y leads))
+        none l (alike.complete l would x in_x (Leads-first (disjoint_direction l.kind) l.a l.b x y leads))
         (x, y, in_x, alike.reach.complete y from, leads)
 
-  -- a class of one
+  -- A class of one node breaks S46 nowhere.
   pub class_alone : HaveTwoEnds Would → ((y : ℕ) → Steps Exact Would p y → ⊥) → NoS46At Would p
   class_alone two none x y to from (l, would, leads) =
-      let P : ℕ → ℕ → Type 0 = λ a b. Leads (apart_way l.kind) l.a l.b a b in
-      Leads-two (apart_way l.kind) l.a l.b p (two l would) (subst (λ a. P a p) (sym (at x to)) (subst (P x) (sym (at y from)) leads))
+      let P : ℕ → ℕ → Type 0 = λ a b. LinkLeads (disjoint_direction l.kind) l.a l.b a b in
+      Leads-two (disjoint_direction l.kind) l.a l.b p (two l would)
+      (subst (λ a. P a p) (sym (at x to)) (subst (P x) (sym (at y from)) leads))
     where
       at : (z : ℕ) → InClassOf Would p z → p ≡ z
       at z (inl same) = same
       at z (inr ([], one)) = absurd (none z one)
       at z (inr (m ∷ ms, path)) = absurd (none m path.0)
 
-  -- what the walks meet is near
-  pub near_pivot : (n : ℕ) → UpTo Would n p ⊎ UpTo Would p n → IsNear Would p n
+  -- The nodes that the searches from the pivot meet are near it.
+  pub near_pivot : (n : ℕ) → ReachesUp Would n p ⊎ ReachesUp Would p n → IsNear Would p n
   near_pivot n (inl (inl same)) = inl (inl (sym same))
   near_pivot n (inl (inr chain)) = inr (inl chain)
   near_pivot n (inr up) = inl up

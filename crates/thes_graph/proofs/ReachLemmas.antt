@@ -1,5 +1,6 @@
--- The nodes that a walk met are those that the relation reaches.
-use Rattle.std.proofs.Common.{◌≡◌, ℕ, zero, suc, ◌+◌, ◌<◌, ◌≤◌, inl, inr, List, [], ◌∷◌, length, get_or, Contains, nat_eq, refl, sym, subst, ◌∙◌, arith, below_more}
+-- The nodes that are collected step by step are exactly those that the relation reaches from the start.
+use Rattle.std.proofs.Common.{◌≡◌, ℕ, zero, suc, ◌+◌, ◌<◌, ◌≤◌, inl, inr, List, [], ◌∷◌, length, get_or, Contains}
+use Rattle.std.proofs.Common.{nat_eq, refl, sym, subst, ◌∙◌, arith, below_more}
 use Rattle.std.specs.List.{IsDistinct}
 use Rattle.std.proofs.lemmas.List.{get_or_append_left, get_or_default}
 use Rattle.std.proofs.lemmas.List.Elements.{Contains-append_left, Contains-get_or}
@@ -7,10 +8,10 @@ use Rattle.thes_base.specs.Links.{Path}
 use Rattle.thes_graph.specs.Steps.{Reaches, IsReachOf, IsClosedBelow, GrowsBy}
 use Rattle.thes_graph.proofs.PivotLemmas.{Reaches-then_chain}
 
--- a list of one has nothing else
-pub only : {X : Type 0} → (x y : X) → Contains (x ∷ []) y → x ≡ y
-only x y (zero, lt, e) = e
-only x y (suc k, lt, e) = absurd (omega arith)
+-- A list of one item has no other.
+pub no_others : {X : Type 0} → (x y : X) → Contains (x ∷ []) y → x ≡ y
+no_others x y (zero, lt, e) = e
+no_others x y (suc k, lt, e) = absurd (omega arith)
 
 module _ (S : ℕ → ℕ → Type 0) where
   pub Reaches-step : (x y z : ℕ) → Reaches S x y → S y z → Reaches S x z
@@ -24,7 +25,7 @@ module _ (S : ℕ → ℕ → Type 0) where
     pub IsClosedBelow-start : IsClosedBelow S start (start ∷ []) 0
     IsClosedBelow-start = record {
       starts = (0, omega arith, refl);
-      sound = λ y has. inl (only start y has);
+      sound = λ y has. inl (no_others start y has);
       closed = λ k below. absurd (omega arith);
       distinct = distinct_one start;
     }
@@ -33,7 +34,7 @@ module _ (S : ℕ → ℕ → Type 0) where
         → GrowsBy nodes later (S x) → IsClosedBelow S start nodes i → IsClosedBelow S start later (i + 1)
     IsClosedBelow-more nodes later i x within at grows before = record {
       starts = keeps start before.starts;
-      sound = λ y has. elim (grows.only y has) [
+      sound = λ y has. elim (grows.no_others y has) [
         | inl old ↦ before.sound y old
         | inr new ↦ Reaches-step start x y (before.sound x here) new
       ];
@@ -42,21 +43,23 @@ module _ (S : ℕ → ℕ → Type 0) where
     }
       where
         keeps : (y : ℕ) → Contains nodes y → Contains later y
-        keeps y has = rw grows.kept.1 (Contains-append_left nodes grows.kept.0 y has)
+        keeps y has = rw grows.extends.1 (Contains-append_left nodes grows.extends.0 y has)
 
         here : Contains nodes x
         here = subst (λ (w : ℕ). Contains nodes w) (sym at) (Contains-get_or nodes i 0 within)
 
         same : (k : ℕ) → k < length nodes → get_or later k 0 ≡ get_or nodes k 0
-        same k inside = rw grows.kept.1 (get_or_append_left nodes grows.kept.0 0 k inside)
+        same k inside = rw grows.extends.1 (get_or_append_left nodes grows.extends.0 0 k inside)
 
         go : (k : ℕ) → k < i + 1 → (y : ℕ) → S (get_or later k 0) y → Contains later y
         go = below_more (λ k. (y : ℕ) → S (get_or later k 0) y → Contains later y) i
             (λ k lt y leads. let in_nodes : k < length nodes = omega arith in
-            keeps y (before.closed k lt in_nodes y (let P : ℕ → Type 0 = λ w. S w y in subst P (same k in_nodes) leads)))
-            (λ y leads. grows.taken y (let P : ℕ → Type 0 = λ w. S w y in subst P (same i within ∙ sym at) leads))
+            keeps y (before.closed k lt in_nodes y (let P : ℕ → Type 0 = λ w. S w y in
+            subst P (same k in_nodes) leads)))
+            (λ y leads. grows.has_new y (let P : ℕ → Type 0 = λ w. S w y in subst P (same i within ∙ sym at) leads))
 
-    pub IsClosedBelow-end : (nodes : List ℕ) (i : ℕ) → length nodes ≤ i → IsClosedBelow S start nodes i → IsReachOf S start nodes
+    pub IsClosedBelow-end : (nodes : List ℕ) (i : ℕ) → length nodes ≤ i → IsClosedBelow S start nodes i
+        → IsReachOf S start nodes
     IsClosedBelow-end nodes i done all = record {
       sound = all.sound;
       complete = λ y reach. reached y reach;

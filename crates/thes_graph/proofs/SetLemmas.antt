@@ -1,19 +1,19 @@
--- Sets of links by their members: what holds of any set, for links.
+-- Sets of links are equal exactly when they have the same members.
 use Rattle.std.proofs.Common.{◌≡◌, ◌≢◌, ◌||◌, List, Bool, true, false, cond, Contains, refl, subst}
 use Rattle.std.specs.Ordering.{eq_by_cmp}
 use Rattle.std.specs.Cmp.{Equal-is}
 use Rattle.std.specs.FinSet.{insert, remove, items, from_list}
 use Rattle.thes_base.specs.declared.data.Link.{Link}
 use Rattle.thes_base.specs.Links.{Links, link_cmp, HeldIn}
-use Rattle.thes_base.proofs.LinkSets.{links_total, links_exact}
-use Rattle.thes_base.proofs.SetMembers as set
+use Rattle.thes_base.proofs.LinkSetLemmas.{links_total, links_exact}
+use Rattle.thes_base.proofs.SetMemberLemmas as set
 
 pub cond-or : (a b : Bool) → cond a true b ≡ (a || b)
 cond-or true b = refl
 cond-or false b = refl
 
-pub tied : (x y : Link) → eq_by_cmp link_cmp x y ≡ true → x ≡ y
-tied x y e = links_exact x y ((Equal-is (link_cmp x y)).0 e)
+pub same_of_equal_order : (x y : Link) → eq_by_cmp link_cmp x y ≡ true → x ≡ y
+same_of_equal_order x y e = links_exact x y ((Equal-is (link_cmp x y)).0 e)
 
 pub same_links : (s t : Links) → ((m : Link) → HeldIn s m → HeldIn t m) → ((m : Link) → HeldIn t m → HeldIn s m) → s ≡ t
 same_links = set.same_members links_total links_exact

@@ -1,22 +1,28 @@
--- The weight of a list of nodes: the visits that reading each of them costs.
-use Rattle.std.proofs.Common.{◌≡◌, ◌≢◌, ◌+◌, ◌≤◌, inl, inr, ℕ, zero, suc, List, [], ◌∷◌, ◌++◌, length, take, drop, ◌<◌, ap, sym, subst, ◌∙◌, arith, Some, None, slice_get, Contains, AllPairs, sum_by}
+-- The length of a list of distinct items is at most the sum of their weights, if each weighs one or more.
+use Rattle.std.proofs.Common.{◌≡◌, ◌≢◌, ◌+◌, ◌≤◌, inl, inr, ℕ, zero, suc, List, [], ◌∷◌, ◌++◌, length, take, drop}
+use Rattle.std.proofs.Common.{◌<◌, ap, sym, subst, ◌∙◌, arith, Some, None, slice_get, Contains, AllPairs, sum_by}
 use Rattle.std.proofs.lemmas.Option.{slice_get_within, slice_get_cases, get_or_from_slice_get, none-some}
 use Rattle.std.proofs.lemmas.List.{take_more, get_or-take, length-take}
 use Rattle.std.proofs.lemmas.List.Elements.{Contains-append_left, Contains-append_right, Contains-append_cases}
 use Rattle.std.proofs.lemmas.List.Sums.{sum_by-append, sum_by-cons}
-use Rattle.thes_base.proofs.ListMembers.{Contains-none, Contains-head, Contains-later, Contains-cons_cases}
+use Rattle.thes_base.proofs.ListMemberLemmas.{Contains-none, Contains-head, Contains-later, Contains-cons_cases}
 
--- the item that a read gave is the next
-pub take_next : {X : Type 0} (xs : List X) (i : ℕ) (x : X) → Some x ≡ slice_get xs i → take (i + 1) xs ≡ take i xs ++ x ∷ []
+-- The item read at a place extends the prefix before that place.
+pub take_next : {X : Type 0} (xs : List X) (i : ℕ) (x : X) → Some x ≡ slice_get xs i → take (i + 1) xs ≡ take i xs
+    ++ x ∷ []
 take_next xs i x e =
-    take_more xs i x (slice_get_within xs i x (sym e)) ∙ ap (λ y. take i xs ++ y ∷ []) (get_or_from_slice_get xs i x x (sym e))
+    take_more xs i x (slice_get_within xs i x (sym e)) ∙ ap (λ y. take i xs ++ y ∷ [])
+    (get_or_from_slice_get xs i x x (sym e))
 
--- there is no item past the end
+-- A read that gives no item is past the end.
 pub past_of_none : {X : Type 0} (xs : List X) (i : ℕ) → slice_get xs i ≡ None → length xs ≤ i
-past_of_none xs i none = elim (slice_get_cases xs i).1 [ inl (x, inside, is, _) ↦ absurd (none-some x (sym none ∙ is)) | inr (past, _) ↦ past ]
+past_of_none xs i none = elim (slice_get_cases xs i).1 [
+  | inl (x, inside, is, _) ↦ absurd (none-some x (sym none ∙ is))
+  | inr (past, _) ↦ past
+]
 
 module _ {X : Type 0} where
-  -- an element's place cuts the list
+  -- An item divides the list into the items before it and after it.
   pub cut : (xs : List X) (x : X) → Contains xs x → (before : List X) × (after : List X) × (xs ≡ before ++ x ∷ after)
   cut [] x has = absurd (Contains-none x has)
   cut (y ∷ xs) x has =
@@ -36,7 +42,7 @@ module _ {X : Type 0} where
     once_from_pairs xs (λ i j d lt inside. apart (suc i) (suc j) d (omega arith) (omega arith)),
   )
 
-  -- a part of distinct elements
+  -- A part of a list of distinct items has distinct items.
   pub once_drop : (i : ℕ) (xs : List X) → IsOnce xs → IsOnce (drop i xs)
   once_drop zero xs once = once
   once_drop (suc i) [] once = once
@@ -52,22 +58,26 @@ module _ {X : Type 0} where
   once_take (suc i) [] once = once
   once_take (suc i) (x ∷ xs) once = ((λ y has. once.0 y (Contains-take i xs y has)), once_take i xs once.1)
 
-  -- distinct elements of ns, each of weight one or more, are no more than the weight of ns
-  pub length-once : (weight : X → ℕ) (xs ns : List X) → IsOnce xs → ((x : X) → Contains xs x → Contains ns x) → ((x : X) → Contains xs x → 1 ≤ weight x) → length xs ≤ sum_by weight ns
+  -- Distinct items of ns, each of weight one or more, are at most as many as the weight of ns.
+  pub length-once : (weight : X → ℕ) (xs ns : List X) → IsOnce xs → ((x : X) → Contains xs x → Contains ns x)
+      → ((x : X) → Contains xs x → 1 ≤ weight x) → length xs ≤ sum_by weight ns
   length-once weight [] ns once within heavy = omega arith
   length-once weight (x ∷ xs) ns once within heavy =
       let c = cut ns x (within x (Contains-head x xs)) in
       let rest : length xs ≤ sum_by weight (c.0 ++ c.1) =
       length-once weight xs (c.0 ++ c.1) once.1 (inside c.0 c.1 c.2) (λ y has. heavy y (Contains-later x xs y has)) in
       let one : 1 ≤ weight x = heavy x (Contains-head x xs) in
-      let whole : sum_by weight ns ≡ sum_by weight c.0 + sum_by weight (x ∷ c.1) = ap (sum_by weight) c.2 ∙ sum_by-append weight c.0 (x ∷ c.1) in
+      let whole : sum_by weight ns ≡ sum_by weight c.0 + sum_by weight (x ∷ c.1) = ap (sum_by weight) c.2
+      ∙ sum_by-append weight c.0 (x ∷ c.1) in
       let head : sum_by weight (x ∷ c.1) ≡ weight x + sum_by weight c.1 = sum_by-cons weight x c.1 in
       let parts : sum_by weight (c.0 ++ c.1) ≡ sum_by weight c.0 + sum_by weight c.1 = sum_by-append weight c.0 c.1 in
       omega arith
     where
-      inside : (before after : List X) → ns ≡ before ++ x ∷ after → (y : X) → Contains xs y → Contains (before ++ after) y
+      inside : (before after : List X) → ns ≡ before ++ x ∷ after → (y : X) → Contains xs y
+          → Contains (before ++ after) y
       inside before after is y has =
-          elim (Contains-append_cases before (x ∷ after) y (subst (λ (ws : List X). Contains ws y) is (within y (Contains-later x xs y has)))) [
+          elim (Contains-append_cases before (x ∷ after) y
+          (subst (λ (ws : List X). Contains ws y) is (within y (Contains-later x xs y has)))) [
             | inl left ↦ Contains-append_left before after y left
             | inr right ↦ elim (Contains-cons_cases x after y right) [
               | inl same ↦ absurd (once.0 y has same)
@@ -75,5 +85,7 @@ module _ {X : Type 0} where
             ]
           ]
 
-  pub length-apart : (weight : X → ℕ) (xs ns : List X) → AllPairs (λ x y. x ≢ y) xs → ((x : X) → Contains xs x → Contains ns x) → ((x : X) → Contains xs x → 1 ≤ weight x) → length xs ≤ sum_by weight ns
+  pub length-apart : (weight : X → ℕ) (xs ns : List X) → AllPairs (λ x y. x ≢ y) xs
+      → ((x : X) → Contains xs x → Contains ns x) → ((x : X) → Contains xs x → 1 ≤ weight x) → length xs
+      ≤ sum_by weight ns
   length-apart weight xs ns apart = length-once weight xs ns (once_from_pairs xs apart)

@@ -1,13 +1,15 @@
--- Kinds of links that can break few rules.
+-- Kinds of links that can break few rules or none.
 use Rattle.std.specs.Prelude.{◌≡◌}
 use Rattle.thes_base.specs.declared.data.LinkKind.{LinkKind}
 use Rattle.thes_base.specs.declared.data.Direction.TheVariants.{Forward, Never}
-use Rattle.thes_base.specs.Links.{broader_way, related_way, exact_way, apart_way}
+use Rattle.thes_base.specs.Links.{broader_direction, related_direction, exact_direction, disjoint_direction}
 
--- a kind that leads to a broader concept from its first end, and says nothing else
+-- Links of the kind lead to a broader concept from their first end, and no other rule concerns them.
 abbrev pub LeadsUp : LinkKind → Type 0
-LeadsUp kind = (broader_way kind ≡ Forward) × (related_way kind ≡ Never) × (exact_way kind ≡ Never) × (apart_way kind ≡ Never)
+LeadsUp kind = (broader_direction kind ≡ Forward) × (related_direction kind ≡ Never) × (exact_direction kind ≡ Never)
+    × (disjoint_direction kind ≡ Never)
 
--- a kind of which the rules say nothing
+-- No rule concerns links of the kind.
 abbrev pub IsLoose : LinkKind → Type 0
-IsLoose kind = (broader_way kind ≡ Never) × (related_way kind ≡ Never) × (exact_way kind ≡ Never) × (apart_way kind ≡ Never)
+IsLoose kind = (broader_direction kind ≡ Never) × (related_direction kind ≡ Never) × (exact_direction kind ≡ Never)
+    × (disjoint_direction kind ≡ Never)

@@ -1,68 +1,76 @@
--- The three rules at one node, and in all links.
+-- The rules Cycle, S27 and S46 at one node, and in all links.
 use Rattle.std.specs.Prelude.{◌≡◌, ◌≢◌, ◌⊎◌, ℕ, List, Contains, Option, None, Some}
 use Rattle.thes_base.specs.declared.data.Link.{Link}
 use Rattle.thes_base.specs.declared.fault.Refusal.{Refusal}
 use Rattle.thes_base.specs.declared.fault.Refusal.TheVariants as no
-use Rattle.thes_base.specs.Links.{Links, exact_way, Joined, IsBroader, IsAbove, IsRelated, IsExact, IsApart, NoCycle, S27, IsFirstBroken, HasEnd}
+use Rattle.thes_base.specs.Links.{Links, exact_direction, IsJoined, IsBroader, IsAbove, IsRelated, IsExactMatch}
+use Rattle.thes_base.specs.Links.{IsDisjointMatch, NoCycle, S27, IsFirstBroken, HasEnd}
 use Rattle.thes_graph.specs.declared.relation.Relation.{Relation}
-use Rattle.thes_graph.specs.declared.sight.Sight.{Sight}
+use Rattle.thes_graph.specs.declared.edit.LinkEdit.{LinkEdit}
 use Rattle.thes_graph.specs.Steps.{Steps, Reaches, IsReachOf}
-use Rattle.thes_graph.specs.Sight.{WouldBe, CoversAt}
+use Rattle.thes_graph.specs.LinkEdit.{HeldAfter, CoversAt}
 
--- the links break none of the three rules
+-- The links break none of the rules Cycle, S27 and S46.
 abbrev pub BreakNone : (Link → Type 0) → Type 0
 BreakNone Held = IsFirstBroken Held None
 
--- the links held without an end at p
-abbrev pub AwayFrom : (Link → Type 0) → ℕ → Link → Type 0
-AwayFrom Held p l = Held l × (l.a ≢ p) × (l.b ≢ p)
+-- The links held that have no end at p.
+abbrev pub HeldAwayFrom : (Link → Type 0) → ℕ → Link → Type 0
+HeldAwayFrom Held p l = Held l × (l.a ≢ p) × (l.b ≢ p)
 
--- y is x, or above it
-abbrev pub UpTo : (Link → Type 0) → ℕ → ℕ → Type 0
-UpTo Held = Reaches (IsBroader Held)
+-- y is x, or above x.
+abbrev pub ReachesUp : (Link → Type 0) → ℕ → ℕ → Type 0
+ReachesUp Held = Reaches (IsBroader Held)
 
--- y is x, or in its class of exact matches
+-- y is x, or in its class of exact matches.
 abbrev pub InClassOf : (Link → Type 0) → ℕ → ℕ → Type 0
-InClassOf Held = Reaches (Joined Held exact_way)
+InClassOf Held = Reaches (IsJoined Held exact_direction)
 
+-- No chain of broader links leads from p back to p.
 abbrev pub NoCycleAt : (Link → Type 0) → ℕ → Type 0
 NoCycleAt Held p = IsAbove Held p p → ⊥
 
+-- No concept at or below p is related to one at or above p (SKOS S27).
 abbrev pub NoS27At : (Link → Type 0) → ℕ → Type 0
-NoS27At Held p = (x y : ℕ) → UpTo Held x p → UpTo Held p y → IsRelated Held x y → ⊥
+NoS27At Held p = (x y : ℕ) → ReachesUp Held x p → ReachesUp Held p y → IsRelated Held x y → ⊥
 
+-- No two members of p's class of exact matches are broader or related matches (SKOS S46).
 abbrev pub NoS46At : (Link → Type 0) → ℕ → Type 0
-NoS46At Held p = (x y : ℕ) → InClassOf Held p x → InClassOf Held p y → IsApart Held x y → ⊥
+NoS46At Held p = (x y : ℕ) → InClassOf Held p x → InClassOf Held p y → IsDisjointMatch Held x y → ⊥
 
+-- Two members of p's class of exact matches are broader or related matches, which breaks S46.
 abbrev pub IsS46At : (Link → Type 0) → ℕ → Type 0
-IsS46At Held p = (x : ℕ) × (y : ℕ) × InClassOf Held p x × InClassOf Held p y × IsApart Held x y
+IsS46At Held p = (x : ℕ) × (y : ℕ) × InClassOf Held p x × InClassOf Held p y × IsDisjointMatch Held x y
 
--- the first rule that the links break by a chain or pair through p
+-- The first of Cycle, S27 and S46 that the links break by a chain or pair through p, if any.
 abbrev pub IsFirstBrokenAt : (Link → Type 0) → ℕ → Option Refusal → Type 0
 IsFirstBrokenAt Held p None = NoCycleAt Held p × NoS27At Held p × NoS46At Held p
 IsFirstBrokenAt Held p (Some no.Cycle) = IsAbove Held p p
-IsFirstBrokenAt Held p (Some no.S27) = NoCycleAt Held p × ((x : ℕ) × (y : ℕ) × UpTo Held x p × UpTo Held p y × IsRelated Held x y)
+IsFirstBrokenAt Held p (Some no.S27) = NoCycleAt Held p × ((x : ℕ) × (y : ℕ) × ReachesUp Held x p × ReachesUp Held p y
+    × IsRelated Held x y)
 IsFirstBrokenAt Held p (Some no.S46) =
-    NoCycleAt Held p × NoS27At Held p × ((x : ℕ) × (y : ℕ) × InClassOf Held p x × InClassOf Held p y × IsApart Held x y)
+    NoCycleAt Held p × NoS27At Held p × ((x : ℕ) × (y : ℕ) × InClassOf Held p x × InClassOf Held p y
+    × IsDisjointMatch Held x y)
 IsFirstBrokenAt Held p (Some _) = ⊥
 
--- the first of Cycle and S27 that the links break
+-- The first of Cycle and S27 that the links break, if any.
 abbrev pub IsFirstOfTwo : (Link → Type 0) → Option Refusal → Type 0
 IsFirstOfTwo Held None = NoCycle Held × S27 Held
 IsFirstOfTwo Held (Some no.Cycle) = (x : ℕ) × IsAbove Held x x
 IsFirstOfTwo Held (Some no.S27) = NoCycle Held × ((x : ℕ) × (y : ℕ) × IsRelated Held x y × IsAbove Held x y)
 IsFirstOfTwo Held (Some _) = ⊥
 
--- the start and all that it leads to, and the links with an end at one of these
-pub record IsGathered (Would : Link → Type 0) (relation : Relation) (start : ℕ) (nodes : List ℕ) (links : List Link) : Type 0 where
+-- The nodes are those that the relation reaches from the start, and the links include each with an end at one of these.
+pub record IsReachableSet (Would : Link → Type 0) (relation : Relation) (start : ℕ) (nodes : List ℕ)
+    (links : List Link) : Type 0 where
   pub reach : IsReachOf (Steps relation Would) start nodes
   pub sound : (l : Link) → Contains links l → Would l
   pub complete : (l : Link) → Would l → (n : ℕ) → Contains nodes n → HasEnd n l → Contains links l
 
--- n is p, above it, below it, or in its class of exact matches
+-- n is p, above p, below p, or in the class of exact matches of p.
 abbrev pub IsNear : (Link → Type 0) → (p n : ℕ) → Type 0
-IsNear Would p n = ((p ≡ n) ⊎ IsAbove Would p n) ⊎ (IsAbove Would n p ⊎ IsExact Would p n)
+IsNear Would p n = ((p ≡ n) ⊎ IsAbove Would p n) ⊎ (IsAbove Would n p ⊎ IsExactMatch Would p n)
 
--- these have each held link that touches a node near p
-abbrev pub CoversNear : Sight → Links → ℕ → List Link → Type 0
-CoversNear sight held p ns = (n : ℕ) → IsNear (WouldBe sight held) p n → CoversAt sight held n ns
+-- The list has each held link that touches a node near p after the edit.
+abbrev pub CoversNear : LinkEdit → Links → ℕ → List Link → Type 0
+CoversNear edit held p ns = (n : ℕ) → IsNear (HeldAfter edit held) p n → CoversAt edit held n ns

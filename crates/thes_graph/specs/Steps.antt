@@ -1,73 +1,79 @@
--- What links say of two nodes, and what they lead to step by step.
-use Rattle.std.specs.Prelude.{◌≡◌, ◌<◌, ◌==◌, ◌⊎◌, ◌++◌, ℕ, List, Contains, if◌then◌else◌, Option, None, Some, nat_eq, get_or, length}
+-- The steps that links state from one node to another, and the nodes reached by them.
+use Rattle.std.specs.Prelude.{◌≡◌, ◌<◌, ◌==◌, ◌⊎◌, ◌++◌, ℕ, List, Contains, if◌then◌else◌, Option, None, Some, nat_eq}
+use Rattle.std.specs.Prelude.{get_or, length}
 use Rattle.std.specs.List.{IsDistinct}
 use Rattle.thes_base.specs.declared.data.Link.{Link}
 use Rattle.thes_base.specs.declared.data.LinkKind.{LinkKind}
 use Rattle.thes_base.specs.declared.data.Direction.{Direction}
 use Rattle.thes_base.specs.declared.data.Direction.TheVariants.{Forward, Backward, Either, Never}
-use Rattle.thes_base.specs.Links.{broader_way, related_way, exact_way, apart_way, Leads, Chain, Joined}
+use Rattle.thes_base.specs.Links.{broader_direction, related_direction, exact_direction, disjoint_direction}
+use Rattle.thes_base.specs.Links.{LinkLeads, Chain, IsJoined}
 use Rattle.thes_graph.specs.declared.relation.Relation.{Relation}
 use Rattle.thes_graph.specs.declared.relation.Relation.TheVariants.{Broader, Narrower, Related, Exact, Apart}
 
-abbrev pub turned : Direction → Direction
-turned Forward = Backward
-turned Backward = Forward
-turned Either = Either
-turned Never = Never
+-- The opposite direction.
+abbrev pub reverse_of : Direction → Direction
+reverse_of Forward = Backward
+reverse_of Backward = Forward
+reverse_of Either = Either
+reverse_of Never = Never
 
--- which way a kind of link leads in the relation
-abbrev pub way_of : Relation → LinkKind → Direction
-way_of Broader kind = broader_way kind
-way_of Narrower kind = turned (broader_way kind)
-way_of Related kind = related_way kind
-way_of Exact kind = exact_way kind
-way_of Apart kind = apart_way kind
+-- The direction in which links of this kind lead in the relation.
+abbrev pub direction_of : Relation → LinkKind → Direction
+direction_of Broader kind = broader_direction kind
+direction_of Narrower kind = reverse_of (broader_direction kind)
+direction_of Related kind = related_direction kind
+direction_of Exact kind = exact_direction kind
+direction_of Apart kind = disjoint_direction kind
 
--- some held link leads from x to y
+-- Some held link leads from x to y in the relation.
 abbrev pub Steps : Relation → (Link → Type 0) → ℕ → ℕ → Type 0
-Steps relation Held = Joined Held (way_of relation)
+Steps relation Held = IsJoined Held (direction_of relation)
 
-abbrev pub from_to : (a b x : ℕ) → Option ℕ
-from_to a b x = if a == x then Some b else None
+-- The node b, if x is a.
+abbrev pub far_end : (a b x : ℕ) → Option ℕ
+far_end a b x = if a == x then Some b else None
 
--- where a link of a to b, taken this way, leads from x
+-- The node that a link from a to b leads to from x in this direction.
 abbrev pub step_in : Direction → (a b x : ℕ) → Option ℕ
-step_in Forward a b x = from_to a b x
-step_in Backward a b x = from_to b a x
-step_in Either a b x = if a == x then Some b else from_to b a x
+step_in Forward a b x = far_end a b x
+step_in Backward a b x = far_end b a x
+step_in Either a b x = if a == x then Some b else far_end b a x
 step_in Never a b x = None
 
+-- The node that the link leads to from x in the relation.
 abbrev pub step_along : Relation → Link → ℕ → Option ℕ
-step_along relation l x = step_in (way_of relation l.kind) l.a l.b x
+step_along relation l x = step_in (direction_of relation l.kind) l.a l.b x
 
--- y is x, or one or more steps from it
+-- y is x, or one or more steps from x.
 abbrev pub Reaches : (ℕ → ℕ → Type 0) → ℕ → ℕ → Type 0
 Reaches joined x y = (x ≡ y) ⊎ Chain joined x y
 
--- the nodes are the start and all that it leads to, each once
+-- The nodes are exactly those that the start reaches, each once.
 pub record IsReachOf (joined : ℕ → ℕ → Type 0) (start : ℕ) (nodes : List ℕ) : Type 0 where
   pub sound : (y : ℕ) → Contains nodes y → Reaches joined start y
   pub complete : (y : ℕ) → Reaches joined start y → Contains nodes y
   pub distinct : IsDistinct nat_eq nodes
 
--- all nodes met are reached, and what the nodes below i lead to is met
+-- The start reaches the nodes, and all that the first i of them lead to are among them.
 pub record IsClosedBelow (joined : ℕ → ℕ → Type 0) (start : ℕ) (nodes : List ℕ) (i : ℕ) : Type 0 where
   pub starts : Contains nodes start
   pub sound : (y : ℕ) → Contains nodes y → Reaches joined start y
   pub closed : (k : ℕ) → k < i → k < length nodes → (y : ℕ) → joined (get_or nodes k 0) y → Contains nodes y
   pub distinct : IsDistinct nat_eq nodes
 
--- the new list is the old one with more behind it
+-- The new list is the old one with more appended.
 abbrev pub Extends : List ℕ → List ℕ → Type 0
 Extends old new = (more : List ℕ) × (new ≡ old ++ more)
 
--- a list of distinct nodes has grown by those that New names, and by no others
+-- The new list is the old one with exactly the nodes appended that satisfy `New`, each once.
 pub record GrowsBy (old new : List ℕ) (New : ℕ → Type 0) : Type 0 where
-  pub kept : Extends old new
-  pub taken : (y : ℕ) → New y → Contains new y
-  pub only : (y : ℕ) → Contains new y → Contains old y ⊎ New y
+  pub extends : Extends old new
+  pub has_new : (y : ℕ) → New y → Contains new y
+  pub no_others : (y : ℕ) → Contains new y → Contains old y ⊎ New y
   pub distinct : IsDistinct nat_eq old → IsDistinct nat_eq new
 
--- the link leads from one of xs to one of ys
+-- The link leads from one of xs to one of ys in the relation.
 abbrev pub Ties : Relation → Link → (xs ys : List ℕ) → Type 0
-Ties relation l xs ys = (x : ℕ) × (y : ℕ) × Contains xs x × Contains ys y × Leads (way_of relation l.kind) l.a l.b x y
+Ties relation l xs ys = (x : ℕ) × (y : ℕ) × Contains xs x × Contains ys y × LinkLeads (direction_of relation l.kind)
+    l.a l.b x y

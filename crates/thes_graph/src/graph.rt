@@ -1,25 +1,25 @@
-//! The links of a thesaurus: a set that knows the links at each node.
+//! A set of links, indexed by their ends.
 ghost use Rattle.std.specs.Prelude.{◌≡◌, ◌≢◌, ◌↔◌, ◌⊎◌, ℕ, Contains, IfOk, OnOk, OnErr, MatchOption, slice_get};
 ghost use Rattle.std.specs.Ordering.{nat_cmp};
 ghost use Rattle.std.specs.FinSet.{empty, contains, insert, remove, len, items};
 ghost use Rattle.thes_base.specs.declared.data.Link.{Link};
 ghost use Rattle.thes_base.specs.declared.data.LinkKind.TheVariants as kinds;
-ghost use Rattle.thes_base.specs.Links.{HeldIn, norm, contracted, without_node, IsFirstBroken, HasEnd};
+ghost use Rattle.thes_base.specs.Links.{HeldIn, normal_form, links_after_merge, links_after_deprecation, IsFirstBroken, HasEnd};
 ghost use Rattle.thes_base.specs.Listing.{IsListing};
 ghost use Rattle.thes_graph.specs.Reading.{HaveTwoEnds};
 ghost use Rattle.thes_graph.specs.Side.{IsPart};
-ghost use Rattle.thes_graph.specs.Net.{is_marked, standings_at, links_at};
-ghost use Rattle.thes_base.specs.Views.{HasLink, HasBroader, IsMapping, mapping_cmp, IsTyped, typed_cmp};
-ghost use Rattle.thes_graph.specs.Linked.{IsLinked};
-ghost use Rattle.thes_graph.specs.Moved.{AreNormal, AreMoved, AreNew, merged_link, with_all, without_all};
+ghost use Rattle.thes_graph.specs.Net.{is_marked, sided_links_at, links_at};
+ghost use Rattle.thes_base.specs.Views.{HasLink, HasBroader, IsMapping, mapping_cmp, IsTypedLink, typed_cmp};
+ghost use Rattle.thes_graph.specs.Neighbours.{IsNeighbour};
+ghost use Rattle.thes_graph.specs.MergeAdditions.{AreNormal, AreMergeAdditions, AreNew, added_link, with_all, without_all};
 
-use crate::judge::in_order;
-use crate::linked::{Linked, list_in, way_to};
+use crate::edit::merge;
+use crate::judge::normalize_ends;
 use crate::links::Links;
-use crate::mapped::{as_seen, as_typed, list_mapping};
+use crate::mappings::{list_mapping, mapping_from, typed_link_from};
+use crate::neighbours::{Neighbours, direction_to, list_in};
 use crate::relation::lead;
-use crate::side::{Part, Side, Standing, count_before, count_until, standing_of};
-use crate::sight::merge;
+use crate::side::{Part, Side, SidedLink, count_before, count_until, sided_link_of};
 use crate::whole::check_all;
 use std::alloc::{AllocError, Global};
 use std::collections::BTreeSet;
@@ -29,13 +29,13 @@ use thes_base::fault::Refusal;
 use thes_base::number::ResNo;
 use thes_lists::Lists;
 
-/// A set of links, and the resources marked as outside concepts. A link handed in has two different ends, and is kept in the order
-/// of its ends that the norm has.
+/// A set of links, indexed by their ends, and the resources marked as outside concepts. Each link has two different
+/// ends, and is kept in normal order whatever order it is passed in.
 #[derive(Drop)]
 pub struct Graph {
     alloc: Global,
     held: BTreeSet<Link>,
-    rows: Lists<Standing>,
+    rows: Lists<SidedLink>,
     marked: BTreeSet<ResNo>,
 }
 
@@ -50,13 +50,14 @@ impl Model for Graph {
 
     ghost coded = { Prim.hlevel (codes, set.code) };
 
-    ghost view = { λ g. record { links = from_list g.held.keys; outside = from_list g.marked.keys } };
+    ghost view = { λ g.
+        record { links = from_list g.held.keys; outside = from_list g.marked.keys } };
 
     ghost invariant = { λ g. IsIndexed g.held.keys g.rows g.marked.keys };
 }
 
 impl Graph {
-    /// Makes a graph without links and without outside concepts.
+    /// Creates a graph without links and without outside concepts.
     pub fn new(alloc: Global) -> Graph
         ensures { result ≡ record { links = empty; outside = empty } }
     {
@@ -68,171 +69,184 @@ impl Graph {
         }
     }
 
-    // The link as it is kept.
+    // Returns the link in the order in which it is kept.
     fn normal(&self, link: &Link) -> Link
-        ensures { result ≡ norm (is_marked self.now) link.now }
+        ensures { result ≡ normal_form (is_marked self.now) link.now }
     {
-        in_order(link, self.is_outside(link.a) || self.is_outside(link.b))
+        normalize_ends(link, self.is_outside(link.a) || self.is_outside(link.b))
     }
 
-    // The links with an end at the node, by where they lead from it.
-    fn at(&self, n: ResNo) -> &[Standing]
-        ensures row { result.now ≡ standings_at self.now.links n }
+    // Returns the links with an end at the node, sorted by their side there.
+    fn row_of_node(&self, n: ResNo) -> &[SidedLink]
+        ensures row { result.now ≡ sided_links_at self.now.links n }
         ensures two_ends { HaveTwoEnds (HeldIn self.now.links) }
         ensures normal { AreNormal self.now }
     {
         self.rows.at(n)
     }
 
-    // The i-th of these links, as it stands there.
-    fn standing(&self, n: ResNo, i: usize) -> Option<Standing>
-        ensures place { result ≡ slice_get (standings_at self.now.links n) i }
+    // Returns the i-th of the node's links, with its side.
+    fn sided_link(&self, n: ResNo, i: usize) -> Option<SidedLink>
+        ensures place { result ≡ slice_get (sided_links_at self.now.links n) i }
         ensures two_ends { HaveTwoEnds (HeldIn self.now.links) }
     {
-        self.at(n).get(i).copied()
+        self.row_of_node(n).get(i).copied()
     }
 
-    // The i-th of these links.
+    // Returns the i-th of the node's links.
     fn nth_at(&self, n: ResNo, i: usize) -> Option<Link>
         ensures link { result ≡ slice_get (links_at self.now.links n) i }
         ensures two_ends { HaveTwoEnds (HeldIn self.now.links) }
     {
-        match self.standing(n, i) {
-            Some(standing) => Some(standing.link),
+        match self.sided_link(n, i) {
+            Some(sided_link) => Some(sided_link.link),
             None => None,
         }
     }
 
-    // Between which places at the node the links stand that lead this way.
+    // Returns the range of the node's links that lie on this side.
     fn part_at(&self, n: ResNo, side: Side) -> Part
         ensures part { IsPart (links_at self.now.links n) n side result }
         ensures two_ends { HaveTwoEnds (HeldIn self.now.links) }
     {
         let number = side.number();
-        let row = self.at(n);
+        let row = self.row_of_node(n);
         let from = count_before(row, number);
         let to = count_until(row, number);
         Part { from, to }
     }
 
-    // The end of the link at which fewer links stand.
+    // Returns that end of the link which has fewer links.
     fn emptier_end(&self, link: &Link) -> ResNo
         ensures { HasEnd result link.now }
     {
-        if self.at(link.b).len() < self.at(link.a).len() {
+        if self.row_of_node(link.b).len() < self.row_of_node(link.a).len() {
             link.b
         } else {
             link.a
         }
     }
 
-    // Whether the link is held as it is handed in.
+    // Checks whether the link is held with its ends in this order.
     fn holds(&self, link: &Link) -> bool
         ensures holds { result ≡ contains self.now.links link.now }
         ensures two_ends { HaveTwoEnds (HeldIn self.now.links) }
     {
         let end = self.emptier_end(link);
-        self.at(end).binary_search(&standing_of(link, end)).is_ok()
+        self.row_of_node(end)
+            .binary_search(&sided_link_of(link, end))
+            .is_ok()
     }
 
-    /// Tells whether the resource was marked as an outside concept.
+    /// Checks whether the resource is marked as an outside concept.
     pub fn is_outside(&self, n: ResNo) -> bool
         ensures { result ≡ is_marked self.now n }
     {
         self.marked.contains(&n)
     }
 
-    /// Tells whether the link is held.
+    /// Checks whether the link is held.
     pub fn has(&self, link: &Link) -> bool
-        ensures { result ≡ contains self.now.links (norm (is_marked self.now) link.now) }
+        ensures { result ≡ contains self.now.links (normal_form (is_marked self.now) link.now) }
     {
         self.holds(&self.normal(link))
     }
 
-    /// Counts the links held.
+    /// Returns the number of links held.
     pub fn size(&self) -> u64
         ensures { result ≡ len self.now.links }
     {
         self.held.len() as u64
     }
 
-    // What is listed of the concept, the numbers rising.
-    fn linked(&self, alloc: Global, n: ResNo, linked: Linked) -> Result<Vec<ResNo>, AllocError>
-        ensures { IfOk result (λ found. IsListing nat_cmp (IsLinked self.now.links linked n) found.items) }
+    // Lists these neighbours of the concept in ascending order.
+    fn neighbours(
+        &self,
+        alloc: Global,
+        n: ResNo,
+        neighbours: Neighbours,
+    ) -> Result<Vec<ResNo>, AllocError>
+        ensures { IfOk result
+            (λ found. IsListing nat_cmp (IsNeighbour self.now.links neighbours n) found.items) }
     {
         let mut found = Vec::new(alloc);
-        for standing in self.at(n) {
-            let link = standing.link;
-            let way = way_to(linked, link.kind);
-            if let Some(m) = lead(way, &link, n) {
+        for sided_link in self.row_of_node(n) {
+            let link = sided_link.link;
+            let direction = direction_to(neighbours, link.kind);
+            if let Some(m) = lead(direction, &link, n) {
                 list_in(&mut found, m)?;
             }
         }
         Ok(found)
     }
 
-    /// Lists the concepts that are broader than this one in its own scheme, by a link of whatever type, their numbers
-    /// rising.
+    /// Lists the concepts that are broader than this one in its own scheme, by links of any type, in ascending order.
     pub fn broader_of(&self, alloc: Global, n: ResNo) -> Result<Vec<ResNo>, AllocError>
-        ensures { IfOk result (λ found. IsListing nat_cmp (λ b. HasBroader self.now.links n b) found.items) }
+        ensures { IfOk result
+            (λ found. IsListing nat_cmp (λ b. HasBroader self.now.links n b) found.items) }
     {
-        self.linked(alloc, n, Linked::Broader)
+        self.neighbours(alloc, n, Neighbours::Broader)
     }
 
-    /// Lists the concepts that are narrower than this one in its own scheme, by a link of whatever type, their numbers
-    /// rising.
+    /// Lists the concepts that are narrower than this one in its own scheme, by links of any type, in ascending order.
     pub fn narrower_of(&self, alloc: Global, n: ResNo) -> Result<Vec<ResNo>, AllocError>
-        ensures { IfOk result (λ found. IsListing nat_cmp (λ a. HasBroader self.now.links a n) found.items) }
+        ensures { IfOk result
+            (λ found. IsListing nat_cmp (λ a. HasBroader self.now.links a n) found.items) }
     {
-        self.linked(alloc, n, Linked::Narrower)
+        self.neighbours(alloc, n, Neighbours::Narrower)
     }
 
-    /// Lists the concepts related to this one in its own scheme, their numbers rising.
+    /// Lists the concepts related to this one in its own scheme, in ascending order.
     pub fn related_of(&self, alloc: Global, n: ResNo) -> Result<Vec<ResNo>, AllocError>
         ensures { IfOk result (λ found. IsListing nat_cmp
-            (λ m. HasLink self.now.links kinds.Related n m ⊎ HasLink self.now.links kinds.Related m n) found.items) }
+            (λ m. HasLink self.now.links kinds.Related n m
+            ⊎ HasLink self.now.links kinds.Related m n) found.items) }
     {
-        self.linked(alloc, n, Linked::Related)
+        self.neighbours(alloc, n, Neighbours::Related)
     }
 
-    /// Lists the collections that the resource is a member of, their numbers rising.
+    /// Lists the collections that the resource is a member of, in ascending order.
     pub fn collections_of(&self, alloc: Global, n: ResNo) -> Result<Vec<ResNo>, AllocError>
-        ensures { IfOk result (λ found. IsListing nat_cmp (λ c. HasLink self.now.links kinds.Member c n) found.items) }
+        ensures { IfOk result (λ found. IsListing nat_cmp
+            (λ c. HasLink self.now.links kinds.Member c n) found.items) }
     {
-        self.linked(alloc, n, Linked::Collections)
+        self.neighbours(alloc, n, Neighbours::Collections)
     }
 
-    /// Lists the mappings of the concept as seen from it, ordered by their words and then by number.
-    pub fn mapped(&self, alloc: Global, n: ResNo) -> Result<Vec<(LinkKind, ResNo)>, AllocError>
-        ensures { IfOk result (λ found. IsListing mapping_cmp (IsMapping self.now.links n) found.items) }
+    /// Lists the mappings of the concept as seen from it, sorted by their kinds' names and then by number.
+    pub fn mappings(&self, alloc: Global, n: ResNo) -> Result<Vec<(LinkKind, ResNo)>, AllocError>
+        ensures { IfOk result
+            (λ found. IsListing mapping_cmp (IsMapping self.now.links n) found.items) }
     {
         let mut found = Vec::new(alloc);
-        for standing in self.at(n) {
-            if let Some(mapping) = as_seen(&standing.link, n) {
+        for sided_link in self.row_of_node(n) {
+            if let Some(mapping) = mapping_from(&sided_link.link, n) {
                 list_mapping(&mut found, mapping)?;
             }
         }
         Ok(found)
     }
 
-    /// Lists the typed hierarchical links of the concept as seen from it, ordered by their words and then by number.
+    /// Lists the typed hierarchical links of the concept as seen from it, sorted by their types' names and then by
+    /// number.
     pub fn typed_of(&self, alloc: Global, n: ResNo) -> Result<Vec<(TypedKind, ResNo)>, AllocError>
-        ensures { IfOk result (λ found. IsListing typed_cmp (IsTyped self.now.links n) found.items) }
+        ensures { IfOk result
+            (λ found. IsListing typed_cmp (IsTypedLink self.now.links n) found.items) }
     {
         let mut found = Vec::new(alloc);
-        for standing in self.at(n) {
-            if let Some(typed) = as_typed(&standing.link, n) {
+        for sided_link in self.row_of_node(n) {
+            if let Some(typed) = typed_link_from(&sided_link.link, n) {
                 list_in(&mut found, typed)?;
             }
         }
         Ok(found)
     }
 
-    /// Adds the link. One that is held stays as it is.
+    /// Adds the link, unless it is held.
     pub fn add(&mut self, link: &Link) -> Result<(), AllocError>
         requires { link.now.a ≢ link.now.b }
         ensures ok { OnOk result (self.new ≡ record self.old {
-          links = insert self.old.links (norm
+          links = insert self.old.links (normal_form
               (is_marked self.old) link.now);
         }) }
         ensures err { OnErr result (self.new ≡ self.old) }
@@ -241,58 +255,64 @@ impl Graph {
         self.rows.make_room(new.a)?;
         self.rows.make_room(new.b)?;
         if self.held.insert(new)? {
-            self.rows.insert(new.a, standing_of(&new, new.a));
-            self.rows.insert(new.b, standing_of(&new, new.b));
+            self.rows.insert(new.a, sided_link_of(&new, new.a));
+            self.rows.insert(new.b, sided_link_of(&new, new.b));
         }
         Ok(())
     }
 
-    /// Takes the link away, if it is held.
+    /// Removes the link, if it is held.
     pub fn remove(&mut self, link: &Link)
-        ensures { self.new ≡ record self.old { links = remove self.old.links (norm (is_marked self.old) link.now) } }
+        ensures { self.new ≡ record self.old {
+          links = remove self.old.links
+              (normal_form (is_marked self.old) link.now);
+        } }
     {
         let old = self.normal(link);
         self.detach(&old);
     }
 
-    // Takes the link away as it is handed in, if it is held.
+    // Removes the link, if it is held with its ends in this order.
     fn detach(&mut self, link: &Link)
         ensures { self.new ≡ record self.old { links = remove self.old.links link.now } }
     {
         if self.held.remove(link) {
-            self.rows.remove(link.a, &standing_of(link, link.a));
-            self.rows.remove(link.b, &standing_of(link, link.b));
+            self.rows.remove(link.a, &sided_link_of(link, link.a));
+            self.rows.remove(link.b, &sided_link_of(link, link.b));
         }
     }
 
-    // The link as it would be kept after a merge, unless it joins the target to itself then or is held already.
-    fn merged(&self, link: &Link, source: ResNo, target: ResNo) -> Option<Link>
-        ensures { result ≡ merged_link self.now source target link.now }
+    // Returns the link as it is kept after the merge, or None if both its ends are the target then or it is held
+    // already.
+    fn merge_addition(&self, link: &Link, source: ResNo, target: ResNo) -> Option<Link>
+        ensures { result ≡ added_link self.now source target link.now }
     {
         let new = self.normal(&merge(link, source, target)?);
         if self.holds(&new) { None } else { Some(new) }
     }
 
-    // The links at the source as they are after a merge, without those that are held already.
-    fn moved(&self, source: ResNo, target: ResNo) -> Result<Vec<Link>, AllocError>
+    // Returns the links that the merge adds for those at the source.
+    fn merge_additions(&self, source: ResNo, target: ResNo) -> Result<Vec<Link>, AllocError>
         requires { source ≢ target }
-        ensures moved { IfOk result (λ moved. AreMoved self.now source target moved.items) }
+        ensures merge_additions { IfOk result
+            (λ merge_additions. AreMergeAdditions self.now source target merge_additions.items) }
         ensures two_ends { HaveTwoEnds (HeldIn self.now.links) }
         ensures normal { AreNormal self.now }
     {
-        let mut moved = Vec::new(self.alloc);
-        for standing in self.at(source) {
-            if let Some(new) = self.merged(&standing.link, source, target) {
-                moved.push(new)?;
+        let mut merge_additions = Vec::new(self.alloc);
+        for sided_link in self.row_of_node(source) {
+            if let Some(new) = self.merge_addition(&sided_link.link, source, target) {
+                merge_additions.push(new)?;
             }
         }
-        Ok(moved)
+        Ok(merge_additions)
     }
 
-    // Adds these links, none of which is held, or none of them.
+    // Adds all of these links, none of which is held, or none if memory runs out.
     fn add_all(&mut self, links: &[Link]) -> Result<(), AllocError>
         requires { AreNew self.old links.now }
-        ensures ok { OnOk result (self.new ≡ record self.old { links = with_all self.old.links links.now }) }
+        ensures ok { OnOk result
+            (self.new ≡ record self.old { links = with_all self.old.links links.now }) }
         ensures err { OnErr result (self.new ≡ self.old) }
     {
         for (i, link) in links.iter().enumerate() {
@@ -304,7 +324,7 @@ impl Graph {
         Ok(())
     }
 
-    // Takes these links away.
+    // Removes these links.
     fn detach_all(&mut self, links: &[Link])
         ensures { self.new ≡ record self.old { links = without_all self.old.links links.now } }
     {
@@ -313,20 +333,20 @@ impl Graph {
         }
     }
 
-    // A link with an end at the node.
+    // Returns the last of the node's links.
     fn last_at(&self, n: ResNo) -> Option<Link>
         ensures { MatchOption result ((l : Link) → HeldIn self.now.links l → HasEnd n l
             → ⊥) (λ l. HeldIn self.now.links l × HasEnd n l) }
     {
-        match self.at(n).last() {
-            Some(standing) => Some(standing.link),
+        match self.row_of_node(n).last() {
+            Some(sided_link) => Some(sided_link.link),
             None => None,
         }
     }
 
-    /// Takes all links of the node away.
+    /// Removes all links of the node.
     pub fn drop_all(&mut self, n: ResNo)
-        ensures { self.new ≡ record self.old { links = without_node n self.old.links } }
+        ensures { self.new ≡ record self.old { links = links_after_deprecation n self.old.links } }
     {
         while let Some(link) = self.last_at(n) {
             self.detach(&link);
@@ -337,28 +357,29 @@ impl Graph {
     pub fn contract(&mut self, source: ResNo, target: ResNo) -> Result<(), AllocError>
         requires { source ≢ target }
         ensures ok { OnOk result (self.new ≡ record self.old {
-          links = contracted
+          links = links_after_merge
               (is_marked self.old) source target self.old.links;
         }) }
         ensures err { OnErr result (self.new ≡ self.old) }
     {
-        let moved = self.moved(source, target)?;
-        self.add_all(&moved)?;
+        let merge_additions = self.merge_additions(source, target)?;
+        self.add_all(&merge_additions)?;
         self.drop_all(source);
         Ok(())
     }
 
-    /// Marks the resource as an outside concept.
+    /// Marks the resource as an outside concept. It must have no links.
     pub fn mark_outside(&mut self, n: ResNo) -> Result<(), AllocError>
         requires { (l : Link) → HeldIn self.old.links l → HasEnd n l → ⊥ }
-        ensures ok { OnOk result (self.new ≡ record self.old { outside = insert self.old.outside n }) }
+        ensures ok { OnOk result
+            (self.new ≡ record self.old { outside = insert self.old.outside n }) }
         ensures err { OnErr result (self.new ≡ self.old) }
     {
         self.marked.insert(n)?;
         Ok(())
     }
 
-    /// Begins a walk over the links, none of them visited yet.
+    /// Returns the links for reading, with no visits yet.
     pub fn walk(&self) -> Walk<'_>
         ensures { result ≡ record { net = self.now; visits = 0 } }
     {
@@ -368,7 +389,7 @@ impl Graph {
         }
     }
 
-    /// Finds the first rule that the links held break.
+    /// Returns the first rule that the links held break.
     pub fn check_whole(&self, alloc: Global) -> Result<Option<Refusal>, AllocError>
         ensures { IfOk result (IsFirstBroken (HeldIn self.now.links)) }
     {
@@ -389,9 +410,9 @@ pub struct Walk<'a> {
 impl<'a> Model for Walk<'a> {
     ghost use Rattle.std.specs.Coded.{codes};
     ghost use Rattle.std.specs.FinSet as set;
-    ghost use Rattle.thes_graph.specs.Net.{Walked};
+    ghost use Rattle.thes_graph.specs.Net.{CountedNet};
 
-    ghost Value = { Walked };
+    ghost Value = { CountedNet };
 
     ghost coded = { Prim.hlevel (codes, set.code) };
 

@@ -1,22 +1,22 @@
-//! Links between concepts: what is held, and whether one more link or a merge keeps the rules.
+//! A graph of links, with checks that a new link or a merge breaks none of the rules Cycle, S27 and S46.
 #![tactic(auto)]
 
-mod added;
-mod between;
+mod addition;
 mod class;
-mod climb;
+mod edit;
 mod ends;
+mod find_cycle;
 pub mod graph;
 pub mod judge;
-mod linked;
 pub mod links;
-mod mapped;
+mod mappings;
 mod marks;
+mod neighbours;
 mod nodes;
+mod paired_search;
 mod relation;
 mod side;
-mod sight;
-mod towards;
-mod trail;
+mod side_search;
+mod upward_link;
 mod walk;
 mod whole;

@@ -1,14 +1,14 @@
-//! The nodes of a list that has many, marked at their numbers.
+//! Marks by number, which replace a linear search where a list has many nodes.
 ghost use Rattle.std.specs.Prelude.{◌≡◌, ◌++◌, ◌∷◌, [], ℕ, OnErr, OnOk};
-ghost use Rattle.thes_graph.specs.Met.{mark_at, AreMarked, IsMet, IsOneMore};
+ghost use Rattle.thes_graph.specs.NodeSet.{mark_at, AreMarked, IsNodeSet, IsOneMore};
 
 use std::alloc::AllocError;
 use thes_base::number::ResNo;
 
-/// Up to so many nodes a list is looked through, and nothing is marked.
+/// The length up to which a list is searched linearly and has no marks.
 pub const FEW: usize = 16;
 
-/// Tells whether the number is marked.
+/// Checks whether the number is marked.
 pub fn has_mark(marks: &[bool], n: ResNo) -> bool
     ensures { result ≡ mark_at marks.now n }
 {
@@ -31,7 +31,7 @@ fn mark(marks: &mut Vec<bool>, n: ResNo) -> Result<(), AllocError>
     Ok(())
 }
 
-// Marks these nodes and no others.
+// Replaces all marks by those of these nodes.
 fn mark_all(marks: &mut Vec<bool>, nodes: &[ResNo]) -> Result<(), AllocError>
     ensures { OnOk result (AreMarked nodes.now marks.new.items) }
 {
@@ -42,11 +42,11 @@ fn mark_all(marks: &mut Vec<bool>, nodes: &[ResNo]) -> Result<(), AllocError>
     Ok(())
 }
 
-/// Marks what is to be marked where the list has one node more.
+/// Updates the marks for a list to which the node `n` is about to be appended.
 pub fn mark_more(marks: &mut Vec<bool>, list: &[ResNo], n: ResNo) -> Result<(), AllocError>
-    requires { IsMet list.now marks.old.items }
-    ensures ok { OnOk result (IsMet (list.now ++ n ∷ []) marks.new.items) }
-    ensures err { OnErr result (IsMet list.now marks.new.items) }
+    requires { IsNodeSet list.now marks.old.items }
+    ensures ok { OnOk result (IsNodeSet (list.now ++ n ∷ []) marks.new.items) }
+    ensures err { OnErr result (IsNodeSet list.now marks.new.items) }
 {
     if list.len() < FEW {
         return Ok(());

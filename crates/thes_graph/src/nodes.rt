@@ -1,4 +1,4 @@
-//! The nodes that a walk met.
+//! The nodes that a search has met.
 ghost use Rattle.std.specs.Prelude.{◌≡◌, ◌<◌, ◌^◌, ◌∷◌, [], Contains, IfOk, OnOk, IfSome, MatchBool, length, slice_get};
 ghost use Rattle.thes_graph.specs.Steps.{GrowsBy};
 
@@ -7,7 +7,7 @@ use std::alloc::{AllocError, Global};
 use std::marker::Model;
 use thes_base::number::ResNo;
 
-/// Nodes in the order in which a walk met them, each once; seen by contracts as that list. Where they are many, they are marked too.
+/// The distinct nodes that a search has met, in that order. A long list also has marks for fast look-up.
 #[derive(Drop)]
 pub struct Nodes {
     list: Vec<ResNo>,
@@ -16,17 +16,17 @@ pub struct Nodes {
 
 impl Model for Nodes {
     ghost use Rattle.std.specs.Prelude.{List, ℕ};
-    ghost use Rattle.thes_graph.specs.Met.{IsMet};
+    ghost use Rattle.thes_graph.specs.NodeSet.{IsNodeSet};
 
     ghost Value = { List ℕ };
 
     ghost view = { λ a. a.list.items };
 
-    ghost invariant = { λ a. IsMet a.list.items a.marks.items };
+    ghost invariant = { λ a. IsNodeSet a.list.items a.marks.items };
 }
 
 impl Nodes {
-    /// Begins with no nodes.
+    /// Creates an empty list.
     pub fn none(alloc: Global) -> Nodes
         ensures { result ≡ [] }
     {
@@ -36,8 +36,8 @@ impl Nodes {
         }
     }
 
-    /// Begins with the start alone.
-    pub fn only(alloc: Global, start: ResNo) -> Result<Nodes, AllocError>
+    /// Creates a list of one node.
+    pub fn singleton(alloc: Global, start: ResNo) -> Result<Nodes, AllocError>
         ensures { IfOk result (λ nodes. nodes ≡ start ∷ []) }
     {
         let list = vec![in alloc; start]?;
@@ -52,7 +52,7 @@ impl Nodes {
         self.list.as_slice()
     }
 
-    /// Returns the i-th node that was met.
+    /// Returns the i-th node.
     pub fn get(&self, i: usize) -> Option<ResNo>
         ensures node { result ≡ slice_get self.now i }
         ensures small { length self.now < 2 ^ 63 }
@@ -60,7 +60,7 @@ impl Nodes {
         self.list.get(i).copied()
     }
 
-    /// Tells whether the node was met.
+    /// Checks whether the node was met.
     pub fn has(&self, n: ResNo) -> bool
         ensures { MatchBool result (Contains self.now n) (Contains self.now n → ⊥) }
     {
@@ -70,7 +70,7 @@ impl Nodes {
         has_mark(&self.marks, n)
     }
 
-    /// Notes that a node was met.
+    /// Appends the node, unless it was met before.
     pub fn meet(&mut self, n: ResNo) -> Result<(), AllocError>
         ensures grows { OnOk result (GrowsBy self.old self.new (λ m. n ≡ m)) }
         ensures small { length self.new < 2 ^ 63 }

@@ -1,14 +1,14 @@
-//! What links say of two nodes.
+//! The relations of two nodes that links state, and the direction of each kind of link in them.
 ghost use Rattle.std.specs.Prelude.{◌≡◌};
-ghost use Rattle.thes_base.specs.Links.{broader_way};
-ghost use Rattle.thes_graph.specs.Steps.{turned, way_of, step_in, step_along};
-ghost use Rattle.thes_graph.specs.Towards.{back};
+ghost use Rattle.thes_base.specs.Links.{broader_direction};
+ghost use Rattle.thes_graph.specs.Steps.{reverse_of, direction_of, step_in, step_along};
+ghost use Rattle.thes_graph.specs.PairedSearch.{converse};
 
 use thes_base::data::{Direction, Link, LinkKind};
 use thes_base::number::ResNo;
 
-/// A relation of two nodes that links can say. `Apart` are the broader and related matches, which no exact match may
-/// be.
+/// A relation of two nodes. `Apart` are the broader and related matches, which are disjoint from exact matches (SKOS
+/// S46).
 #[derive(Clone, Copy)]
 pub enum Relation {
     Broader,
@@ -18,9 +18,9 @@ pub enum Relation {
     Apart,
 }
 
-// Which way a link of this kind leads to a broader concept.
-fn way_up(kind: LinkKind) -> Direction
-    ensures { result ≡ broader_way kind }
+// Returns the direction in which a link of this kind leads to a broader concept.
+fn direction_up(kind: LinkKind) -> Direction
+    ensures { result ≡ broader_direction kind }
 {
     match kind {
         LinkKind::Broader | LinkKind::Broad => Direction::Forward,
@@ -32,11 +32,11 @@ fn way_up(kind: LinkKind) -> Direction
     }
 }
 
-// The way back.
-fn turn(way: Direction) -> Direction
-    ensures { result ≡ turned way }
+// Returns the opposite direction.
+fn reverse_direction(direction: Direction) -> Direction
+    ensures { result ≡ reverse_of direction }
 {
-    match way {
+    match direction {
         Direction::Forward => Direction::Backward,
         Direction::Backward => Direction::Forward,
         Direction::Either => Direction::Either,
@@ -44,13 +44,13 @@ fn turn(way: Direction) -> Direction
     }
 }
 
-/// Tells which way a link of this kind leads in the relation.
-pub fn way(relation: Relation, kind: LinkKind) -> Direction
-    ensures { result ≡ way_of relation kind }
+/// Returns the direction in which a link of this kind leads in the relation.
+pub fn direction(relation: Relation, kind: LinkKind) -> Direction
+    ensures { result ≡ direction_of relation kind }
 {
     match (relation, kind) {
-        (Relation::Broader, kind) => way_up(kind),
-        (Relation::Narrower, kind) => turn(way_up(kind)),
+        (Relation::Broader, kind) => direction_up(kind),
+        (Relation::Narrower, kind) => reverse_direction(direction_up(kind)),
         (Relation::Related, LinkKind::Related | LinkKind::RelMatch) => Direction::Either,
         (Relation::Exact, LinkKind::Exact) => Direction::Either,
         (Relation::Apart, LinkKind::Broad) => Direction::Forward,
@@ -60,9 +60,9 @@ pub fn way(relation: Relation, kind: LinkKind) -> Direction
     }
 }
 
-/// Returns the relation that leads back up, or back down.
-pub fn turn_back(relation: Relation) -> Relation
-    ensures { result ≡ back relation }
+/// Returns the converse relation: narrower for broader, broader for narrower, and any other itself.
+pub fn converse_of(relation: Relation) -> Relation
+    ensures { result ≡ converse relation }
 {
     match relation {
         Relation::Broader => Relation::Narrower,
@@ -71,11 +71,11 @@ pub fn turn_back(relation: Relation) -> Relation
     }
 }
 
-/// Finds the node that the link, taken this way, leads to from `x`.
-pub fn lead(way: Direction, link: &Link, x: ResNo) -> Option<ResNo>
-    ensures { result ≡ step_in way link.now.a link.now.b x }
+/// Returns the node that the link leads to from `x` in this direction.
+pub fn lead(direction: Direction, link: &Link, x: ResNo) -> Option<ResNo>
+    ensures { result ≡ step_in direction link.now.a link.now.b x }
 {
-    match way {
+    match direction {
         Direction::Forward if link.a == x => Some(link.b),
         Direction::Backward if link.b == x => Some(link.a),
         Direction::Either if link.a == x => Some(link.b),
@@ -84,9 +84,9 @@ pub fn lead(way: Direction, link: &Link, x: ResNo) -> Option<ResNo>
     }
 }
 
-/// Finds the node that the link leads to from `x` in the relation.
+/// Returns the node that the link leads to from `x` in the relation.
 pub fn step(relation: Relation, link: &Link, x: ResNo) -> Option<ResNo>
     ensures { result ≡ step_along relation link.now x }
 {
-    lead(way(relation, link.kind), link, x)
+    lead(direction(relation, link.kind), link, x)
 }

@@ -1,31 +1,31 @@
-//! Where a link leads from one of its ends, by which the links of a node are kept apart.
+//! The sides of a node, by which its links are sorted.
 ghost use Rattle.std.specs.Prelude.{◌≡◌, ◌-◌, ◌≤◌, length};
 ghost use Rattle.std.proofs.Math.Dec.{ltb, leb};
-ghost use Rattle.thes_graph.specs.Side.{side_no, side_in, side_at, standing_at, IsPlaceOf};
+ghost use Rattle.thes_graph.specs.Side.{side_no, side_in, side_at, sided_link_at, IsPlaceOf};
 
-use crate::relation::{Relation, way};
+use crate::relation::{Relation, direction};
 use thes_base::data::{Direction, Link, LinkKind};
 use thes_base::number::ResNo;
 
-/// Where a link leads from one of its ends: up to a broader concept, to a related or to an exact match, down to a narrower one, or
-/// none of these.
+/// Where a link leads from one of its ends: up to a broader concept, to a related one, to an exact match, down to a
+/// narrower one, or to none of these.
 #[derive(Clone, Copy, PartialEq, Eq, PartialOrd, Ord)]
 pub enum Side {
     Up,
-    Beside,
+    Sideways,
     Alike,
     Down,
     Apart,
 }
 
 impl Side {
-    /// Returns the place of the side in the order of a node's links.
+    /// Returns the rank of the side in the order of a node's links.
     pub fn number(self) -> u8
         ensures { result ≡ side_no self }
     {
         match self {
             Side::Up => 1,
-            Side::Beside => 2,
+            Side::Sideways => 2,
             Side::Alike => 3,
             Side::Down => 4,
             Side::Apart => 5,
@@ -33,27 +33,27 @@ impl Side {
     }
 }
 
-/// Returns the side on which the links of the relation stand.
+/// Returns the side on which the links of the relation lie.
 pub fn side_for(relation: Relation) -> Side
     ensures { result ≡ side_in relation }
 {
     match relation {
         Relation::Broader => Side::Up,
         Relation::Narrower => Side::Down,
-        Relation::Related => Side::Beside,
+        Relation::Related => Side::Sideways,
         Relation::Exact => Side::Alike,
         Relation::Apart => Side::Apart,
     }
 }
 
-/// A link of a node, and where it leads from there.
+/// A link of a node and its side there, sorted by the side and then by the link.
 #[derive(Clone, Copy, PartialEq, Eq, PartialOrd, Ord)]
-pub struct Standing {
+pub struct SidedLink {
     pub side: Side,
     pub link: Link,
 }
 
-/// The places of those links of a node that lead one way from there.
+/// The range of a node's links that lie on one side.
 #[derive(Clone, Copy)]
 pub struct Part {
     pub from: usize,
@@ -61,7 +61,7 @@ pub struct Part {
 }
 
 impl Part {
-    /// Counts the places.
+    /// Returns the number of links in the range.
     pub fn size(self) -> usize
         ensures { result ≡ self.to - self.from }
     {
@@ -69,12 +69,12 @@ impl Part {
     }
 }
 
-/// Tells where the link leads from the node.
+/// Returns the side of the node on which the link lies.
 pub fn side_of(link: &Link, n: ResNo) -> Side
     ensures { result ≡ side_at n link.now }
 {
     let first = link.a == n;
-    match way(Relation::Broader, link.kind) {
+    match direction(Relation::Broader, link.kind) {
         Direction::Forward if first => return Side::Up,
         Direction::Forward => return Side::Down,
         Direction::Backward if first => return Side::Down,
@@ -82,57 +82,57 @@ pub fn side_of(link: &Link, n: ResNo) -> Side
         _ => {}
     }
     match link.kind {
-        LinkKind::Related | LinkKind::RelMatch => Side::Beside,
+        LinkKind::Related | LinkKind::RelMatch => Side::Sideways,
         LinkKind::Exact => Side::Alike,
         _ => Side::Apart,
     }
 }
 
-// Whether the link stands on an earlier side than that of this number.
-fn is_before(standing: &Standing, number: u8) -> bool
-    ensures { result ≡ ltb (side_no standing.now.side) number }
+// Checks whether the link lies on a side of a lower rank than this.
+fn is_before(sided_link: &SidedLink, number: u8) -> bool
+    ensures { result ≡ ltb (side_no sided_link.now.side) number }
 {
-    standing.side.number() < number
+    sided_link.side.number() < number
 }
 
-// Whether the link stands on no later side than that of this number.
-fn is_until(standing: &Standing, number: u8) -> bool
-    ensures { result ≡ leb (side_no standing.now.side) number }
+// Checks whether the link lies on a side of this rank or a lower one.
+fn is_until(sided_link: &SidedLink, number: u8) -> bool
+    ensures { result ≡ leb (side_no sided_link.now.side) number }
 {
-    standing.side.number() <= number
+    sided_link.side.number() <= number
 }
 
-/// Counts the links of a node that stand on an earlier side than that of this number.
-pub fn count_before(row: &[Standing], number: u8) -> usize
+/// Counts the links on sides of a lower rank than this, in a row that is sorted by side.
+pub fn count_before(row: &[SidedLink], number: u8) -> usize
     ensures bound { result ≤ length row.now }
     ensures place { IsPlaceOf (λ s. ltb (side_no s.side) number) row.now result }
 {
     match row.first() {
         Some(first) if is_before(first, number) => {
-            row.partition_point(|standing| is_before(standing, number))
+            row.partition_point(|sided_link| is_before(sided_link, number))
         }
         _ => 0,
     }
 }
 
-/// Counts those that stand on no later side than that.
-pub fn count_until(row: &[Standing], number: u8) -> usize
+/// Counts the links on sides of this rank or a lower one, in a row that is sorted by side.
+pub fn count_until(row: &[SidedLink], number: u8) -> usize
     ensures bound { result ≤ length row.now }
     ensures place { IsPlaceOf (λ s. leb (side_no s.side) number) row.now result }
 {
     match row.last() {
         Some(last) if !is_until(last, number) => {
-            row.partition_point(|standing| is_until(standing, number))
+            row.partition_point(|sided_link| is_until(sided_link, number))
         }
         _ => row.len(),
     }
 }
 
-/// Makes of the link what stands at the node.
-pub fn standing_of(link: &Link, n: ResNo) -> Standing
-    ensures { result ≡ standing_at n link.now }
+/// Returns the link with its side at the node.
+pub fn sided_link_of(link: &Link, n: ResNo) -> SidedLink
+    ensures { result ≡ sided_link_at n link.now }
 {
-    Standing {
+    SidedLink {
         side: side_of(link, n),
         link: *link,
     }

@@ -1,25 +1,26 @@
-//! The check of all links: cycles by one climb from each node, exact classes each once, and what is above related concepts.
+//! The check of all links: Cycle by one search from each node, S27 for each related link, S46 once for each class of
+//! exact matches.
 ghost use Rattle.std.specs.Prelude.{◌≡◌, ℕ, true, Contains, Ok, IfOk, OnOk, MatchBool};
 ghost use Rattle.thes_base.specs.declared.data.Link.{Link};
 ghost use Rattle.thes_base.specs.Links.{HeldIn, NoCycle, S27, S46, IsFirstBroken};
 ghost use Rattle.thes_graph.specs.Reading.{HaveTwoEnds};
 ghost use Rattle.thes_graph.specs.Steps.{GrowsBy};
 ghost use Rattle.thes_graph.specs.Local.{NoS46At};
-ghost use Rattle.thes_graph.specs.Whole.{AreAll, HasWay, IsSomeCycle, IsSomeS27, IsSomeS46};
+ghost use Rattle.thes_graph.specs.Whole.{AreAll, HasDirection, IsSomeCycle, IsSomeS27, IsSomeS46};
 
-use crate::climb::climb;
+use crate::edit::LinkEdit;
+use crate::find_cycle::find_cycle;
 use crate::links::Links;
 use crate::nodes::Nodes;
-use crate::relation::{Relation, way};
-use crate::sight::Sight;
-use crate::towards::has_end_above;
+use crate::paired_search::has_end_above;
+use crate::relation::{Relation, direction};
 use crate::walk::{gather, some_ties};
 use std::alloc::{AllocError, Global};
 use thes_base::data::{Direction, Link};
 use thes_base::fault::Refusal;
 use thes_base::number::ResNo;
 
-// Whether a chain of broader links leads from some node back to it.
+// Checks whether a chain of broader links leads from some node back to it.
 fn has_cycle<L: Links>(alloc: Global, links: &mut L, all: &[Link]) -> Result<bool, AllocError>
     requires { AreAll (L.held links.old) all.now }
     ensures held { L.held links.new ≡ L.held links.old }
@@ -28,24 +29,25 @@ fn has_cycle<L: Links>(alloc: Global, links: &mut L, all: &[Link]) -> Result<boo
 {
     let mut done = Nodes::none(alloc);
     for link in all {
-        if !done.has(link.a) && climb(alloc, links, link.a, &mut done)? {
+        if !done.has(link.a) && find_cycle(alloc, links, link.a, &mut done)? {
             return Ok(true);
         }
     }
     Ok(false)
 }
 
-// Whether links of this kind have a way in the relation.
-fn counts(relation: Relation, link: &Link) -> bool
-    ensures { MatchBool result (HasWay relation link.now) (HasWay relation link.now → ⊥) }
+// Checks whether the link leads in some direction in the relation.
+fn has_direction(relation: Relation, link: &Link) -> bool
+    ensures { MatchBool result (HasDirection relation link.now)
+        (HasDirection relation link.now → ⊥) }
 {
-    match way(relation, link.kind) {
+    match direction(relation, link.kind) {
         Direction::Never => false,
         _ => true,
     }
 }
 
-// Whether two related concepts stand one above the other.
+// Checks whether of two related concepts one is above the other (SKOS S27).
 fn breaks_s27<L: Links>(alloc: Global, links: &mut L, all: &[Link]) -> Result<bool, AllocError>
     requires all { AreAll (L.held links.old) all.now }
     requires two_ends { HaveTwoEnds (HeldIn (L.held links.old)) }
@@ -54,14 +56,14 @@ fn breaks_s27<L: Links>(alloc: Global, links: &mut L, all: &[Link]) -> Result<bo
         (HeldIn (L.held links.old)))) }
 {
     for link in all {
-        if counts(Relation::Related, link) && has_end_above(alloc, links, link)? {
+        if has_direction(Relation::Related, link) && has_end_above(alloc, links, link)? {
             return Ok(true);
         }
     }
     Ok(false)
 }
 
-// Adds these nodes to those that are done.
+// Appends these nodes to those that are done.
 fn add_done(done: &mut Nodes, nodes: &[ResNo]) -> Result<(), AllocError>
     ensures { OnOk result (GrowsBy done.old done.new (Contains nodes.now)) }
 {
@@ -71,7 +73,8 @@ fn add_done(done: &mut Nodes, nodes: &[ResNo]) -> Result<(), AllocError>
     Ok(())
 }
 
-// Whether two of the node's class of exact matches are broader or related matches. If not, the class is done.
+// Checks whether two members of the node's class of exact matches are broader or related matches. If not, the class is
+// done.
 fn breaks_s46_at<L: Links>(
     alloc: Global,
     links: &mut L,
@@ -81,11 +84,13 @@ fn breaks_s46_at<L: Links>(
     requires done { (m : ℕ) → Contains done.old m → NoS46At (HeldIn (L.held links.old)) m }
     requires two_ends { HaveTwoEnds (HeldIn (L.held links.old)) }
     ensures held { L.held links.new ≡ L.held links.old }
-    ensures found { IfOk result (λ found. MatchBool found (IsSomeS46 (HeldIn (L.held links.old))) (Contains done.new n)) }
-    ensures kept { OnOk result ((m : ℕ) → Contains done.old m → Contains done.new m) }
-    ensures done { OnOk result ((m : ℕ) → Contains done.new m → NoS46At (HeldIn (L.held links.old)) m) }
+    ensures found { IfOk result
+        (λ found. MatchBool found (IsSomeS46 (HeldIn (L.held links.old))) (Contains done.new n)) }
+    ensures extends { OnOk result ((m : ℕ) → Contains done.old m → Contains done.new m) }
+    ensures done { OnOk result
+        ((m : ℕ) → Contains done.new m → NoS46At (HeldIn (L.held links.old)) m) }
 {
-    let same = gather(alloc, links, &Sight::AsHeld, n, Relation::Exact)?;
+    let same = gather(alloc, links, &LinkEdit::NoEdit, n, Relation::Exact)?;
     if some_ties(Relation::Apart, &same.links, &same.nodes, &same.nodes) {
         return Ok(true);
     }
@@ -93,7 +98,7 @@ fn breaks_s46_at<L: Links>(
     Ok(false)
 }
 
-// Whether two exact matches are broader or related matches too.
+// Checks whether two exact matches are also broader or related matches (SKOS S46).
 fn breaks_s46<L: Links>(alloc: Global, links: &mut L, all: &[Link]) -> Result<bool, AllocError>
     requires all { AreAll (L.held links.old) all.now }
     requires two_ends { HaveTwoEnds (HeldIn (L.held links.old)) }
@@ -103,7 +108,7 @@ fn breaks_s46<L: Links>(alloc: Global, links: &mut L, all: &[Link]) -> Result<bo
 {
     let mut done = Nodes::none(alloc);
     for link in all {
-        if counts(Relation::Exact, link)
+        if has_direction(Relation::Exact, link)
             && !done.has(link.a)
             && breaks_s46_at(alloc, links, link.a, &mut done)?
         {
@@ -113,7 +118,7 @@ fn breaks_s46<L: Links>(alloc: Global, links: &mut L, all: &[Link]) -> Result<bo
     Ok(false)
 }
 
-/// Finds the first rule that the links break, of which `all` is the list.
+/// Returns the first rule that the links break. The list `all` has exactly these links.
 pub fn check_all<L: Links>(
     alloc: Global,
     links: &mut L,

@@ -1,5 +1,6 @@
--- From a head and a body to an answer.
-use Rattle.std.proofs.Common.{◌≡◌, ◌∙◌, sym, ap, subst, refl, inl, inr, ℕ, ◌≤◌, List, ◌++◌, length, take, drop, append_assoc, Option, Result, Ok, Err, arith}
+-- Proves the response to a connection from what was read of its head and body.
+use Rattle.std.proofs.Common.{◌≡◌, ◌∙◌, sym, ap, subst, refl, inl, inr, ℕ, ◌≤◌, List, ◌++◌, length, take, drop}
+use Rattle.std.proofs.Common.{append_assoc, Option, Result, Ok, Err, arith}
 use Rattle.std.proofs.lemmas.List.{length-take, take-append-drop, drop-append-le}
 use Rattle.std.specs.Io.KnownBytes.{Consumes}
 use Rattle.httparse.specs.Grammar.{RequestHead, print_request}
@@ -9,45 +10,58 @@ use Rattle.thes_http_request.specs.declared.problem.Problem.{Problem}
 use Rattle.thes_http_request.specs.declared.problem.Problem.TheVariants.{BadHead}
 use Rattle.thes_http.specs.declared.response.Response.{Response}
 use Rattle.thes_http_request.specs.Heads.{head_limit, HasHead, IsBadHead}
-use Rattle.thes_http_request.specs.Inbox.{Takes, ReadsBody, CutsBody, Asks}
-use Rattle.thes_http_request.specs.Wants.{Wants}
+use Rattle.thes_http_request.specs.Inbox.{ConsumesSome, ReadsBody, CutsBody, HeadOutcome}
+use Rattle.thes_http_request.specs.HeadRequests.{HeadRequest}
 use Rattle.thes_http.specs.Responses.{problem_response, fault_response}
-use Rattle.thes_http.specs.Serving.{Doing, DoesOrFails}
-use Rattle.thes_http.specs.Connection.{IsAnswer, IsCutOff}
+use Rattle.thes_http.specs.Serving.{ServiceEffects, PlaceEffectOrFailure}
+use Rattle.thes_http.specs.Connection.{IsConnectionAnswer, IsCutOff}
 
--- a head at the front, with what follows it in all the bytes
-pub has_more : (bytes : List ℕ) (h : RequestHead) (rest more : List ℕ) → HasHead bytes h rest → HasHead (bytes ++ more) h (rest ++ more)
+-- A head at the beginning stays one when more bytes follow.
+pub has_more : (bytes : List ℕ) (h : RequestHead) (rest more : List ℕ) → HasHead bytes h rest
+    → HasHead (bytes ++ more) h (rest ++ more)
 has_more bytes h rest more has = record {
   reads = (has.reads.0, ap (λ t. t ++ more) has.reads.1 ∙ append_assoc (print_request h) rest more);
   short = has.short;
   few = has.few;
 }
 
-pub answer_bad : {S : Type 0} (d : Doing S) (known left : Option (List ℕ)) (old : S) (bytes : List ℕ) → Consumes known left bytes → IsBadHead bytes → IsAnswer d known left old (problem_response BadHead) old
+pub answer_bad : {S : Type 0} (d : ServiceEffects S) (known left : Option (List ℕ)) (old : S) (bytes : List ℕ)
+    → Consumes known left bytes → IsBadHead bytes → IsConnectionAnswer d known left old (problem_response BadHead) old
 answer_bad d known left old bytes t b = record { bytes = bytes; taken = t; answers = inl (b, (refl, refl)) }
 
-pub answer_memory : {S : Type 0} (d : Doing S) (known left : Option (List ℕ)) (old : S) (bytes : List ℕ) → Consumes known left bytes → IsAnswer d known left old (fault_response OutOfMemory) old
+pub answer_memory : {S : Type 0} (d : ServiceEffects S) (known left : Option (List ℕ)) (old : S) (bytes : List ℕ)
+    → Consumes known left bytes → IsConnectionAnswer d known left old (fault_response OutOfMemory) old
 answer_memory d known left old bytes t = record { bytes = bytes; taken = t; answers = inr (inr (refl, refl)) }
 
-pub answer_memory_more : {S : Type 0} (d : Doing S) (known mid left : Option (List ℕ)) (old : S) (bytes : List ℕ) → Consumes known mid bytes → Takes mid left → IsAnswer d known left old (fault_response OutOfMemory) old
-answer_memory_more d known mid left old bytes t k = answer_memory d known left old (bytes ++ k.more) (Consumes-trans known mid left bytes k.more t k.taken)
+pub answer_memory_more : {S : Type 0} (d : ServiceEffects S) (known mid left : Option (List ℕ)) (old : S)
+    (bytes : List ℕ) → Consumes known mid bytes → ConsumesSome mid left → IsConnectionAnswer d known left old
+    (fault_response OutOfMemory) old
+answer_memory_more d known mid left old bytes t k = answer_memory d known left old (bytes ++ k.more)
+    (Consumes-trans known mid left bytes k.more t k.taken)
 
--- what the front of the bytes asks for, they ask for
-pub asks_all : (bytes : List ℕ) (len : ℕ) (outcome : Result Wants Problem) → len ≤ length (take head_limit bytes) → Asks (take head_limit bytes) (drop len (take head_limit bytes)) outcome → Asks bytes (drop len bytes) outcome
-asks_all bytes len outcome l a =
+-- The bytes ask for what their prefix asks for.
+pub head_outcome_all : (bytes : List ℕ) (len : ℕ) (outcome : Result HeadRequest Problem) → len
+    ≤ length (take head_limit bytes) → HeadOutcome (take head_limit bytes) (drop len (take head_limit bytes)) outcome
+    → HeadOutcome bytes (drop len bytes) outcome
+head_outcome_all bytes len outcome l a =
     let front = take head_limit bytes in
     let rest = drop head_limit bytes in
     let whole : front ++ rest ≡ bytes = take-append-drop head_limit bytes in
     let has = has_more front a.head (drop len front) rest a.has in
-    let after : drop len front ++ rest ≡ drop len bytes = sym (drop-append-le len front rest l) ∙ ap (λ t. drop len t) whole in
+    let after : drop len front ++ rest ≡ drop len bytes = sym (drop-append-le len front rest l)
+    ∙ ap (λ t. drop len t) whole in
     record {
       head = a.head;
-      has = subst (λ (t : List ℕ). HasHead t a.head (drop len bytes)) whole (subst (λ (t : List ℕ). HasHead (front ++ rest) a.head t) after has);
+      has = subst (λ (t : List ℕ). HasHead t a.head (drop len bytes)) whole
+          (subst (λ (t : List ℕ). HasHead (front ++ rest) a.head t) after has);
       wants = a.wants;
     }
 
-pub asks_front : (bytes front : List ℕ) (len : ℕ) (outcome : Result Wants Problem) → front ≡ take head_limit bytes → len ≤ length (take head_limit bytes) → Asks front (drop len front) outcome → Asks bytes (drop len bytes) outcome
-asks_front bytes front len outcome e l a = asks_all bytes len outcome l (subst (λ (t : List ℕ). Asks t (drop len t) outcome) e a)
+pub head_outcome_front : (bytes front : List ℕ) (len : ℕ) (outcome : Result HeadRequest Problem) → front
+    ≡ take head_limit bytes → len ≤ length (take head_limit bytes) → HeadOutcome front (drop len front) outcome
+    → HeadOutcome bytes (drop len bytes) outcome
+head_outcome_front bytes front len outcome e l a = head_outcome_all bytes len outcome l
+    (subst (λ (t : List ℕ). HeadOutcome t (drop len t) outcome) e a)
 
 pub front_short : (bytes front : List ℕ) → front ≡ take head_limit bytes → length front ≤ head_limit
 front_short bytes front e = let len = ap length e ∙ length-take head_limit bytes in omega (arith, len)
@@ -55,24 +69,36 @@ front_short bytes front e = let len = ap length e ∙ length-take head_limit byt
 pub len_within : (bytes : List ℕ) (len : ℕ) → len ≤ length (take head_limit bytes) → len ≤ length bytes
 len_within bytes len h = let is = length-take head_limit bytes in omega (arith, is, h)
 
-pub answer_problem : {S : Type 0} (d : Doing S) (known left : Option (List ℕ)) (old : S) (bytes rest : List ℕ) (p : Problem) → Consumes known left bytes → Asks bytes rest (Err p) → IsAnswer d known left old (problem_response p) old
-answer_problem d known left old bytes rest p t a = record { bytes = bytes; taken = t; answers = inr (inl (a.head, rest, a.has, rw a.wants (refl, refl))) }
+pub answer_problem : {S : Type 0} (d : ServiceEffects S) (known left : Option (List ℕ)) (old : S)
+    (bytes rest : List ℕ) (p : Problem) → Consumes known left bytes → HeadOutcome bytes rest (Err p)
+    → IsConnectionAnswer d known left old (problem_response p) old
+answer_problem d known left old bytes rest p t a =
+    record { bytes = bytes; taken = t; answers = inr (inl (a.head, rest, a.has, rw a.wants (refl, refl))) }
 
--- the body is whole, and what is asked for is done
-pub answer_done : {S : Type 0} (d : Doing S) (known mid left : Option (List ℕ)) (old new : S) (bytes rest body : List ℕ) (w : Wants) (r : Response)
-    → Consumes known mid bytes → Asks bytes rest (Ok w) → ReadsBody mid left rest w.body body → DoesOrFails d old r new w.place w.number w.query body → IsAnswer d known left old r new
+-- The body is complete, and the request is carried out.
+pub answer_done : {S : Type 0} (d : ServiceEffects S) (known mid left : Option (List ℕ)) (old new : S)
+    (bytes rest body : List ℕ) (w : HeadRequest) (r : Response)
+    → Consumes known mid bytes → HeadOutcome bytes rest (Ok w) → ReadsBody mid left rest w.body body
+    → PlaceEffectOrFailure d old r new w.place w.number w.query body → IsConnectionAnswer d known left old r new
 answer_done d known mid left old new bytes rest body w r t a b does =
     let taken = Consumes-trans known mid left bytes b.more t b.taken in
     elim does [
       | inl done ↦ record {
         bytes = bytes ++ b.more;
         taken = taken;
-        answers = inr (inl (a.head, rest ++ b.more, has_more bytes a.head rest b.more a.has, rw a.wants (b.whole, rw b.body_is at done)));
+        answers =
+            inr (inl (
+              a.head,
+              rest ++ b.more,
+              has_more bytes a.head rest b.more a.has,
+              rw a.wants (b.whole, rw b.body_is at done),
+            ));
       }
       | inr failed ↦ record { bytes = bytes ++ b.more; taken = taken; answers = inr (inr failed) }
     ]
 
-pub cut_body : (known mid left : Option (List ℕ)) (bytes rest : List ℕ) (w : Wants) → Consumes known mid bytes → Asks bytes rest (Ok w) → CutsBody mid left rest w.body → IsCutOff known left
+pub cut_body : (known mid left : Option (List ℕ)) (bytes rest : List ℕ) (w : HeadRequest) → Consumes known mid bytes
+    → HeadOutcome bytes rest (Ok w) → CutsBody mid left rest w.body → IsCutOff known left
 cut_body known mid left bytes rest w t a c = record {
   bytes = bytes ++ c.more;
   taken = Consumes-trans known mid left bytes c.more t c.taken;
@@ -80,15 +106,23 @@ cut_body known mid left bytes rest w t a c = record {
   cut = inr (a.head, rest ++ c.more, w, has_more bytes a.head rest c.more a.has, a.wants, c.short);
 }
 
--- the same, as the parts of the program show it
-pub answer_all : {S : Type 0} (d : Doing S) (known mid left : Option (List ℕ)) (old new : S) (bytes front start body text : List ℕ) (len : ℕ) (w : Wants) (r : Response)
-    → Consumes known mid bytes → front ≡ take head_limit bytes → len ≤ length (take head_limit bytes) → Asks front (drop len front) (Ok w) → start ≡ drop len bytes → text ≡ body
-    → ReadsBody mid left start w.body body → DoesOrFails d old r new w.place w.number w.query text → IsAnswer d known left old r new
+-- The same, in the terms of the program's contracts.
+pub answer_all : {S : Type 0} (d : ServiceEffects S) (known mid left : Option (List ℕ)) (old new : S)
+    (bytes front start body text : List ℕ) (len : ℕ) (w : HeadRequest) (r : Response)
+    → Consumes known mid bytes → front ≡ take head_limit bytes → len ≤ length (take head_limit bytes)
+    → HeadOutcome front (drop len front) (Ok w) → start ≡ drop len bytes → text ≡ body
+    → ReadsBody mid left start w.body body → PlaceEffectOrFailure d old r new w.place w.number w.query text
+    → IsConnectionAnswer d known left old r new
 answer_all d known mid left old new bytes front start body text len w r t e l a s is b does =
-    answer_done d known mid left old new bytes (drop len bytes) body w r t (asks_front bytes front len (Ok w) e l a)
-    (subst (λ (x : List ℕ). ReadsBody mid left x w.body body) s b) (subst (λ (x : List ℕ). DoesOrFails d old r new w.place w.number w.query x) is does)
+    answer_done d known mid left old new bytes (drop len bytes) body w r t
+    (head_outcome_front bytes front len (Ok w) e l a)
+    (subst (λ (x : List ℕ). ReadsBody mid left x w.body body) s b)
+    (subst (λ (x : List ℕ). PlaceEffectOrFailure d old r new w.place w.number w.query x) is does)
 
-pub cut_all : (known mid left : Option (List ℕ)) (bytes front start : List ℕ) (len : ℕ) (w : Wants) → Consumes known mid bytes → front ≡ take head_limit bytes → len ≤ length (take head_limit bytes)
-    → Asks front (drop len front) (Ok w) → start ≡ drop len bytes → CutsBody mid left start w.body → IsCutOff known left
+pub cut_all : (known mid left : Option (List ℕ)) (bytes front start : List ℕ) (len : ℕ) (w : HeadRequest)
+    → Consumes known mid bytes → front ≡ take head_limit bytes → len ≤ length (take head_limit bytes)
+    → HeadOutcome front (drop len front) (Ok w) → start ≡ drop len bytes → CutsBody mid left start w.body
+    → IsCutOff known left
 cut_all known mid left bytes front start len w t e l a s c =
-    cut_body known mid left bytes (drop len bytes) w t (asks_front bytes front len (Ok w) e l a) (subst (λ (x : List ℕ). CutsBody mid left x w.body) s c)
+    cut_body known mid left bytes (drop len bytes) w t (head_outcome_front bytes front len (Ok w) e l a)
+    (subst (λ (x : List ℕ). CutsBody mid left x w.body) s c)

@@ -1,33 +1,41 @@
--- Connections, one after another.
+-- Proves how connections add up.
 use Rattle.std.proofs.Common.{◌≡◌, subst, refl, sym, ℕ, ◌+◌, ◌≤◌, List, [], ◌∷◌, ◌++◌, length-append, arith}
 use Rattle.thes_http.specs.declared.response.Response.{Response}
 use Rattle.thes_http.specs.Server.{Exchange, AreAnswered, LeadsBy}
-use Rattle.thes_http.specs.Serving.{Doing, Answers}
+use Rattle.thes_http.specs.Serving.{ServiceEffects, Answers}
 
-module _ {S : Type 0} (d : Doing S) where
-  -- nothing was done
-  pub led_nowhere : (most : ℕ) (old new : S) → new ≡ old → LeadsBy d most old new
-  led_nowhere most old new same = record { exchanges = []; few = omega arith; answered = same }
+module _ {S : Type 0} (d : ServiceEffects S) where
+  -- Nothing was done.
+  pub leads_nowhere : (most : ℕ) (old new : S) → new ≡ old → LeadsBy d most old new
+  leads_nowhere most old new same = record { exchanges = []; few = omega arith; answered = same }
 
-  -- one request was answered
-  pub led_once : (old new : S) (bytes : List ℕ) (response : Response) → Answers d old response new bytes → LeadsBy d 1 old new
-  led_once old new bytes response answers = record {
+  -- One request was answered.
+  pub leads_once : (old new : S) (bytes : List ℕ) (response : Response) → Answers d old response new bytes
+      → LeadsBy d 1 old new
+  leads_once old new bytes response answers = record {
     exchanges = record { bytes = bytes; response = response } ∷ [];
     few = omega arith;
     answered = (old, refl, answers);
   }
 
-  both_answered : (old mid new : S) (later sooner : List Exchange) → AreAnswered d old sooner mid → AreAnswered d mid later new → AreAnswered d old (later ++ sooner) new
+  both_answered : (old mid new : S) (later sooner : List Exchange) → AreAnswered d old sooner mid
+      → AreAnswered d mid later new → AreAnswered d old (later ++ sooner) new
   both_answered old mid new [] sooner first same = subst (λ (s : S). AreAnswered d old sooner s) (sym same) first
-  both_answered old mid new (e ∷ later) sooner first then = (then.0, both_answered old mid then.0 later sooner first then.1, then.2)
+  both_answered old mid new (e ∷ later) sooner first then =
+      (then.0, both_answered old mid then.0 later sooner first then.1, then.2)
 
-  -- some connections, and then some more
-  pub led_on : (m n : ℕ) {old mid new : S} → LeadsBy d m old mid → LeadsBy d n mid new → LeadsBy d (m + n) old new
-  led_on m n {old} {mid} {new} a b = record {
+  -- Some connections, then some more.
+  pub leads_on : (m n : ℕ) {old mid new : S} → LeadsBy d m old mid → LeadsBy d n mid new → LeadsBy d (m + n) old new
+  leads_on m n {old} {mid} {new} a b = record {
     exchanges = b.exchanges ++ a.exchanges;
     few = rw (length-append b.exchanges a.exchanges) (omega (arith, a.few, b.few));
     answered = both_answered old mid new b.exchanges a.exchanges a.answered b.answered;
   }
 
-  pub led_within : (m n : ℕ) {old new : S} → m ≤ n → LeadsBy d m old new → LeadsBy d n old new
-  led_within m n within a = record { exchanges = a.exchanges; few = omega (arith, within, a.few); answered = a.answered }
+  pub leads_within : (m n : ℕ) {old new : S} → m ≤ n → LeadsBy d m old new → LeadsBy d n old new
+  leads_within m n within a = record {
+    exchanges = a.exchanges;
+    few = omega (arith, within, a.few);
+    answered =
+        a.answered;
+  }

@@ -1,19 +1,20 @@
--- What is written: a status, a type and a body.
+-- Responses: a status, a media type and a body, and their bytes.
 use Rattle.std.specs.Prelude.{ℕ, ◌++◌, [], List, Option, unwrap_or, length, codes, decimal, Result, Ok, Err}
 use Rattle.std.specs.Io.KnownBytes.{Appends}
 use Rattle.thes_base.specs.declared.fault.Fault.{Fault}
 use Rattle.thes_base.specs.declared.fault.FormFault.{FormFault}
 use Rattle.thes_base.specs.declared.pipe.Pipe.{Pipe}
-use Rattle.thes_base.specs.Pipe.{AppendsFront, written}
+use Rattle.thes_base.specs.Pipe.{AppendsPrefix, written_bytes}
 use Rattle.thes_base.specs.declared.request.Answer.{Answer}
 use Rattle.thes_base.specs.declared.request.Answer.TheVariants.{No}
 use Rattle.thes_exchange.specs.declared.answer.Reply.{Reply}
 use Rattle.thes_exchange.specs.declared.answer.Reply.TheVariants as reply
-use Rattle.thes_exchange.specs.declared.desk.Viewed.{Viewed}
-use Rattle.thes_exchange.specs.declared.desk.Viewed.TheVariants as view
+use Rattle.thes_exchange.specs.declared.handler.QueryAnswer.{QueryAnswer}
+use Rattle.thes_exchange.specs.declared.handler.QueryAnswer.TheVariants as view
 use Rattle.thes_exchange.specs.AnswerTexts.{reply_text}
 use Rattle.thes_http_request.specs.declared.problem.Problem.{Problem}
-use Rattle.thes_http_request.specs.declared.problem.Problem.TheVariants.{BadHead, TransferCoding, NoSuchPath, BadMethod, NoLength, TooLong, BadQuery}
+use Rattle.thes_http_request.specs.declared.problem.Problem.TheVariants.{BadHead, TransferCoding, NoSuchPath}
+use Rattle.thes_http_request.specs.declared.problem.Problem.TheVariants.{BadMethod, NoLength, TooLong, BadQuery}
 use Rattle.thes_http.specs.declared.response.Status.{Status}
 use Rattle.thes_http.specs.declared.response.Status.TheVariants as status
 use Rattle.thes_http.specs.declared.response.Media.{Media}
@@ -21,17 +22,17 @@ use Rattle.thes_http.specs.declared.response.Media.TheVariants as media
 use Rattle.thes_http.specs.declared.response.Body.{Body}
 use Rattle.thes_http.specs.declared.response.Body.TheVariants as body
 use Rattle.thes_http.specs.declared.response.Response.{Response}
-use Rattle.thes_http.specs.declared.service.Imported.{Imported}
-use Rattle.thes_http.specs.declared.service.Imported.TheVariants as imported
-use Rattle.thes_http.specs.declared.service.Displayed.{Displayed}
-use Rattle.thes_http.specs.declared.service.Displayed.TheVariants as displayed
+use Rattle.thes_http.specs.declared.service.ImportAnswer.{ImportAnswer}
+use Rattle.thes_http.specs.declared.service.ImportAnswer.TheVariants as imported
+use Rattle.thes_http.specs.declared.service.DisplayAnswer.{DisplayAnswer}
+use Rattle.thes_http.specs.declared.service.DisplayAnswer.TheVariants as displayed
 use Rattle.http.specs.StatusCode.{code_digits, reason_phrase}
-use Rattle.thes_http_request.specs.Places.{verb_text}
+use Rattle.thes_http_request.specs.Places.{method_text}
 use Rattle.thes_base.specs.declared.fault.FormFault.TheVariants.{BadShape}
 
--- Words on the wire.
+-- Texts of a response.
 
--- the number of a status
+-- The code of a status (RFC 9110, section 15).
 abbrev pub status_code : Status → ℕ
 status_code status.Fine = 200
 status_code status.BadRequest = 400
@@ -43,23 +44,24 @@ status_code status.PayloadTooLarge = 413
 status_code status.NotImplemented = 501
 status_code status.ServiceUnavailable = 503
 
--- a line of the head
+-- A line of the head, with its line end.
 abbrev pub head_line : List ℕ → List ℕ
 head_line text = text ++ codes "\r\n"
 
--- the first line: the version, and the number with its phrase
+-- The status line: the version, the code and its reason phrase.
 abbrev pub status_line : Status → List ℕ
 status_line s = head_line
     (codes "HTTP/1.1 " ++ code_digits (status_code s) ++ codes " "
     ++ unwrap_or (reason_phrase (status_code s)) [])
 
--- the type of a body
+-- The name of a media type.
 abbrev pub media_type : Media → List ℕ
 media_type media.Json = codes "application/json"
 media_type media.Csv = codes "text/csv; charset=utf-8"
 media_type media.NTriples = codes "application/n-triples"
 media_type media.Plain = codes "text/plain; charset=utf-8"
 
+-- The name of a problem.
 abbrev pub problem_name : Problem → List ℕ
 problem_name BadHead = codes "BadHead"
 problem_name TransferCoding = codes "TransferCoding"
@@ -69,10 +71,11 @@ problem_name NoLength = codes "NoLength"
 problem_name TooLong = codes "TooLong"
 problem_name BadQuery = codes "BadQuery"
 
--- {"bad":"NAME"} and a line feed
+-- The body for a problem: `{"bad":"NAME"}` and a line feed.
 abbrev pub problem_text : Problem → List ℕ
 problem_text p = codes "{\"bad\":\"" ++ problem_name p ++ codes "\"}\n"
 
+-- The status for a problem.
 abbrev pub problem_status : Problem → Status
 problem_status BadHead = status.BadRequest
 problem_status TransferCoding = status.NotImplemented
@@ -82,86 +85,93 @@ problem_status NoLength = status.LengthRequired
 problem_status TooLong = status.PayloadTooLarge
 problem_status BadQuery = status.BadRequest
 
--- the line of the method that a path allows, where another was asked for
+-- The `Allow` line for a method that the path doesn't have, else nothing.
 abbrev pub allow_text : Body → List ℕ
-allow_text (body.Problem (BadMethod verb)) = head_line (codes "Allow: " ++ verb_text verb)
+allow_text (body.Problem (BadMethod verb)) = head_line (codes "Allow: " ++ method_text verb)
 allow_text b = []
 
+-- The bytes of a body.
 abbrev pub body_text : Body → List ℕ
 body_text (body.Problem p) = problem_text p
 body_text (body.Reply r) = reply_text r
 body_text (body.View line) = line
 body_text (body.Page page) = page
 
--- the type and the length of a body, and that nothing follows it
+-- The header lines for the type and the length of a body, and for closing the connection.
 abbrev pub body_lines : Media → ℕ → List ℕ
 body_lines media count =
     head_line (codes "Content-Type: " ++ media_type media)
     ++ head_line (codes "Content-Length: " ++ decimal count)
     ++ head_line (codes "Connection: close")
 
--- the lines of the head, and an empty one
+-- The head of a response: its lines, and an empty one.
 unfoldable pub head_text : Response → List ℕ
 head_text r =
     status_line r.status ++ body_lines r.media (length (body_text r.body))
     ++ allow_text r.body ++ head_line []
 
--- the head, and then the body
+-- The bytes of a response: the head, then the body.
 abbrev pub response_text : Response → List ℕ
 response_text r = head_text r ++ body_text r.body
 
--- the response was written
+-- The response was appended to the output.
 abbrev pub WritesResponse : {W : Type 0} → (W → Option (List ℕ)) → Response → Pipe W → Pipe W → Type 0
-WritesResponse contents r old new = Appends (written contents old) (written contents new) (response_text r)
+WritesResponse contents r old new = Appends (written_bytes contents old) (written_bytes contents new) (response_text r)
 
--- a front of it was written
-abbrev pub WritesFront : {W : Type 0} → (W → Option (List ℕ)) → Response → Pipe W → Pipe W → Type 0
-WritesFront contents r old new = AppendsFront (written contents old) (written contents new) (response_text r)
+-- A prefix of the response was appended to the output.
+abbrev pub WritesPrefix : {W : Type 0} → (W → Option (List ℕ)) → Response → Pipe W → Pipe W → Type 0
+WritesPrefix contents r old new = AppendsPrefix (written_bytes contents old) (written_bytes contents new)
+    (response_text r)
 
 -- Responses.
 
--- a line of JSON with this status
-abbrev pub told : Status → Reply → Response
-told s answer = record { status = s; media = media.Json; body = body.Reply answer }
+-- A response with a line of JSON.
+abbrev pub reply_response : Status → Reply → Response
+reply_response s answer = record { status = s; media = media.Json; body = body.Reply answer }
 
--- a page of this type
+-- A response with a page of this type.
 abbrev pub page_response : Media → List ℕ → Response
 page_response type page = record { status = status.Fine; media = type; body = body.Page page }
 
+-- The response to a problem.
 abbrev pub problem_response : Problem → Response
 problem_response p =
     record { status = problem_status p; media = media.Json; body = body.Problem p }
 
+-- The response to a form fault.
 abbrev pub form_response : FormFault → Response
-form_response f = told status.BadRequest (reply.Bad f)
+form_response f = reply_response status.BadRequest (reply.Bad f)
 
+-- The response to a fault.
 abbrev pub fault_response : Fault → Response
-fault_response f = told status.ServiceUnavailable (reply.Fault f)
+fault_response f = reply_response status.ServiceUnavailable (reply.Fault f)
 
--- a refused request is a conflict
-abbrev pub performed_response : Result Answer Fault → Response
-performed_response (Ok (No r)) = told status.Conflict (reply.Answer (No r))
-performed_response (Ok a) = told status.Fine (reply.Answer a)
-performed_response (Err f) = fault_response f
+-- The response to a command; a refusal is a conflict.
+abbrev pub command_response : Result Answer Fault → Response
+command_response (Ok (No r)) = reply_response status.Conflict (reply.Answer (No r))
+command_response (Ok a) = reply_response status.Fine (reply.Answer a)
+command_response (Err f) = fault_response f
 
--- a refused view was not found
-abbrev pub viewed_response : Result Viewed Fault → Response
-viewed_response (Ok (view.Line line)) =
+-- The response to a query; a refusal is `NotFound`.
+abbrev pub query_response : Result QueryAnswer Fault → Response
+query_response (Ok (view.Line line)) =
     record { status = status.Fine; media = media.Json; body = body.View line }
-viewed_response (Ok (view.No r)) = told status.NotFound (reply.Answer (No r))
-viewed_response (Err f) = fault_response f
+query_response (Ok (view.No r)) = reply_response status.NotFound (reply.Answer (No r))
+query_response (Err f) = fault_response f
 
-abbrev pub imported_response : Result Imported Fault → Response
-imported_response (Ok (imported.Outcomes page)) = page_response media.Csv page
-imported_response (Ok imported.Malformed) = form_response BadShape
-imported_response (Err f) = fault_response f
+-- The response to an import.
+abbrev pub import_response : Result ImportAnswer Fault → Response
+import_response (Ok (imported.Outcomes page)) = page_response media.Csv page
+import_response (Ok imported.Malformed) = form_response BadShape
+import_response (Err f) = fault_response f
 
-abbrev pub exported_response : Result (List ℕ) Fault → Response
-exported_response (Ok page) = page_response media.NTriples page
-exported_response (Err f) = fault_response f
+-- The response to an export.
+abbrev pub export_response : Result (List ℕ) Fault → Response
+export_response (Ok page) = page_response media.NTriples page
+export_response (Err f) = fault_response f
 
--- a refused display was not found
-abbrev pub displayed_response : Result Displayed Fault → Response
-displayed_response (Ok (displayed.Lines page)) = page_response media.Plain page
-displayed_response (Ok (displayed.No r)) = told status.NotFound (reply.Answer (No r))
-displayed_response (Err f) = fault_response f
+-- The response to a request for a display; a refusal is `NotFound`.
+abbrev pub display_response : Result DisplayAnswer Fault → Response
+display_response (Ok (displayed.Lines page)) = page_response media.Plain page
+display_response (Ok (displayed.No r)) = reply_response status.NotFound (reply.Answer (No r))
+display_response (Err f) = fault_response f

@@ -1,21 +1,22 @@
 -- Connections, one after another.
 use Rattle.std.specs.Prelude.{ℕ, ◌≡◌, ◌≤◌, List, [], ◌∷◌, length}
 use Rattle.thes_http.specs.declared.response.Response.{Response}
-use Rattle.thes_http.specs.Serving.{Doing, Answers}
+use Rattle.thes_http.specs.Serving.{ServiceEffects, Answers}
 
--- what was taken of a connection, and what it was answered with
+-- One request and its response: the bytes consumed and the response to them.
 pub record Exchange : Type 0 where
   pub bytes : List ℕ
   pub response : Response
 
--- They were answered one after another, the latest first, and nothing else was done.
-abbrev pub AreAnswered : {S : Type 0} → Doing S → S → List Exchange → S → Type 0
+-- The exchanges, listed with the latest first, lead from the one state of a service to the other,
+-- and nothing else was done.
+abbrev pub AreAnswered : {S : Type 0} → ServiceEffects S → S → List Exchange → S → Type 0
 AreAnswered d old [] new = new ≡ old
 AreAnswered {S} d old (e ∷ before) new =
     (mid : S) × AreAnswered d old before mid × Answers d mid e.response new e.bytes
 
--- At most so many connections lead from the one state of a service to the other.
-pub record LeadsBy {S : Type 0} (d : Doing S) (most : ℕ) (old new : S) : Type 0 where
+-- At most `most` connections lead from the one state of a service to the other.
+pub record LeadsBy {S : Type 0} (d : ServiceEffects S) (most : ℕ) (old new : S) : Type 0 where
   pub exchanges : List Exchange
   pub few : length exchanges ≤ most
   pub answered : AreAnswered d old exchanges new

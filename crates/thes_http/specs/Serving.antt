@@ -1,4 +1,4 @@
--- What a connection's bytes are answered with, and what they do.
+-- The effect of the bytes of a connection, and the response to them.
 use Rattle.std.specs.Prelude.{ℕ, ◌≡◌, ◌≤◌, ◌<◌, ◌⊎◌, List, length, take, map, Option, Some, None, Result, Ok, Err}
 use Rattle.std.specs.Char.{to_ascii_lowercase}
 use Rattle.httparse.specs.Grammar.{RequestHead}
@@ -12,7 +12,7 @@ use Rattle.thes_base.specs.declared.request.Answer.{Answer}
 use Rattle.thes_exchange.specs.Serving.{Performing, Showing}
 use Rattle.thes_exchange.specs.Readings.{ReadsAs}
 use Rattle.thes_exchange.specs.Requests.{request_of}
-use Rattle.thes_exchange.specs.declared.desk.Viewed.{Viewed}
+use Rattle.thes_exchange.specs.declared.handler.QueryAnswer.{QueryAnswer}
 use Rattle.thes_exchange.specs.declared.request.Query.{Query}
 use Rattle.thes_exchange.specs.declared.request.Query.TheVariants as asks
 use Rattle.thes_exchange.specs.declared.request.Request.TheVariants.{Do, Get}
@@ -21,125 +21,135 @@ use Rattle.thes_http_request.specs.declared.place.Place.TheVariants as place
 use Rattle.thes_http_request.specs.declared.problem.Problem.{Problem}
 use Rattle.thes_http_request.specs.declared.problem.Problem.TheVariants.{BadHead, BadQuery}
 use Rattle.thes_http.specs.declared.response.Response.{Response}
-use Rattle.thes_http.specs.declared.service.Imported.{Imported}
+use Rattle.thes_http.specs.declared.service.ImportAnswer.{ImportAnswer}
 use Rattle.thes_http.specs.declared.service.Display.{Display}
 use Rattle.thes_http.specs.declared.service.Display.TheVariants as display
-use Rattle.thes_http.specs.declared.service.Displayed.{Displayed}
+use Rattle.thes_http.specs.declared.service.DisplayAnswer.{DisplayAnswer}
 use Rattle.thes_http_request.specs.Heads.{parts_of, HasHead, IsCutHead, IsBadHead}
-use Rattle.thes_http_request.specs.Wants.{Wants, wants_of}
-use Rattle.thes_http_request.specs.Queries.{Asked, asked_of}
-use Rattle.thes_http.specs.Responses.{problem_response, form_response, fault_response, performed_response, viewed_response, imported_response, exported_response, displayed_response}
+use Rattle.thes_http_request.specs.HeadRequests.{HeadRequest, head_request_of}
+use Rattle.thes_http_request.specs.Queries.{DisplayQuery, display_query_of}
+use Rattle.thes_http.specs.Responses.{problem_response, form_response, fault_response, command_response}
+use Rattle.thes_http.specs.Responses.{query_response, import_response, export_response, display_response}
 
+-- The behaviour of a service for imports.
 abbrev pub Importing : Type 0 → Type 1
-Importing S = S → List ℕ → Result Imported Fault → S → Type 0
+Importing S = S → List ℕ → Result ImportAnswer Fault → S → Type 0
 
+-- The behaviour of a service for exports.
 abbrev pub Exporting : Type 0 → Type 1
 Exporting S = S → Result (List ℕ) Fault → S → Type 0
 
+-- The behaviour of a service for displays.
 abbrev pub Displaying : Type 0 → Type 1
-Displaying S = S → Display → ℕ → List ℕ → Result Displayed Fault → S → Type 0
+Displaying S = S → Display → ℕ → List ℕ → Result DisplayAnswer Fault → S → Type 0
 
--- what a service does: each with its state before, what it is asked, the answer, and its state after
-pub record Doing (S : Type 0) : Type 1 where
+-- The behaviour of a service: each relation has the state before, the arguments, the answer, and
+-- the state after.
+pub record ServiceEffects (S : Type 0) : Type 1 where
   pub performs : Performing S
   pub shows : Showing S
   pub imports : Importing S
   pub exports : Exporting S
   pub displays : Displaying S
 
-abbrev pub doing : {S : Type 0} → Performing S → Showing S → Importing S → Exporting S
-    → Displaying S → Doing S
-doing p s i e d = record { performs = p; shows = s; imports = i; exports = e; displays = d }
+-- Makes the behaviour of a service from its relations.
+abbrev pub effects : {S : Type 0} → Performing S → Showing S → Importing S → Exporting S
+    → Displaying S → ServiceEffects S
+effects p s i e d = record { performs = p; shows = s; imports = i; exports = e; displays = d }
 
--- no number is spelled so
+-- The text is no numeral of a valid number.
 abbrev pub IsNoNumeral : List ℕ → Type 0
 IsNoNumeral text = (n : ℕ) → IsNumber n → IsNumeral text n → ⊥
 
-module _ {S : Type 0} (d : Doing S) (old : S) (r : Response) (new : S) where
-  -- the response, and nothing is changed
-  abbrev pub Tells : Response → Type 0
-  Tells response = (r ≡ response) × (new ≡ old)
+module _ {S : Type 0} (d : ServiceEffects S) (old : S) (r : Response) (new : S) where
+  -- The response is this one, and the state is unchanged.
+  abbrev pub RespondsUnchanged : Response → Type 0
+  RespondsUnchanged response = (r ≡ response) × (new ≡ old)
 
-  -- the same that was asked for, or memory ran out before it was done
-  abbrev pub OrFails : Type 0 → Type 0
-  OrFails Asked = Asked ⊎ Tells (fault_response OutOfMemory)
+  -- The effect, or memory ran out before there was any.
+  abbrev pub OrOutOfMemory : Type 0 → Type 0
+  OrOutOfMemory Effect = Effect ⊎ RespondsUnchanged (fault_response OutOfMemory)
 
-  -- one request that does something; one that shows something is none
-  abbrev pub Performs : List ℕ → Type 0
-  Performs body =
+  -- The effect of a body with a request: of its command, or none if it is a query or isn't a
+  -- request.
+  abbrev pub CommandEffect : List ℕ → Type 0
+  CommandEffect body =
       ((command : Command) × (answer : Result Answer Fault)
       × ReadsAs (request_of body) (Ok (Do command))
-      × d.performs old command answer new × (r ≡ performed_response answer))
-      ⊎ (((query : Query) × ReadsAs (request_of body) (Ok (Get query)) × Tells (form_response BadShape))
-      ⊎ ((f : FormFault) × ReadsAs (request_of body) (Err f) × Tells (form_response f)))
+      × d.performs old command answer new × (r ≡ command_response answer))
+      ⊎ (((query : Query) × ReadsAs (request_of body) (Ok (Get query)) × RespondsUnchanged (form_response BadShape))
+      ⊎ ((f : FormFault) × ReadsAs (request_of body) (Err f) × RespondsUnchanged (form_response f)))
 
-  abbrev pub Imports : List ℕ → Type 0
-  Imports file =
-      (answer : Result Imported Fault) × d.imports old file answer new × (r ≡ imported_response answer)
+  -- The effect of importing a posting file.
+  abbrev pub ImportEffect : List ℕ → Type 0
+  ImportEffect file =
+      (answer : Result ImportAnswer Fault) × d.imports old file answer new × (r ≡ import_response answer)
 
-  abbrev pub Exports : Type 0
-  Exports = (answer : Result (List ℕ) Fault) × d.exports old answer new × (r ≡ exported_response answer)
+  -- The effect of an export.
+  abbrev pub ExportEffect : Type 0
+  ExportEffect = (answer : Result (List ℕ) Fault) × d.exports old answer new × (r ≡ export_response answer)
 
-  abbrev pub Shows : Query → Type 0
-  Shows query =
-      (answer : Result Viewed Fault) × d.shows old query answer new × (r ≡ viewed_response answer)
+  -- The effect of a query.
+  abbrev pub QueryEffect : Query → Type 0
+  QueryEffect query =
+      (answer : Result QueryAnswer Fault) × d.shows old query answer new × (r ≡ query_response answer)
 
-  -- a text's number, if it spells one that may be
+  -- The effect with the number that the text spells, or `BadNumber`.
   abbrev pub WithNumber : List ℕ → (ℕ → Type 0) → Type 0
-  WithNumber text Goes =
-      (IsNoNumeral text × Tells (form_response BadNumber))
-      ⊎ ((n : ℕ) × IsNumber n × IsNumeral text n × Goes n)
+  WithNumber text Next =
+      (IsNoNumeral text × RespondsUnchanged (form_response BadNumber))
+      ⊎ ((n : ℕ) × IsNumber n × IsNumeral text n × Next n)
 
-  -- the view of what the path's number names
-  abbrev pub ShowsNumber : (ℕ → Query) → List ℕ → Type 0
-  ShowsNumber query text = WithNumber text (λ n. Shows (query n))
+  -- The effect of a query with the number in the path.
+  abbrev pub NumberQueryEffect : (ℕ → Query) → List ℕ → Type 0
+  NumberQueryEffect query text = WithNumber text (λ n. QueryEffect (query n))
 
-  -- a display in a language, whose tag is kept in lower case
-  abbrev pub DisplaysIn : Display → ℕ → List ℕ → Type 0
-  DisplaysIn which scheme lang =
-      ((¬ IsTag lang) × Tells (form_response BadTag))
-      ⊎ (IsTag lang × (answer : Result Displayed Fault)
+  -- The effect of a display in a language, whose tag is converted to lower case.
+  abbrev pub DisplayEffect : Display → ℕ → List ℕ → Type 0
+  DisplayEffect which scheme lang =
+      ((¬ IsTag lang) × RespondsUnchanged (form_response BadTag))
+      ⊎ (IsTag lang × (answer : Result DisplayAnswer Fault)
       × d.displays old which scheme (map to_ascii_lowercase lang) answer new
-      × (r ≡ displayed_response answer))
+      × (r ≡ display_response answer))
 
-  -- the scheme's number, and then the tag
-  abbrev pub DisplaysAsked : Display → Option Asked → Type 0
-  DisplaysAsked which None = Tells (problem_response BadQuery)
-  DisplaysAsked which (Some asked) = WithNumber asked.scheme (λ n. DisplaysIn which n asked.lang)
+  -- The effect of a display, of which the scheme is checked before the language.
+  abbrev pub DisplayQueryEffect : Display → Option DisplayQuery → Type 0
+  DisplayQueryEffect which None = RespondsUnchanged (problem_response BadQuery)
+  DisplayQueryEffect which (Some asked) = WithNumber asked.scheme (λ n. DisplayEffect which n asked.lang)
 
-  -- what each place does
-  abbrev pub Does : Place → List ℕ → List ℕ → List ℕ → Type 0
-  Does place.Requests number query body = Performs body
-  Does place.Import number query body = Imports body
-  Does place.Totals number query body = Shows asks.Totals
-  Does place.Concept number query body = ShowsNumber asks.Concept number
-  Does place.Postings number query body = ShowsNumber asks.Postings number
-  Does place.Posting number query body = ShowsNumber asks.Posting number
-  Does place.Export number query body = Exports
-  Does place.Alphabetical number query body = DisplaysAsked display.Alphabetical (asked_of query)
-  Does place.Hierarchical number query body = DisplaysAsked display.Hierarchical (asked_of query)
+  -- The effect of a request for each place.
+  abbrev pub PlaceEffect : Place → List ℕ → List ℕ → List ℕ → Type 0
+  PlaceEffect place.Requests number query body = CommandEffect body
+  PlaceEffect place.Import number query body = ImportEffect body
+  PlaceEffect place.Totals number query body = QueryEffect asks.Totals
+  PlaceEffect place.Concept number query body = NumberQueryEffect asks.Concept number
+  PlaceEffect place.Postings number query body = NumberQueryEffect asks.Postings number
+  PlaceEffect place.Posting number query body = NumberQueryEffect asks.Posting number
+  PlaceEffect place.Export number query body = ExportEffect
+  PlaceEffect place.Alphabetical number query body = DisplayQueryEffect display.Alphabetical (display_query_of query)
+  PlaceEffect place.Hierarchical number query body = DisplayQueryEffect display.Hierarchical (display_query_of query)
 
-  -- the same, or memory ran out before it was done
-  abbrev pub DoesOrFails : Place → List ℕ → List ℕ → List ℕ → Type 0
-  DoesOrFails place number query body = OrFails (Does place number query body)
+  -- The effect of a request for a place, or memory ran out before there was any.
+  abbrev pub PlaceEffectOrFailure : Place → List ℕ → List ℕ → List ℕ → Type 0
+  PlaceEffectOrFailure place number query body = OrOutOfMemory (PlaceEffect place number query body)
 
-  -- a check of the head failed; or the body is whole
-  abbrev pub AnswersHead : Result Wants Problem → List ℕ → Type 0
-  AnswersHead (Err problem) rest = Tells (problem_response problem)
-  AnswersHead (Ok w) rest = (w.body ≤ length rest) × Does w.place w.number w.query (take w.body rest)
+  -- The effect of a request, given the checks of its head: a problem, or that of its complete body.
+  abbrev pub AnswersHead : Result HeadRequest Problem → List ℕ → Type 0
+  AnswersHead (Err problem) rest = RespondsUnchanged (problem_response problem)
+  AnswersHead (Ok w) rest = (w.body ≤ length rest) × PlaceEffect w.place w.number w.query (take w.body rest)
 
-  -- The bytes are answered so: a bad head, a head with what follows it, or out of memory, which may stand in place of
-  -- any answer.
+  -- The effect of bytes and the response to them: a bad head, a head with its body, or out of
+  -- memory, which may replace any response.
   abbrev pub Answers : List ℕ → Type 0
   Answers bytes =
-      (IsBadHead bytes × Tells (problem_response BadHead))
+      (IsBadHead bytes × RespondsUnchanged (problem_response BadHead))
       ⊎ (((h : RequestHead) × (rest : List ℕ) × HasHead bytes h rest
-      × AnswersHead (wants_of (parts_of h)) rest)
-      ⊎ Tells (fault_response OutOfMemory))
+      × AnswersHead (head_request_of (parts_of h)) rest)
+      ⊎ RespondsUnchanged (fault_response OutOfMemory))
 
--- the input ended before the head did, or before the body
-abbrev pub IsCut : List ℕ → Type 0
-IsCut bytes =
+-- The bytes end within the head, or within the body.
+abbrev pub IsCutRequest : List ℕ → Type 0
+IsCutRequest bytes =
     IsCutHead bytes
-    ⊎ ((h : RequestHead) × (rest : List ℕ) × (w : Wants) × HasHead bytes h rest
-    × (wants_of (parts_of h) ≡ Ok w) × (length rest < w.body))
+    ⊎ ((h : RequestHead) × (rest : List ℕ) × (w : HeadRequest) × HasHead bytes h rest
+    × (head_request_of (parts_of h) ≡ Ok w) × (length rest < w.body))

@@ -1,7 +1,7 @@
-//! What a request does.
+//! Carries out a request.
 ghost use Rattle.std.specs.Prelude.{◌≡◌, if◌then◌else◌, true};
-ghost use Rattle.thes_http.specs.Serving.{doing, Performs, Shows, ShowsNumber, DisplaysIn, DisplaysAsked, OrFails, DoesOrFails};
-ghost use Rattle.thes_http_request.specs.Queries.{asked_of};
+ghost use Rattle.thes_http.specs.Serving.{effects, CommandEffect, QueryEffect, NumberQueryEffect, DisplayEffect, DisplayQueryEffect, OrOutOfMemory, PlaceEffectOrFailure};
+ghost use Rattle.thes_http_request.specs.Queries.{display_query_of};
 
 use crate::response::Response;
 use crate::service::{Display, Service};
@@ -10,57 +10,62 @@ use thes_base::fault::{Fault, FormFault, ReadStop};
 use thes_base::number::{PostNo, ResNo};
 use thes_base::text::Tag;
 use thes_exchange::request::{Memory, Query, Request, read_request};
+use thes_http_request::head_request::HeadRequest;
 use thes_http_request::place::Place;
 use thes_http_request::problem::Problem;
 use thes_http_request::query::read_query;
-use thes_http_request::want::Want;
 
-/// Does what a request asks for.
-pub fn act<S: Service>(alloc: Global, service: &mut S, want: Want<'_>, body: &[u8]) -> Response
+/// Carries out what a request asks for, and returns the response.
+pub fn act<S: Service>(
+    alloc: Global,
+    service: &mut S,
+    want: HeadRequest<'_>,
+    body: &[u8],
+) -> Response
     requires { S.is_open service.old ≡ true }
-    ensures { DoesOrFails (doing S.performs S.shows S.imports S.exports S.displays)
+    ensures { PlaceEffectOrFailure (effects S.performs S.shows S.imports S.exports S.displays)
         service.old result service.new
         want.entry.place want.entry.number.now want.entry.query.now body.now }
 {
     match want.place {
         Place::Requests => perform(alloc, service, body),
-        Place::Import => Response::imported(service.import(alloc, body)),
+        Place::Import => Response::for_import(service.import(alloc, body)),
         Place::Totals => show(alloc, service, Query::Totals),
         Place::Concept => show_resource(alloc, service, want.number, false),
         Place::Postings => show_resource(alloc, service, want.number, true),
         Place::Posting => show_posting(alloc, service, want.number),
-        Place::Export => Response::exported(service.export(alloc)),
+        Place::Export => Response::for_export(service.export(alloc)),
         Place::Alphabetical => display(alloc, service, Display::Alphabetical, want.query),
         Place::Hierarchical => display(alloc, service, Display::Hierarchical, want.query),
     }
 }
 
-// Performs the request of a body.
+// Carries out the command in a body; a query there is `BadShape`.
 fn perform<S: Service>(alloc: Global, service: &mut S, body: &[u8]) -> Response
     requires { S.is_open service.old ≡ true }
-    ensures { OrFails (doing S.performs S.shows S.imports S.exports S.displays)
+    ensures { OrOutOfMemory (effects S.performs S.shows S.imports S.exports S.displays)
         service.old result service.new
-        (Performs (doing S.performs S.shows S.imports S.exports S.displays)
+        (CommandEffect (effects S.performs S.shows S.imports S.exports S.displays)
         service.old result service.new body.now) }
 {
     match read_request(&mut Memory::new(alloc), body) {
-        Ok(Request::Do(command)) => Response::performed(service.perform(&command)),
+        Ok(Request::Do(command)) => Response::for_command(service.perform(&command)),
         Ok(Request::Get(_)) => Response::form(FormFault::BadShape),
         Err(ReadStop::Form(fault)) => Response::form(fault),
         Err(ReadStop::OutOfMemory) => Response::fault(Fault::OutOfMemory),
     }
 }
 
-// Shows a view.
+// Answers a query.
 fn show<S: Service>(alloc: Global, service: &mut S, query: Query) -> Response
     requires { S.is_open service.old ≡ true }
-    ensures { Shows (doing S.performs S.shows S.imports S.exports S.displays)
+    ensures { QueryEffect (effects S.performs S.shows S.imports S.exports S.displays)
         service.old result service.new query }
 {
-    Response::viewed(service.show(alloc, &query))
+    Response::for_query(service.show(alloc, &query))
 }
 
-// Shows a concept, or its postings.
+// Answers the query for a concept or for its postings.
 fn show_resource<S: Service>(
     alloc: Global,
     service: &mut S,
@@ -68,7 +73,7 @@ fn show_resource<S: Service>(
     postings: bool,
 ) -> Response
     requires { S.is_open service.old ≡ true }
-    ensures { ShowsNumber (doing S.performs S.shows S.imports S.exports S.displays)
+    ensures { NumberQueryEffect (effects S.performs S.shows S.imports S.exports S.displays)
         service.old result service.new
         (λ n. if postings then Query.Postings n else Query.Concept n) number.now }
 {
@@ -86,10 +91,10 @@ fn show_resource<S: Service>(
     }
 }
 
-// Shows a posting.
+// Answers the query for a posting.
 fn show_posting<S: Service>(alloc: Global, service: &mut S, number: &str) -> Response
     requires { S.is_open service.old ≡ true }
-    ensures { ShowsNumber (doing S.performs S.shows S.imports S.exports S.displays)
+    ensures { NumberQueryEffect (effects S.performs S.shows S.imports S.exports S.displays)
         service.old result service.new Query.Posting number.now }
 {
     match PostNo::read(number) {
@@ -98,13 +103,13 @@ fn show_posting<S: Service>(alloc: Global, service: &mut S, number: &str) -> Res
     }
 }
 
-// Displays a scheme.
+// Returns a display of a scheme, named by the query string.
 fn display<S: Service>(alloc: Global, service: &mut S, which: Display, query: &str) -> Response
     requires { S.is_open service.old ≡ true }
-    ensures { OrFails (doing S.performs S.shows S.imports S.exports S.displays)
+    ensures { OrOutOfMemory (effects S.performs S.shows S.imports S.exports S.displays)
         service.old result service.new
-        (DisplaysAsked (doing S.performs S.shows S.imports S.exports S.displays)
-        service.old result service.new which (asked_of query.now)) }
+        (DisplayQueryEffect (effects S.performs S.shows S.imports S.exports S.displays)
+        service.old result service.new which (display_query_of query.now)) }
 {
     let asked = match read_query(alloc, query) {
         Ok(Some(asked)) => asked,
@@ -117,7 +122,7 @@ fn display<S: Service>(alloc: Global, service: &mut S, which: Display, query: &s
     }
 }
 
-// Displays a scheme in a language.
+// Returns a display of a scheme in a language.
 fn display_in<S: Service>(
     alloc: Global,
     service: &mut S,
@@ -126,13 +131,13 @@ fn display_in<S: Service>(
     lang: &str,
 ) -> Response
     requires { S.is_open service.old ≡ true }
-    ensures { OrFails (doing S.performs S.shows S.imports S.exports S.displays)
+    ensures { OrOutOfMemory (effects S.performs S.shows S.imports S.exports S.displays)
         service.old result service.new
-        (DisplaysIn (doing S.performs S.shows S.imports S.exports S.displays)
+        (DisplayEffect (effects S.performs S.shows S.imports S.exports S.displays)
         service.old result service.new which scheme lang.now) }
 {
     match Tag::read(alloc, lang) {
-        Ok(tag) => Response::displayed(service.display(alloc, which, scheme, &tag)),
+        Ok(tag) => Response::for_display(service.display(alloc, which, scheme, &tag)),
         Err(ReadStop::Form(fault)) => Response::form(fault),
         Err(ReadStop::OutOfMemory) => Response::fault(Fault::OutOfMemory),
     }

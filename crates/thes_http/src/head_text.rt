@@ -1,11 +1,11 @@
-//! The text of an answer's head.
+//! The text of a response's head.
 ghost use Rattle.std.specs.Prelude.{◌≡◌, ◌+◌, ◌≤◌, ◌++◌, [], length, decimal};
 
 use arrayvec::ArrayString;
 use itoa::Buffer;
 use std::marker::Model;
 
-/// The head of an answer, of at most 256 bytes, which takes no memory of its own.
+/// The head of a response, of at most 256 bytes, held in place: it allocates nothing.
 #[derive(Drop)]
 pub struct HeadText {
     text: ArrayString<256>,
@@ -20,7 +20,7 @@ impl Model for HeadText {
 }
 
 impl HeadText {
-    /// Makes an empty head.
+    /// Returns an empty head.
     pub fn new() -> HeadText
         ensures { result ≡ [] }
     {
@@ -29,7 +29,7 @@ impl HeadText {
         }
     }
 
-    /// Adds a text at the end.
+    /// Appends a text.
     pub fn push(&mut self, text: &str)
         requires { length self.old + length text.now ≤ 256 }
         ensures text { self.new ≡ self.old ++ text.now }
@@ -38,7 +38,7 @@ impl HeadText {
         self.text.push_str(text);
     }
 
-    /// Adds a number's digits, of which there are at most twenty.
+    /// Appends a number in decimal, at most twenty digits.
     pub fn push_number(&mut self, number: u64)
         requires { length self.old ≤ 200 }
         ensures text { self.new ≡ self.old ++ decimal number }
@@ -47,7 +47,7 @@ impl HeadText {
         self.push(Buffer::new().format(number));
     }
 
-    /// Returns what was added.
+    /// Returns the bytes of the head.
     pub fn as_bytes(&self) -> &[u8]
         ensures { result.now ≡ self.now }
     {

@@ -1,4 +1,5 @@
-//! One connection: a request of HTTP/1.0 or 1.1, what it does, and its answer.
+//! Serves connections: reads a request of HTTP/1.0 or HTTP/1.1, carries it out, and writes the
+//! response.
 #![tactic(auto)]
 
 mod act;

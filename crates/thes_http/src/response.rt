@@ -1,10 +1,10 @@
-//! What a request is answered with, and its bytes.
+//! Responses and their bytes.
 ghost use Rattle.std.specs.Prelude.{◌≡◌, ◌≤◌, ◌↔◌, true, false, length, OnOk, OnErr, IsErrOf};
 ghost use Rattle.thes_base.specs.Pipe.{failed_of, denied_of, PaysCalls};
-ghost use Rattle.thes_http.specs.Responses.{status_code, status_line, media_type, problem_text, problem_status, allow_text, body_text, head_text, WritesFront, WritesResponse, told, page_response, problem_response, form_response, fault_response, performed_response, viewed_response, imported_response, exported_response, displayed_response};
+ghost use Rattle.thes_http.specs.Responses.{status_code, status_line, media_type, problem_text, problem_status, allow_text, body_text, head_text, WritesPrefix, WritesResponse, reply_response, page_response, problem_response, form_response, fault_response, command_response, query_response, import_response, export_response, display_response};
 
 use crate::head_text::HeadText;
-use crate::service::{Displayed, Imported, Page};
+use crate::service::{DisplayAnswer, ImportAnswer, Page};
 use arrayvec::ArrayVec;
 use http::StatusCode;
 use std::io::Write;
@@ -12,11 +12,11 @@ use thes_base::fault::{Fault, FormFault};
 use thes_base::pipe::{Budget, Pipe, Stop};
 use thes_base::request::Answer;
 use thes_exchange::answer::{Reply, reply_line};
-use thes_exchange::desk::{ViewLine, Viewed};
-use thes_http_request::place::Verb;
+use thes_exchange::handler::{QueryAnswer, ViewLine};
+use thes_http_request::place::Method;
 use thes_http_request::problem::Problem;
 
-/// The status of an answer.
+/// The status of a response.
 #[derive(Clone, Copy, Debug, PartialEq, Eq)]
 pub enum Status {
     Fine,
@@ -31,7 +31,7 @@ pub enum Status {
 }
 
 impl Status {
-    /// Returns the status by its number.
+    /// Returns the status code.
     pub fn code(self) -> StatusCode
         ensures { result ≡ status_code self }
     {
@@ -48,7 +48,7 @@ impl Status {
         }
     }
 
-    // The first line of the head.
+    // Returns the status line.
     fn line(self) -> &'static str
         ensures text { result.now ≡ status_line self }
         ensures short { length result.now ≤ 40 }
@@ -67,7 +67,7 @@ impl Status {
     }
 }
 
-/// The type of a body.
+/// The media type of a body.
 #[derive(Clone, Copy, Debug, PartialEq, Eq)]
 pub enum Media {
     Json,
@@ -77,7 +77,7 @@ pub enum Media {
 }
 
 impl Media {
-    // The type's name.
+    // Returns the name of the media type.
     fn name(self) -> &'static str
         ensures text { result.now ≡ media_type self }
         ensures short { length result.now ≤ 30 }
@@ -91,7 +91,7 @@ impl Media {
     }
 }
 
-// The body of a problem.
+// Returns the body for a problem.
 fn problem_line(problem: Problem) -> &'static str
     ensures { result.now ≡ problem_text problem }
 {
@@ -106,7 +106,7 @@ fn problem_line(problem: Problem) -> &'static str
     }
 }
 
-// The status that a problem is answered with.
+// Returns the status for a problem.
 fn problem_status(problem: Problem) -> Status
     ensures { result ≡ problem_status problem }
 {
@@ -120,7 +120,7 @@ fn problem_status(problem: Problem) -> Status
     }
 }
 
-/// The part of a response that follows its head.
+/// The body of a response.
 #[derive(Drop)]
 pub enum Body {
     Problem(Problem),
@@ -130,20 +130,20 @@ pub enum Body {
 }
 
 impl Body {
-    // The line of the method that is allowed, where another was asked for.
+    // Returns the `Allow` line for `BadMethod`, else an empty text.
     fn allow(&self) -> &'static str
         ensures text { result.now ≡ allow_text self.now }
         ensures short { length result.now ≤ 20 }
     {
         match self {
-            Body::Problem(Problem::BadMethod(Verb::Get)) => "Allow: GET\r\n",
-            Body::Problem(Problem::BadMethod(Verb::Post)) => "Allow: POST\r\n",
+            Body::Problem(Problem::BadMethod(Method::Get)) => "Allow: GET\r\n",
+            Body::Problem(Problem::BadMethod(Method::Post)) => "Allow: POST\r\n",
             _ => "",
         }
     }
 }
 
-/// A response: a status, a type and a body.
+/// A response: a status, a media type and a body.
 #[derive(Drop)]
 pub struct Response {
     pub status: Status,
@@ -152,7 +152,7 @@ pub struct Response {
 }
 
 impl Response {
-    /// Makes the answer to a problem.
+    /// Returns the response to a problem.
     pub fn problem(problem: Problem) -> Response
         ensures { result ≡ problem_response problem }
     {
@@ -163,9 +163,9 @@ impl Response {
         }
     }
 
-    // A line of JSON.
-    fn told(status: Status, reply: Reply) -> Response
-        ensures { result ≡ told status reply }
+    // Returns a response with a line of JSON.
+    fn reply_response(status: Status, reply: Reply) -> Response
+        ensures { result ≡ reply_response status reply }
     {
         Response {
             status,
@@ -174,45 +174,45 @@ impl Response {
         }
     }
 
-    /// Makes the answer to a form fault.
+    /// Returns the response to a form fault.
     pub fn form(fault: FormFault) -> Response
         ensures { result ≡ form_response fault }
     {
-        Response::told(Status::BadRequest, Reply::Bad(fault))
+        Response::reply_response(Status::BadRequest, Reply::Bad(fault))
     }
 
-    /// Makes the answer that a fault stands for.
+    /// Returns the response to a fault.
     pub fn fault(fault: Fault) -> Response
         ensures { result ≡ fault_response fault }
     {
-        Response::told(Status::ServiceUnavailable, Reply::Fault(fault))
+        Response::reply_response(Status::ServiceUnavailable, Reply::Fault(fault))
     }
 
-    /// Makes the answer of a request that was performed or refused.
-    pub fn performed(answer: Result<Answer, Fault>) -> Response
-        ensures { result ≡ performed_response answer }
+    /// Returns the response to a command that was accepted or refused.
+    pub fn for_command(answer: Result<Answer, Fault>) -> Response
+        ensures { result ≡ command_response answer }
     {
         match answer {
-            Ok(Answer::No(refusal)) => Response::told(
+            Ok(Answer::No(refusal)) => Response::reply_response(
                 Status::Conflict,
                 Reply::Answer(Answer::No(refusal)),
             ),
-            Ok(answer) => Response::told(Status::Fine, Reply::Answer(answer)),
+            Ok(answer) => Response::reply_response(Status::Fine, Reply::Answer(answer)),
             Err(fault) => Response::fault(fault),
         }
     }
 
-    /// Makes the answer of a view.
-    pub fn viewed(viewed: Result<Viewed, Fault>) -> Response
-        ensures { result ≡ viewed_response viewed }
+    /// Returns the response to a query.
+    pub fn for_query(viewed: Result<QueryAnswer, Fault>) -> Response
+        ensures { result ≡ query_response viewed }
     {
         match viewed {
-            Ok(Viewed::Line(line)) => Response {
+            Ok(QueryAnswer::Line(line)) => Response {
                 status: Status::Fine,
                 media: Media::Json,
                 body: Body::View(line),
             },
-            Ok(Viewed::No(refusal)) => Response::told(
+            Ok(QueryAnswer::No(refusal)) => Response::reply_response(
                 Status::NotFound,
                 Reply::Answer(Answer::No(refusal)),
             ),
@@ -220,7 +220,7 @@ impl Response {
         }
     }
 
-    // A page.
+    // Returns a response with a page.
     fn page(media: Media, page: Page) -> Response
         ensures { result ≡ page_response media page }
     {
@@ -231,20 +231,20 @@ impl Response {
         }
     }
 
-    /// Makes the answer of an import.
-    pub fn imported(imported: Result<Imported, Fault>) -> Response
-        ensures { result ≡ imported_response imported }
+    /// Returns the response to an import.
+    pub fn for_import(imported: Result<ImportAnswer, Fault>) -> Response
+        ensures { result ≡ import_response imported }
     {
         match imported {
-            Ok(Imported::Outcomes(page)) => Response::page(Media::Csv, page),
-            Ok(Imported::Malformed) => Response::form(FormFault::BadShape),
+            Ok(ImportAnswer::Outcomes(page)) => Response::page(Media::Csv, page),
+            Ok(ImportAnswer::Malformed) => Response::form(FormFault::BadShape),
             Err(fault) => Response::fault(fault),
         }
     }
 
-    /// Makes the answer of an export.
-    pub fn exported(exported: Result<Page, Fault>) -> Response
-        ensures { result ≡ exported_response exported }
+    /// Returns the response to an export.
+    pub fn for_export(exported: Result<Page, Fault>) -> Response
+        ensures { result ≡ export_response exported }
     {
         match exported {
             Ok(page) => Response::page(Media::NTriples, page),
@@ -252,13 +252,13 @@ impl Response {
         }
     }
 
-    /// Makes the answer of a display.
-    pub fn displayed(displayed: Result<Displayed, Fault>) -> Response
-        ensures { result ≡ displayed_response displayed }
+    /// Returns the response to a request for a display.
+    pub fn for_display(displayed: Result<DisplayAnswer, Fault>) -> Response
+        ensures { result ≡ display_response displayed }
     {
         match displayed {
-            Ok(Displayed::Lines(page)) => Response::page(Media::Plain, page),
-            Ok(Displayed::No(refusal)) => Response::told(
+            Ok(DisplayAnswer::Lines(page)) => Response::page(Media::Plain, page),
+            Ok(DisplayAnswer::No(refusal)) => Response::reply_response(
                 Status::NotFound,
                 Reply::Answer(Answer::No(refusal)),
             ),
@@ -266,7 +266,7 @@ impl Response {
         }
     }
 
-    // The head, for a body of that many bytes.
+    // Returns the head, for a body of `count` bytes.
     #[tactic(auto, unfolding(crate::specs::Responses::head_text))]
     fn head(&self, count: u64) -> HeadText
         requires { count ≡ length (body_text self.now.body) }
@@ -284,7 +284,7 @@ impl Response {
         head
     }
 
-    // Writes the head and these bytes, which are the body's: together where they are few.
+    // Writes the head and the body, with one call if both fit into 512 bytes.
     fn write_with<W: Write>(
         &self,
         writer: &mut Pipe<W>,
@@ -294,7 +294,7 @@ impl Response {
         requires fresh { failed_of writer.old ≡ false }
         requires body { body.now ≡ body_text self.now.body }
         ensures ok { OnOk result (WritesResponse W.contents self.now writer.old writer.new) }
-        ensures err { OnErr result (WritesFront W.contents self.now writer.old writer.new) }
+        ensures err { OnErr result (WritesPrefix W.contents self.now writer.old writer.new) }
         ensures failed { IsErrOf result Stop.Failed ↔ (failed_of writer.new ≡ true) }
         ensures denied { IsErrOf result Stop.TooLong → denied_of writer.new ≡ true }
         ensures paid { PaysCalls writer.old writer.new budget.old budget.new }
@@ -310,11 +310,11 @@ impl Response {
         writer.write_all(budget, body)
     }
 
-    /// Writes the answer. It takes no memory.
+    /// Writes the response; allocates nothing.
     pub fn write<W: Write>(&self, writer: &mut Pipe<W>, budget: &mut Budget) -> Result<(), Stop>
         requires { failed_of writer.old ≡ false }
         ensures ok { OnOk result (WritesResponse W.contents self.now writer.old writer.new) }
-        ensures err { OnErr result (WritesFront W.contents self.now writer.old writer.new) }
+        ensures err { OnErr result (WritesPrefix W.contents self.now writer.old writer.new) }
         ensures failed { IsErrOf result Stop.Failed ↔ (failed_of writer.new ≡ true) }
         ensures denied { IsErrOf result Stop.TooLong → denied_of writer.new ≡ true }
         ensures paid { PaysCalls writer.old writer.new budget.old budget.new }

@@ -1,11 +1,11 @@
-//! One connection.
+//! Serves one connection.
 ghost use Rattle.std.specs.Prelude.{◌≡◌, ◌≤◌, ◌⊎◌, true, ℕ, List, length, drop, Ok, Err, IfOk, IfErr, OnOk, OnErr, IsErrOf};
 ghost use Rattle.std.specs.Io.KnownBytes.{Consumes, IsAtEnd};
-ghost use Rattle.thes_base.specs.Pipe.{failed_of, ended_of, denied_of, IsFresh, PaysCalls, KeepsToLimit, unread, written};
-ghost use Rattle.thes_exchange.specs.Script.{scene};
+ghost use Rattle.thes_base.specs.Pipe.{failed_of, ended_of, denied_of, IsFresh, PaysCalls, KeepsSharedCallLimit, unread_bytes, written_bytes};
+ghost use Rattle.thes_exchange.specs.Script.{session};
 ghost use Rattle.thes_http_request.specs.Inbox.{HasStopped};
-ghost use Rattle.thes_http.specs.Connection.{IsAnswer, IsCutOff, IsServed, IsServedInPart, IsUntouched};
-ghost use Rattle.thes_http.specs.Serving.{doing};
+ghost use Rattle.thes_http.specs.Connection.{IsConnectionAnswer, IsCutOff, IsAnsweredWith, IsAnsweredInPart, IsUntouched};
+ghost use Rattle.thes_http.specs.Serving.{effects};
 
 use crate::act::act;
 use crate::response::{Response, Status};
@@ -16,40 +16,40 @@ use std::io::{Read, Write};
 use thes_base::fault::Fault;
 use thes_base::pipe::{Budget, Pipe};
 use thes_http_request::body::{BodyStop, read_body};
-use thes_http_request::inbox::{Gone, HeadStop, Inbox};
+use thes_http_request::head_request::read_head_request;
+use thes_http_request::inbox::{HeadStop, Inbox, InputFault};
 use thes_http_request::problem::Problem;
-use thes_http_request::want::want_in;
 
-/// The end of a connection.
+/// How a connection ended.
 #[derive(Clone, Copy, Debug, PartialEq, Eq)]
-pub enum Served {
-    /// The answer was written, with this status.
+pub enum ConnectionEnd {
+    /// The response was written, with this status.
     Answered(Status),
     /// The input ended before the request did, and nothing was done or written.
     Cut,
     /// The reader failed, or was denied a read, and nothing was done or written.
     ReadFault,
-    /// The writer failed, or was denied a write, within the answer.
+    /// The writer failed, or was denied a write, within the response.
     WriteFault,
 }
 
-// Reads the request and does what it asks for.
+// Reads the request, carries it out, and returns the response.
 fn answer<R: Read, S: Service>(
     alloc: Global,
     reader: &mut Pipe<R>,
     budget: &mut Budget,
     service: &mut S,
-) -> Result<Response, Gone>
+) -> Result<Response, InputFault>
     requires reader { IsFresh reader.old }
     requires open { S.is_open service.old ≡ true }
     ensures answered { IfOk result (λ response.
-        IsAnswer (doing S.performs S.shows S.imports S.exports S.displays)
-        (unread R.remaining reader.old) (unread R.remaining reader.new)
+        IsConnectionAnswer (effects S.performs S.shows S.imports S.exports S.displays)
+        (unread_bytes R.remaining reader.old) (unread_bytes R.remaining reader.new)
         service.old response service.new) }
-    ensures cut { IsErrOf result Gone.Cut →
-        IsCutOff (unread R.remaining reader.old) (unread R.remaining reader.new)
+    ensures cut { IsErrOf result InputFault.Cut →
+        IsCutOff (unread_bytes R.remaining reader.old) (unread_bytes R.remaining reader.new)
         × (ended_of reader.new ≡ true) }
-    ensures fault { IsErrOf result Gone.ReadFault → HasStopped reader.new }
+    ensures fault { IsErrOf result InputFault.ReadFault → HasStopped reader.new }
     ensures kept { OnErr result (service.new ≡ service.old) }
     ensures paid { PaysCalls reader.old reader.new budget.old budget.new }
 {
@@ -60,59 +60,61 @@ fn answer<R: Read, S: Service>(
     let spans = match inbox.read_head(reader, budget, &mut headers) {
         Ok(spans) => spans,
         Err(HeadStop::Bad) => return Ok(Response::problem(Problem::BadHead)),
-        Err(HeadStop::Gone(gone)) => return Err(gone),
+        Err(HeadStop::InputFault(gone)) => return Err(gone),
     };
-    let want = match want_in(inbox.front(), spans, &headers) {
+    let want = match read_head_request(inbox.head_bytes(), spans, &headers) {
         Ok(want) => want,
         Err(problem) => return Ok(Response::problem(problem)),
     };
-    let start = inbox.after(spans.len);
+    let start = inbox.bytes_after(spans.len);
     let mut body = Vec::new(alloc);
     match read_body(reader, budget, start, want.body as usize, &mut body) {
         Ok(()) => Ok(act(alloc, service, want, &body)),
         Err(BodyStop::OutOfMemory) => Ok(Response::fault(Fault::OutOfMemory)),
-        Err(BodyStop::Gone(gone)) => Err(gone),
+        Err(BodyStop::InputFault(gone)) => Err(gone),
     }
 }
 
-/// Reads one request, does what it asks for, and writes the answer.
+/// Reads one request, carries it out, and writes the response.
 ///
-/// `ReadFault` and `WriteFault` are answered only where the device failed, or was denied a read
-/// or a write.
+/// `ReadFault` and `WriteFault` are returned only if the device failed, or was denied a read or a
+/// write.
 pub fn serve_one<R: Read, W: Write, S: Service>(
     alloc: Global,
     reader: &mut Pipe<R>,
     writer: &mut Pipe<W>,
     service: &mut S,
-) -> Served
+) -> ConnectionEnd
     requires reader { IsFresh reader.old }
     requires writer { IsFresh writer.old }
     requires open { S.is_open service.old ≡ true }
-    ensures answered { (status : _) → result ≡ Served.Answered status →
-        IsServed R.remaining W.contents (doing S.performs S.shows S.imports S.exports S.displays)
-        (scene reader.old writer.old service.old) (scene reader.new writer.new service.new) status }
-    ensures cut { result ≡ Served.Cut →
-        IsCutOff (unread R.remaining reader.old) (unread R.remaining reader.new)
+    ensures answered { (status : _) → result ≡ ConnectionEnd.Answered status →
+        IsAnsweredWith R.remaining W.contents
+        (effects S.performs S.shows S.imports S.exports S.displays)
+        (session reader.old writer.old service.old)
+        (session reader.new writer.new service.new) status }
+    ensures cut { result ≡ ConnectionEnd.Cut →
+        IsCutOff (unread_bytes R.remaining reader.old) (unread_bytes R.remaining reader.new)
         × (ended_of reader.new ≡ true)
-        × IsUntouched (scene reader.old writer.old service.old)
-        (scene reader.new writer.new service.new) }
-    ensures read_fault { result ≡ Served.ReadFault → HasStopped reader.new
-        × IsUntouched (scene reader.old writer.old service.old)
-        (scene reader.new writer.new service.new) }
-    ensures write_fault { result ≡ Served.WriteFault → HasStopped writer.new
-        × IsServedInPart R.remaining W.contents
-        (doing S.performs S.shows S.imports S.exports S.displays)
-        (scene reader.old writer.old service.old) (scene reader.new writer.new service.new) }
-    ensures calls { KeepsToLimit reader.old reader.new writer.old writer.new }
+        × IsUntouched (session reader.old writer.old service.old)
+        (session reader.new writer.new service.new) }
+    ensures read_fault { result ≡ ConnectionEnd.ReadFault → HasStopped reader.new
+        × IsUntouched (session reader.old writer.old service.old)
+        (session reader.new writer.new service.new) }
+    ensures write_fault { result ≡ ConnectionEnd.WriteFault → HasStopped writer.new
+        × IsAnsweredInPart R.remaining W.contents
+        (effects S.performs S.shows S.imports S.exports S.displays)
+        (session reader.old writer.old service.old) (session reader.new writer.new service.new) }
+    ensures calls { KeepsSharedCallLimit reader.old reader.new writer.old writer.new }
 {
     let mut budget = Budget::new();
     let response = match answer(alloc, reader, &mut budget, service) {
         Ok(response) => response,
-        Err(Gone::Cut) => return Served::Cut,
-        Err(Gone::ReadFault) => return Served::ReadFault,
+        Err(InputFault::Cut) => return ConnectionEnd::Cut,
+        Err(InputFault::ReadFault) => return ConnectionEnd::ReadFault,
     };
     match response.write(writer, &mut budget) {
-        Ok(()) => Served::Answered(response.status),
-        Err(_) => Served::WriteFault,
+        Ok(()) => ConnectionEnd::Answered(response.status),
+        Err(_) => ConnectionEnd::WriteFault,
     }
 }

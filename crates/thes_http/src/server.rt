@@ -1,9 +1,9 @@
-//! Connections, one after another.
+//! Serves connections, one after another.
 ghost use Rattle.std.specs.Prelude.{◌≡◌, true, OnOk};
 ghost use Rattle.thes_http.specs.Server.{LeadsBy};
-ghost use Rattle.thes_http.specs.Serving.{doing};
+ghost use Rattle.thes_http.specs.Serving.{effects};
 
-use crate::serve::{Served, serve_one};
+use crate::serve::{ConnectionEnd, serve_one};
 use crate::service::Service;
 use std::alloc::Global;
 use std::io;
@@ -12,15 +12,15 @@ use std::net::{Net, OpenListener, OpenStream, Shutdown};
 use std::time::Duration;
 use thes_base::pipe::Pipe;
 
-// How often what a client still sends is read behind the answer, in buffers of 16 KB, and how
-// often such a read may wait for 4 ms in vain.
+// The greatest number of reads, of 16 KiB each, of what a client still sends after the response.
 const READS: u32 = 32_768;
 
+// The greatest number of such reads that time out, after 4 ms each.
 const WAITS: u32 = 256;
 
-// Tells the client that nothing follows, and reads on while it still sends, so that it gets the
-// answer before the connection closes.
-fn see_off<T: Read + OpenStream + Drop>(mut stream: T) {
+// Shuts down the sending side, and discards what the client still sends, so that it gets the
+// response before the connection closes.
+fn drain_input<T: Read + OpenStream + Drop>(mut stream: T) {
     let wait = Some(Duration::from_millis(4));
     if stream.shutdown(Shutdown::Write).is_err() || stream.set_read_timeout(wait).is_err() {
         return;
@@ -37,7 +37,7 @@ fn see_off<T: Read + OpenStream + Drop>(mut stream: T) {
     }
 }
 
-// Whether a read gave no byte in its time, and may be made again.
+// Returns whether a read timed out or was interrupted, and may be repeated.
 fn has_waited(error: &io::Error) -> bool {
     matches!(
         error.kind(),
@@ -45,9 +45,9 @@ fn has_waited(error: &io::Error) -> bool {
     )
 }
 
-// The connection once more, to read from it. A read or a write fails that waits for 30 seconds, so
-// that a client which neither goes on nor goes away keeps no other one waiting for ever.
-fn reading_end<T: OpenStream>(stream: &T) -> io::Result<T> {
+// Clones the stream for reading, with read and write time-outs of 30 seconds: a client that is idle
+// can't block others for ever.
+fn clone_stream<T: OpenStream>(stream: &T) -> io::Result<T> {
     let wait = Some(Duration::from_secs(30));
     stream.set_read_timeout(wait)?;
     stream.set_write_timeout(wait)?;
@@ -61,21 +61,21 @@ fn serve_stream<T: Read + Write + OpenStream + Drop, S: Service>(
     service: &mut S,
 )
     requires { S.is_open service.old ≡ true }
-    ensures { LeadsBy (doing S.performs S.shows S.imports S.exports S.displays) 1
+    ensures { LeadsBy (effects S.performs S.shows S.imports S.exports S.displays) 1
         service.old service.new }
 {
-    let Ok(input) = reading_end(&stream) else {
+    let Ok(input) = clone_stream(&stream) else {
         return;
     };
     let mut reader = Pipe::new(input);
     let mut writer = Pipe::new(stream);
     match serve_one(alloc, &mut reader, &mut writer, service) {
-        Served::Answered(_) => see_off(reader.into_device()),
-        Served::WriteFault | Served::Cut | Served::ReadFault => {}
+        ConnectionEnd::Answered(_) => drain_input(reader.into_device()),
+        ConnectionEnd::WriteFault | ConnectionEnd::Cut | ConnectionEnd::ReadFault => {}
     }
 }
 
-// The next connection; or none, where its client was gone before it was accepted.
+// Returns the next connection, or `None` if its client closed it before it was accepted.
 fn next_stream<N: Net>(
     listener: &N::Listener,
 ) -> io::Result<Option<<N::Listener as OpenListener>::Stream>> {
@@ -86,11 +86,11 @@ fn next_stream<N: Net>(
     }
 }
 
-/// Serves as many connections, one after another.
+/// Serves `count` connections, one after another.
 ///
-/// A client that goes away costs nothing but its own answer. An error is that of accepting a
-/// connection, or OutOfMemory where that has closed the service: one that was closed is never told
-/// as done.
+/// A client that closes its connection early loses only its own response. An error is that of
+/// accepting a connection, or `OutOfMemory` if that has closed the service: `Ok` means that the
+/// service is open.
 pub fn serve<N: Net, S: Service>(
     alloc: Global,
     listener: &N::Listener,
@@ -98,7 +98,7 @@ pub fn serve<N: Net, S: Service>(
     service: &mut S,
 ) -> io::Result<()>
     requires { S.is_open service.old ≡ true }
-    ensures leads { LeadsBy (doing S.performs S.shows S.imports S.exports S.displays) count
+    ensures leads { LeadsBy (effects S.performs S.shows S.imports S.exports S.displays) count
         service.old service.new }
     ensures open { OnOk result (S.is_open service.new ≡ true) }
 {

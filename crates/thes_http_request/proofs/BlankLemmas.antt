@@ -1,5 +1,6 @@
--- Empty lines before a request line.
-use Rattle.std.proofs.Common.{◌≡◌, ◌∙◌, sym, ap, subst, refl, ℕ, ◌+◌, ◌<◌, ◌==◌, ◌&&◌, Bool, true, false, cond, List, [], ◌∷◌, ◌++◌, length, take, drop, arith, rules, length-append}
+-- Proves how empty lines before a request line are skipped, and that a method ends them.
+use Rattle.std.proofs.Common.{◌≡◌, ◌∙◌, sym, ap, subst, refl, ℕ, ◌+◌, ◌<◌, ◌==◌, ◌&&◌, Bool, true, false, cond, List}
+use Rattle.std.proofs.Common.{[], ◌∷◌, ◌++◌, length, take, drop, arith, rules, length-append}
 use Rattle.std.specs.List.{list_all, position_or_len, before_first, after_first}
 use Rattle.std.proofs.lemmas.Bool.{both_ways, cond-false, eqb-true}
 use Rattle.std.proofs.lemmas.List.Sums.{position_or_len_is, list_all-from_AllPass}
@@ -7,7 +8,8 @@ use Rattle.std.proofs.lemmas.List.Folds.{list_any_at}
 use Rattle.std.proofs.Math.ListN.{get_or-append}
 use Rattle.std.proofs.Math.Seq.{get_or-append_seam, take-append_seam, drop-append-add}
 use Rattle.std.specs.Cmp.Derive.{both_true}
-use Rattle.httparse.specs.Grammar.{LineEnd, crlf, lf, print_blank, IsToken, is_token, is_token_byte, is_uri_byte, AllPass}
+use Rattle.httparse.specs.Grammar.{LineEnd, crlf, lf, print_blank, IsToken, is_token, is_token_byte, is_uri_byte}
+use Rattle.httparse.specs.Grammar.{AllPass}
 use Rattle.std.specs.Str.{bytes_eq}
 use Rattle.thes_http_request.specs.Heads.{without_blank_lines, is_space, is_open_target}
 
@@ -27,22 +29,25 @@ second_false : (y z : Bool) (a b : List ℕ) → (y && (z && true)) ≡ false �
 second_false true z a b h = first_false z a b h
 second_false false z a b h = refl
 
--- a line feed at the front
-pub blank_line_feed : (bytes : List ℕ) → bytes_eq (take 1 bytes) (10 ∷ []) ≡ true → without_blank_lines bytes ≡ without_blank_lines (drop 1 bytes)
+-- A leading line feed is skipped.
+pub blank_line_feed : (bytes : List ℕ) → bytes_eq (take 1 bytes) (10 ∷ []) ≡ true → without_blank_lines bytes
+    ≡ without_blank_lines (drop 1 bytes)
 unfolding without_blank_lines
 blank_line_feed [] h = refl
 blank_line_feed (b ∷ []) h = first_true (b == 10) [] (b ∷ []) h
 blank_line_feed (a ∷ b ∷ bytes) h = first_true (a == 10) _ _ h
 
--- a carriage return and a line feed at the front
-pub blank_return : (bytes : List ℕ) → bytes_eq (take 1 bytes) (10 ∷ []) ≡ false → bytes_eq (take 2 bytes) (13 ∷ 10 ∷ []) ≡ true → without_blank_lines bytes ≡ without_blank_lines (drop 2 bytes)
+-- A leading carriage return with its line feed is skipped.
+pub blank_return : (bytes : List ℕ) → bytes_eq (take 1 bytes) (10 ∷ []) ≡ false → bytes_eq (take 2 bytes)
+    (13 ∷ 10 ∷ []) ≡ true → without_blank_lines bytes ≡ without_blank_lines (drop 2 bytes)
 unfolding without_blank_lines
 blank_return [] h k = refl
 blank_return (b ∷ []) h k = search (rules, k)
 blank_return (a ∷ b ∷ bytes) h k = first_false (a == 10) _ _ h ∙ second_true (a == 13) (b == 10) _ _ k
 
--- neither
-pub blank_end : (bytes : List ℕ) → bytes_eq (take 1 bytes) (10 ∷ []) ≡ false → bytes_eq (take 2 bytes) (13 ∷ 10 ∷ []) ≡ false → without_blank_lines bytes ≡ bytes
+-- Nothing else is skipped.
+pub blank_end : (bytes : List ℕ) → bytes_eq (take 1 bytes) (10 ∷ []) ≡ false → bytes_eq (take 2 bytes) (13 ∷ 10 ∷ [])
+    ≡ false → without_blank_lines bytes ≡ bytes
 unfolding without_blank_lines
 blank_end [] h k = refl
 blank_end (b ∷ []) h k = first_false (b == 10) [] (b ∷ []) h
@@ -59,7 +64,8 @@ skip_return : (bytes : List ℕ) → without_blank_lines (13 ∷ 10 ∷ bytes) �
 unfolding without_blank_lines
 skip_return bytes = refl
 
-pub skip_blank : (ends : List LineEnd) (bytes : List ℕ) → without_blank_lines (print_blank ends ++ bytes) ≡ without_blank_lines bytes
+pub skip_blank : (ends : List LineEnd) (bytes : List ℕ) → without_blank_lines (print_blank ends ++ bytes)
+    ≡ without_blank_lines bytes
 skip_blank [] bytes = refl
 skip_blank (crlf ∷ ends) bytes = skip_return (print_blank ends ++ bytes) ∙ skip_blank ends bytes
 skip_blank (lf ∷ ends) bytes = skip_line_feed (print_blank ends ++ bytes) ∙ skip_blank ends bytes
@@ -76,25 +82,29 @@ space_none : is_token_byte 32 ≡ false
 unfolding is_token_byte
 space_none = refl
 
-other : (b n : ℕ) → is_token_byte n ≡ false → is_token_byte b ≡ true → (t : Bool) → (b == n) ≡ t → (b == n) ≡ false
-other b n none h false e = e
-other b n none h true e = absurd (both_ways (is_token_byte n) none (subst (λ k. is_token_byte k ≡ true) (eqb-true b n e) h))
+differs_from_other : (b n : ℕ) → is_token_byte n ≡ false → is_token_byte b ≡ true → (t : Bool) → (b == n) ≡ t
+    → (b == n) ≡ false
+differs_from_other b n none h false e = e
+differs_from_other b n none h true e =
+    absurd (both_ways (is_token_byte n) none (subst (λ k. is_token_byte k ≡ true) (eqb-true b n e) h))
 
 no_return : (y z : Bool) (a b : List ℕ) → y ≡ false → cond (y && z) a b ≡ b
 no_return true z a b e = search (rules, e)
 no_return false z a b e = refl
 
-line_stays : (b : ℕ) (bytes : List ℕ) → (b == 10) ≡ false → (b == 13) ≡ false → without_blank_lines (b ∷ bytes) ≡ b ∷ bytes
+line_stays : (b : ℕ) (bytes : List ℕ) → (b == 10) ≡ false → (b == 13) ≡ false → without_blank_lines (b ∷ bytes) ≡ b
+    ∷ bytes
 unfolding without_blank_lines
 line_stays b [] h k = cond-false (b == 10) [] (b ∷ []) h
 line_stays a (b ∷ bytes) h k = cond-false (a == 10) _ _ h ∙ no_return (a == 13) (b == 10) _ _ k
 
--- a line that begins with a method
+-- A line that begins with a method isn't empty.
 pub token_stays : (method bytes : List ℕ) → IsToken method → without_blank_lines (method ++ bytes) ≡ method ++ bytes
 token_stays [] bytes t = let l = t.0 in absurd (omega (arith, l))
 token_stays (b ∷ method) bytes t =
     let is : is_token_byte b ≡ true = t.1 0 b (omega arith) in
-    line_stays b (method ++ bytes) (other b 10 line_feed_none is (b == 10) refl) (other b 13 return_none is (b == 13) refl)
+    line_stays b (method ++ bytes) (differs_from_other b 10 line_feed_none is (b == 10) refl)
+    (differs_from_other b 13 return_none is (b == 13) refl)
 
 -- A method, a space and a target.
 
@@ -102,12 +112,13 @@ module _ (method target : List ℕ) (t : IsToken method) where
   abbrev line : List ℕ
   line = method ++ 32 ∷ target
 
-  within : length method < length line
-  within = let k = length-append method (32 ∷ target) in omega (arith, k)
+  method_within_line : length method < length line
+  method_within_line = let k = length-append method (32 ∷ target) in omega (arith, k)
 
   space_at : position_or_len is_space line ≡ length method
-  space_at = position_or_len_is is_space line (length method) 0 (let k = within in omega (arith, k))
-      (λ k l. other _ 32 space_none (subst (λ b. is_token_byte b ≡ true) (sym (get_or-append method (32 ∷ target) 0 k l)) (t.1 k 0 l)) _ refl)
+  space_at = position_or_len_is is_space line (length method) 0 (let k = method_within_line in omega (arith, k))
+      (λ k l. differs_from_other _ 32 space_none
+      (subst (λ b. is_token_byte b ≡ true) (sym (get_or-append method (32 ∷ target) 0 k l)) (t.1 k 0 l)) _ refl)
       (λ l. ap is_space (get_or-append_seam method 32 target 0))
 
   before_space : before_first is_space line ≡ method
@@ -116,9 +127,12 @@ module _ (method target : List ℕ) (t : IsToken method) where
   after_space : after_first is_space line ≡ target
   after_space = ap (λ n. drop (n + 1) line) space_at ∙ drop-append-add method (32 ∷ target) 1
 
-  method_told : is_token method ≡ true
-  method_told = both_true (search (rules, t.0)) (list_all-from_AllPass is_token_byte method t.1)
+  method_is_token : is_token method ≡ true
+  method_is_token = both_true (search (rules, t.0)) (list_all-from_AllPass is_token_byte method t.1)
 
   pub open_target : AllPass is_uri_byte target → is_open_target line ≡ true
-  open_target u = both_true (list_any_at is_space line (length method) 0 within (ap is_space (get_or-append_seam method 32 target 0)))
-      (both_true (ap is_token before_space ∙ method_told) (ap (list_all is_uri_byte) after_space ∙ list_all-from_AllPass is_uri_byte target u))
+  open_target u =
+      both_true (list_any_at is_space line (length method) 0 method_within_line
+      (ap is_space (get_or-append_seam method 32 target 0)))
+      (both_true (ap is_token before_space ∙ method_is_token) (ap (list_all is_uri_byte) after_space
+      ∙ list_all-from_AllPass is_uri_byte target u))

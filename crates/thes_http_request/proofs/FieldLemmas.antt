@@ -1,5 +1,6 @@
--- The first field of a name, and the values of all of them; the digits of a length.
-use Rattle.std.proofs.Common.{◌≡◌, ◌∙◌, sym, ap, subst, refl, ℕ, suc, ◌+◌, ◌≤◌, ◌<◌, ◌^◌, ◌||◌, ◌&&◌, Bool, true, false, not, cond, List, [], ◌∷◌, length, drop, map, Ok, Err, arith, rules, get_or}
+-- Proves the look-up of header fields by the first one with a name, and the parsing of a length.
+use Rattle.std.proofs.Common.{◌≡◌, ◌∙◌, sym, ap, subst, refl, ℕ, suc, ◌+◌, ◌≤◌, ◌<◌, ◌^◌, ◌||◌, ◌&&◌, Bool, true}
+use Rattle.std.proofs.Common.{false, not, cond, List, [], ◌∷◌, length, drop, map, Ok, Err, arith, rules, get_or}
 use Rattle.std.specs.Prelude.{filter, nat_lt, is_some, MatchOption, Option, Some, None}
 use Rattle.std.specs.List.{list_any, list_all, position_or_len}
 use Rattle.std.specs.Char.{is_ascii_digit}
@@ -20,22 +21,25 @@ module _ {X Y : Type 0} (p : Y → Bool) (f : X → Y) where
   any_step true t n l ih h = refl
   any_step false t n l ih h = ih (omega (arith, h))
 
-  -- a first one, and so one
+  -- An element that passes is found.
   pub any_found : (xs : List X) → position_or_len (λ x. p (f x)) xs < length xs → list_any p (map f xs) ≡ true
   any_found [] h = absurd (omega (arith, h))
-  any_found (x ∷ xs) h = any_step (p (f x)) (list_any p (map f xs)) (position_or_len (λ x. p (f x)) xs) (length xs) (any_found xs) (omega (arith, h))
+  any_found (x ∷ xs) h = any_step (p (f x)) (list_any p (map f xs)) (position_or_len (λ x. p (f x)) xs) (length xs)
+      (any_found xs) (omega (arith, h))
 
   none_step : (b t : Bool) (n l : ℕ) → (n ≡ l → t ≡ false) → cond (not b) (1 + n) 0 ≡ 1 + l → (b || t) ≡ false
   none_step true t n l ih h = absurd (omega (arith, h))
   none_step false t n l ih h = ih (omega (arith, h))
 
-  -- no first one, and so none
+  -- No element passes if the search finds none.
   pub any_none : (xs : List X) → position_or_len (λ x. p (f x)) xs ≡ length xs → list_any p (map f xs) ≡ false
   any_none [] h = refl
-  any_none (x ∷ xs) h = none_step (p (f x)) (list_any p (map f xs)) (position_or_len (λ x. p (f x)) xs) (length xs) (any_none xs) (omega (arith, h))
+  any_none (x ∷ xs) h = none_step (p (f x)) (list_any p (map f xs)) (position_or_len (λ x. p (f x)) xs) (length xs)
+      (any_none xs) (omega (arith, h))
 
 module _ {Y : Type 0} (p : Y → Bool) where
-  skip_step : (b : Bool) (y : Y) (t : Bool) (ys : List Y) → (b || t) ≡ false → (t ≡ false → ys ≡ []) → cond b (y ∷ ys) ys ≡ []
+  skip_step : (b : Bool) (y : Y) (t : Bool) (ys : List Y) → (b || t) ≡ false → (t ≡ false → ys ≡ [])
+      → cond b (y ∷ ys) ys ≡ []
   skip_step false y t ys h ih = ih h
   skip_step true y t ys h ih = absurd (search (rules, h))
 
@@ -43,7 +47,7 @@ module _ {Y : Type 0} (p : Y → Bool) where
   filter_none [] h = refl
   filter_none (y ∷ ys) h = skip_step (p y) y (list_any p ys) (filter p ys) h (filter_none ys)
 
--- what stands for a field beyond all fields
+-- A default for fields beyond the last one.
 abbrev pub no_spans : HeaderSpan
 no_spans = record { name = record { start = 0; end = 0 }; value = record { start = 0; end = 0 } }
 
@@ -53,55 +57,68 @@ after_one n = omega arith
 one_more : (n : ℕ) → suc n ≡ 1 + n
 one_more n = omega arith
 
--- the values of the fields of a name, by the place of the first
+-- The values of the fields with a name, by the index of the first one.
 module _ {X Y : Type 0} (p : Y → Bool) (f : X → Y) (g : Y → List ℕ) where
   pub no_value : (xs : List X) → position_or_len (λ x. p (f x)) xs ≡ length xs → map g (filter p (map f xs)) ≡ []
   no_value xs h = ap (map g) (filter_none p (map f xs) (any_none p f xs h))
 
-  next_none : (x : X) (xs : List X) (n : ℕ) (t : Bool) → list_any p (map f (drop (1 + n + 1) (x ∷ xs))) ≡ t → list_any p (map f (drop (n + 1) xs)) ≡ t
+  next_none : (x : X) (xs : List X) (n : ℕ) (t : Bool) → list_any p (map f (drop (1 + n + 1) (x ∷ xs))) ≡ t
+      → list_any p (map f (drop (n + 1) xs)) ≡ t
   next_none x xs n t h = subst (λ k. list_any p (map f (drop k (x ∷ xs))) ≡ t) (after_one n) h
 
-  next_at : (x : X) (xs : List X) (n : ℕ) (d : X) → map g (filter p (map f xs)) ≡ g (f (get_or xs n d)) ∷ [] → map g (filter p (map f xs)) ≡ g (f (get_or (x ∷ xs) (1 + n) d)) ∷ []
+  next_at : (x : X) (xs : List X) (n : ℕ) (d : X) → map g (filter p (map f xs)) ≡ g (f (get_or xs n d)) ∷ []
+      → map g (filter p (map f xs)) ≡ g (f (get_or (x ∷ xs) (1 + n) d)) ∷ []
   next_at x xs n d h = subst (λ k. map g (filter p (map f xs)) ≡ g (f (get_or (x ∷ xs) k d)) ∷ []) (one_more n) h
 
   value_step : (b : Bool) (x : X) (xs : List X) (n : ℕ) (d : X)
-      → (n < length xs → list_any p (map f (drop (n + 1) xs)) ≡ false → map g (filter p (map f xs)) ≡ g (f (get_or xs n d)) ∷ [])
+      → (n < length xs → list_any p (map f (drop (n + 1) xs)) ≡ false → map g (filter p (map f xs))
+      ≡ g (f (get_or xs n d)) ∷ [])
       → cond (not b) (1 + n) 0 < 1 + length xs → list_any p (map f (drop (cond (not b) (1 + n) 0 + 1) (x ∷ xs))) ≡ false
-      → map g (cond b (f x ∷ filter p (map f xs)) (filter p (map f xs))) ≡ g (f (get_or (x ∷ xs) (cond (not b) (1 + n) 0) d)) ∷ []
+      → map g (cond b (f x ∷ filter p (map f xs)) (filter p (map f xs)))
+      ≡ g (f (get_or (x ∷ xs) (cond (not b) (1 + n) 0) d)) ∷ []
   value_step true x xs n d ih l h = ap (λ t. map g (f x ∷ t)) (filter_none p (map f xs) h)
   value_step false x xs n d ih l h = next_at x xs n d (ih (omega (arith, l)) (next_none x xs n false h))
 
-  -- none after the first, and so one
-  pub one_value : (xs : List X) (d : X) → position_or_len (λ x. p (f x)) xs < length xs → list_any p (map f (drop (position_or_len (λ x. p (f x)) xs + 1) xs)) ≡ false
+  -- There is exactly one value if no later field has the name.
+  pub one_value : (xs : List X) (d : X) → position_or_len (λ x. p (f x)) xs < length xs
+      → list_any p (map f (drop (position_or_len (λ x. p (f x)) xs + 1) xs)) ≡ false
       → map g (filter p (map f xs)) ≡ g (f (get_or xs (position_or_len (λ x. p (f x)) xs) d)) ∷ []
   one_value [] d l h = absurd (omega (arith, l))
-  one_value (x ∷ xs) d l h = value_step (p (f x)) x xs (position_or_len (λ x. p (f x)) xs) d (one_value xs d) (omega (arith, l)) h
+  one_value (x ∷ xs) d l h = value_step (p (f x)) x xs (position_or_len (λ x. p (f x)) xs) d (one_value xs d)
+      (omega (arith, l)) h
 
-  -- one after another is too many
-  second_step : (b t : Bool) (y : Y) (ys : List Y) (a : List ℕ) (limit : ℕ) → (t ≡ true → length_in limit (a ∷ map g ys) ≡ Err BadHead) → (b || t) ≡ true
+  -- A second value is a problem.
+  second_step : (b t : Bool) (y : Y) (ys : List Y) (a : List ℕ) (limit : ℕ)
+      → (t ≡ true → length_in limit (a ∷ map g ys) ≡ Err BadHead) → (b || t) ≡ true
       → length_in limit (a ∷ map g (cond b (y ∷ ys) ys)) ≡ Err BadHead
   second_step true t y ys a limit ih h = refl
   second_step false t y ys a limit ih h = ih h
 
-  second_value : (a : List ℕ) (limit : ℕ) (ys : List Y) → list_any p ys ≡ true → length_in limit (a ∷ map g (filter p ys)) ≡ Err BadHead
+  second_value : (a : List ℕ) (limit : ℕ) (ys : List Y) → list_any p ys ≡ true
+      → length_in limit (a ∷ map g (filter p ys)) ≡ Err BadHead
   second_value a limit [] h = absurd (search (rules, h))
-  second_value a limit (y ∷ ys) h = second_step (p y) (list_any p ys) y (filter p ys) a limit (second_value a limit ys) h
+  second_value a limit (y ∷ ys) h = second_step (p y) (list_any p ys) y (filter p ys) a limit
+      (second_value a limit ys) h
 
   values_step : (b : Bool) (x : X) (xs : List X) (n : ℕ) (limit : ℕ)
-      → (n < length xs → list_any p (map f (drop (n + 1) xs)) ≡ true → length_in limit (map g (filter p (map f xs))) ≡ Err BadHead)
+      → (n < length xs → list_any p (map f (drop (n + 1) xs)) ≡ true → length_in limit (map g (filter p (map f xs)))
+      ≡ Err BadHead)
       → cond (not b) (1 + n) 0 < 1 + length xs → list_any p (map f (drop (cond (not b) (1 + n) 0 + 1) (x ∷ xs))) ≡ true
       → length_in limit (map g (cond b (f x ∷ filter p (map f xs)) (filter p (map f xs)))) ≡ Err BadHead
   values_step true x xs n limit ih l h = second_value (g (f x)) limit (map f xs) h
   values_step false x xs n limit ih l h = ih (omega (arith, l)) (next_none x xs n true h)
 
-  pub many_values : (xs : List X) (limit : ℕ) → position_or_len (λ x. p (f x)) xs < length xs → list_any p (map f (drop (position_or_len (λ x. p (f x)) xs + 1) xs)) ≡ true
+  pub many_values : (xs : List X) (limit : ℕ) → position_or_len (λ x. p (f x)) xs < length xs
+      → list_any p (map f (drop (position_or_len (λ x. p (f x)) xs + 1) xs)) ≡ true
       → length_in limit (map g (filter p (map f xs))) ≡ Err BadHead
   many_values [] limit l h = absurd (omega (arith, l))
-  many_values (x ∷ xs) limit l h = values_step (p (f x)) x xs (position_or_len (λ x. p (f x)) xs) limit (many_values xs limit) (omega (arith, l)) h
+  many_values (x ∷ xs) limit l h = values_step (p (f x)) x xs (position_or_len (λ x. p (f x)) xs) limit
+      (many_values xs limit) (omega (arith, l)) h
 
 -- Digits.
 
-digits_parts : (c : ℕ) (cs : List ℕ) → (is_ascii_digit c && list_all is_ascii_digit cs) ≡ true → IsInRange 48 57 c × (list_all is_ascii_digit cs ≡ true)
+digits_parts : (c : ℕ) (cs : List ℕ) → (is_ascii_digit c && list_all is_ascii_digit cs) ≡ true → IsInRange 48 57 c
+    × (list_all is_ascii_digit cs ≡ true)
 digits_parts c cs h =
     let all = and_parts (is_ascii_digit c) (list_all is_ascii_digit cs) h in
     let digit = and_parts (leb 48 c) (leb c 57) all.0 in
@@ -112,7 +129,8 @@ digits_of [] h = tt
 digits_of (c ∷ cs) h = let k = digits_parts c cs h in (omega (arith, digit_value_digit c k.0), digits_of cs k.1)
 
 length_parts : (text : List ℕ) → is_length text ≡ true → (0 < length text) × (list_all is_ascii_digit text ≡ true)
-length_parts text h = let parts = and_parts (nat_lt 0 (length text)) (list_all is_ascii_digit text) h in let k = parts.0 in (grind (arith, k), parts.1)
+length_parts text h = let parts = and_parts (nat_lt 0 (length text)) (list_all is_ascii_digit text) h in let k =
+    parts.0 in (grind (arith, k), parts.1)
 
 pub length_numeral : (text : List ℕ) → is_length text ≡ true → IsNumeral 10 text
 length_numeral text h = let k = length_parts text h in (k.0, digits_of text k.1)
@@ -121,49 +139,57 @@ pub length_utf8 : (text : List ℕ) → is_length text ≡ true → IsUtf8 text
 length_utf8 text h = IsUtf8-from_ascii text (IsAscii-from_digits text (length_numeral text h).1)
 
 pub length_sign : (text : List ℕ) → is_length text ≡ true → without_leading_plus text ≡ text
-length_sign text h = without_leading_plus_none text (λ e. let d = digit_at text 0 (length_numeral text h).1 (length_numeral text h).0 in omega (arith, d.0, d.1, e))
+length_sign text h = without_leading_plus_none text (λ e. let d = digit_at text 0 (length_numeral text h).1
+    (length_numeral text h).0 in omega (arith, d.0, d.1, e))
 
 pub length_bad : (limit : ℕ) (text : List ℕ) → is_length text ≡ false → length_of limit text ≡ Err BadHead
 unfolding length_of
 length_bad limit text h = rw h refl
 
-pub length_fits : (limit : ℕ) (text : List ℕ) → is_length text ≡ true → digits_value 10 text ≤ limit → length_of limit text ≡ Ok (digits_value 10 text)
+pub length_fits : (limit : ℕ) (text : List ℕ) → is_length text ≡ true → digits_value 10 text ≤ limit
+    → length_of limit text ≡ Ok (digits_value 10 text)
 unfolding length_of
 length_fits limit text h l = rw (h, le-leb (digits_value 10 text) limit l) refl
 
-pub length_long : (limit : ℕ) (text : List ℕ) → is_length text ≡ true → limit < digits_value 10 text → length_of limit text ≡ Err TooLong
+pub length_long : (limit : ℕ) (text : List ℕ) → is_length text ≡ true → limit < digits_value 10 text
+    → length_of limit text ≡ Err TooLong
 unfolding length_of
 length_long limit text h l = rw (h, lt-leb (digits_value 10 text) limit l) refl
 
--- What `parse` reads of a text that is one or more digits.
-abbrev IsRead : List ℕ → Type 0
-IsRead digits = IsNumeral 10 (without_leading_plus digits) × (digits_value 10 (without_leading_plus digits) < 2 ^ 32)
+-- The condition under which `parse` accepts a text of one or more digits.
+abbrev IsParsed : List ℕ → Type 0
+IsParsed digits = IsNumeral 10 (without_leading_plus digits) × (digits_value 10 (without_leading_plus digits) < 2 ^ 32)
 
 module _ (limit : ℕ) (text digits : List ℕ) (h : is_length text ≡ true) (same : digits ≡ text) where
   no_sign : without_leading_plus digits ≡ text
   no_sign = ap without_leading_plus same ∙ length_sign text h
 
-  value_is : (n : ℕ) → IsRead digits × (n ≡ digits_value 10 (without_leading_plus digits)) → n ≡ digits_value 10 text
+  value_is : (n : ℕ) → IsParsed digits × (n ≡ digits_value 10 (without_leading_plus digits)) → n ≡ digits_value 10 text
   value_is n read = read.1 ∙ ap (digits_value 10) no_sign
 
-  pub length_read : (n : ℕ) → IsRead digits × (n ≡ digits_value 10 (without_leading_plus digits)) → n ≤ limit → length_of limit text ≡ Ok n
-  length_read n read l = let e = value_is n read in length_fits limit text h (omega (arith, e, l)) ∙ ap (λ k. Ok k) (sym e)
+  pub length_read : (n : ℕ) → IsParsed digits × (n ≡ digits_value 10 (without_leading_plus digits)) → n ≤ limit
+      → length_of limit text ≡ Ok n
+  length_read n read l = let e = value_is n read in length_fits limit text h (omega (arith, e, l))
+      ∙ ap (λ k. Ok k) (sym e)
 
-  pub length_over : (n : ℕ) → IsRead digits × (n ≡ digits_value 10 (without_leading_plus digits)) → limit < n → length_of limit text ≡ Err TooLong
+  pub length_over : (n : ℕ) → IsParsed digits × (n ≡ digits_value 10 (without_leading_plus digits)) → limit < n
+      → length_of limit text ≡ Err TooLong
   length_over n read l = let e = value_is n read in length_long limit text h (omega (arith, e, l))
 
-  not_small : ¬ (IsRead digits) → ¬ (digits_value 10 text < 2 ^ 32)
-  not_small unread l = unread (subst (λ (t : List ℕ). IsNumeral 10 t × (digits_value 10 t < 2 ^ 32)) (sym no_sign) (length_numeral text h, l))
+  not_small : ¬ (IsParsed digits) → ¬ (digits_value 10 text < 2 ^ 32)
+  not_small unread l = unread (subst (λ (t : List ℕ). IsNumeral 10 t × (digits_value 10 t < 2 ^ 32)) (sym no_sign)
+      (length_numeral text h, l))
 
-  pub length_unread : ¬ (IsRead digits) → limit < 2 ^ 32 → length_of limit text ≡ Err TooLong
+  pub length_unread : ¬ (IsParsed digits) → limit < 2 ^ 32 → length_of limit text ≡ Err TooLong
   length_unread unread l = let k = not_small unread in length_long limit text h (omega (arith, k, l))
 
--- Fields, by the place of the first of a name.
+-- Fields, by the index of the first one with a name.
 module _ {X : Type 0} (name : List ℕ) (f : X → List ℕ × List ℕ) (xs : List X) where
   abbrev first : ℕ
   first = position_or_len (λ x. is_named name (f x)) xs
 
-  pub found_field : (r : Option ℕ) (b : Bool) → b ≡ is_some r → MatchOption r (first ≡ length xs) (λ at. (first ≡ at) × (at < length xs)) → b ≡ has_field name (map f xs)
+  pub found_field : (r : Option ℕ) (b : Bool) → b ≡ is_some r → MatchOption r (first ≡ length xs)
+      (λ at. (first ≡ at) × (at < length xs)) → b ≡ has_field name (map f xs)
   unfolding has_field
   found_field None b e m = e ∙ sym (any_none (is_named name) f xs m)
   found_field (Some at) b e m = e ∙ sym (any_found (is_named name) f xs (omega (arith, m.0, m.1)))
@@ -172,10 +198,16 @@ module _ {X : Type 0} (name : List ℕ) (f : X → List ℕ × List ℕ) (xs : L
   unfolding values_of
   no_length limit m = ap (length_in limit) (no_value (is_named name) f (λ field. field.1) xs m)
 
-  pub several : (limit at : ℕ) → first ≡ at → at < length xs → has_field name (map f (drop (at + 1) xs)) ≡ true → length_in limit (values_of name (map f xs)) ≡ Err BadHead
+  pub many_fields_refused : (limit at : ℕ) → first ≡ at → at < length xs → has_field name (map f (drop (at + 1) xs))
+      ≡ true → length_in limit (values_of name (map f xs)) ≡ Err BadHead
   unfolding values_of has_field
-  several limit at e l h = many_values (is_named name) f (λ field. field.1) xs limit (omega (arith, e, l)) (rw e h)
+  many_fields_refused limit at e l h = many_values (is_named name) f (λ field. field.1) xs limit (omega (arith, e, l))
+      (rw e h)
 
-  pub only_one : (limit at : ℕ) (d : X) → first ≡ at → at < length xs → has_field name (map f (drop (at + 1) xs)) ≡ false → length_in limit (values_of name (map f xs)) ≡ length_of limit (f (get_or xs at d)).1
+  pub one_field_length : (limit at : ℕ) (d : X) → first ≡ at → at < length xs
+      → has_field name (map f (drop (at + 1) xs)) ≡ false → length_in limit (values_of name (map f xs))
+      ≡ length_of limit (f (get_or xs at d)).1
   unfolding values_of has_field
-  only_one limit at d e l h = ap (length_in limit) (one_value (is_named name) f (λ field. field.1) xs d (omega (arith, e, l)) (rw e h)) ∙ rw e refl
+  one_field_length limit at d e l h =
+      ap (length_in limit) (one_value (is_named name) f (λ field. field.1) xs d (omega (arith, e, l)) (rw e h))
+      ∙ rw e refl

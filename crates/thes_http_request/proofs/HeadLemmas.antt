@@ -1,5 +1,6 @@
--- Heads, and bytes that have none.
-use Rattle.std.proofs.Common.{◌≡◌, ◌⊎◌, ◌∙◌, sym, ap, subst, ℕ, ◌+◌, ◌≤◌, ◌<◌, true, List, [], ◌∷◌, ◌++◌, length, take, drop, inl, inr, append-nil, append_assoc, take_all, arith, rules}
+-- Proves when bytes are a bad head, and that none are both incomplete and bad.
+use Rattle.std.proofs.Common.{◌≡◌, ◌⊎◌, ◌∙◌, sym, ap, subst, ℕ, ◌+◌, ◌≤◌, ◌<◌, true, List, [], ◌∷◌, ◌++◌, length}
+use Rattle.std.proofs.Common.{take, drop, inl, inr, append-nil, append_assoc, take_all, arith, rules}
 use Rattle.std.proofs.lemmas.List.{take-append-drop}
 use Rattle.std.proofs.lemmas.Bool.{cases_lt, both_ways}
 use Rattle.std.specs.Prelude.{IsTrue}
@@ -8,61 +9,86 @@ use Rattle.httparse.specs.Spans.{RequestExceeds}
 use Rattle.thes_http_request.proofs.BlankLemmas.{skip_blank, token_stays, open_target}
 use Rattle.thes_http_request.proofs.LineLemmas.{fields_lines}
 use Rattle.thes_http_request.specs.Laws.{CutIsNotBad}
-use Rattle.thes_http_request.specs.Heads.{head_limit, fields_limit, without_blank_lines, whole_lines, is_open_target, ends_in_target, IsUnfinished, IsNoHead, HasTooManyLines, IsCutHead, IsBadHead}
+use Rattle.thes_http_request.specs.Heads.{head_limit, fields_limit, without_blank_lines, whole_lines, is_open_target}
+use Rattle.thes_http_request.specs.Heads.{ends_in_target, IsUnfinished, IsNoHead, HasTooManyLines, IsCutHead}
+use Rattle.thes_http_request.specs.Heads.{IsBadHead}
 
 pub none_of_never : (bytes : List ℕ) → NeverHasRequest bytes → HasNoRequest bytes
 none_of_never bytes never = subst HasNoRequest (append-nil bytes) (never [])
 
-pub exceeds_in : (front rest bytes : List ℕ) → bytes ≡ front ++ rest → RequestExceeds fields_limit front → RequestExceeds fields_limit bytes
-exceeds_in front rest bytes e x = (x.0, x.1 ++ rest, e ∙ (ap (λ t. t ++ rest) x.2 ∙ append_assoc x.0 x.1 rest), x.3, x.4, x.5)
+pub exceeds_in : (front rest bytes : List ℕ) → bytes ≡ front ++ rest → RequestExceeds fields_limit front
+    → RequestExceeds fields_limit bytes
+exceeds_in front rest bytes e x = (
+  x.0,
+  x.1 ++ rest,
+  e ∙ (ap (λ t. t ++ rest) x.2 ∙ append_assoc x.0 x.1 rest),
+  x.3,
+  x.4,
+  x.5,
+)
 
-pub bad_long : (front bytes : List ℕ) → front ≡ take head_limit bytes → head_limit < length bytes → HasNoRequest front → IsBadHead bytes
+pub bad_long : (front bytes : List ℕ) → front ≡ take head_limit bytes → head_limit < length bytes → HasNoRequest front
+    → IsBadHead bytes
 bad_long front bytes e l none = inr (inr (record { long = l; none = subst HasNoRequest e none }))
 
 bad_at : (bytes : List ℕ) → IsNoHead bytes ⊎ HasTooManyLines bytes → IsBadHead bytes
 bad_at bytes (inl n) = inl n
 bad_at bytes (inr m) = inr (inl m)
 
-bad_before : (front bytes : List ℕ) → front ≡ take head_limit bytes → head_limit < length bytes → IsNoHead front ⊎ HasTooManyLines front → IsBadHead bytes
+bad_before : (front bytes : List ℕ) → front ≡ take head_limit bytes → head_limit < length bytes → IsNoHead front
+    ⊎ HasTooManyLines front → IsBadHead bytes
 bad_before front bytes e l (inl n) = bad_long front bytes e l (none_of_never front n.never)
 bad_before front bytes e l (inr (inl x)) =
-    inr (inl (inl (exceeds_in front (drop head_limit bytes) bytes (sym (take-append-drop head_limit bytes) ∙ ap (λ t. t ++ drop head_limit bytes) (sym e)) x)))
+    inr (inl
+    (inl (exceeds_in front (drop head_limit bytes) bytes (sym (take-append-drop head_limit bytes)
+    ∙ ap (λ t. t ++ drop head_limit bytes) (sym e)) x)))
 bad_before front bytes e l (inr (inr k)) = bad_long front bytes e l k.0
 
-bad_either : (front bytes : List ℕ) → front ≡ take head_limit bytes → (head_limit < length bytes) ⊎ (length bytes ≤ head_limit) → IsNoHead front ⊎ HasTooManyLines front → IsBadHead bytes
+bad_either : (front bytes : List ℕ) → front ≡ take head_limit bytes → (head_limit < length bytes)
+    ⊎ (length bytes ≤ head_limit) → IsNoHead front ⊎ HasTooManyLines front → IsBadHead bytes
 bad_either front bytes e (inl long) h = bad_before front bytes e long h
-bad_either front bytes e (inr short) h = bad_at bytes (subst (λ (t : List ℕ). IsNoHead t ⊎ HasTooManyLines t) (e ∙ take_all head_limit bytes short) h)
+bad_either front bytes e (inr short) h =
+    bad_at bytes (subst (λ (t : List ℕ). IsNoHead t ⊎ HasTooManyLines t) (e ∙ take_all head_limit bytes short) h)
 
--- what spoils the front spoils the bytes
-pub bad_front : (front bytes : List ℕ) → front ≡ take head_limit bytes → IsNoHead front ⊎ HasTooManyLines front → IsBadHead bytes
+-- A prefix that begins no head makes all the bytes a bad head.
+pub bad_front : (front bytes : List ℕ) → front ≡ take head_limit bytes → IsNoHead front ⊎ HasTooManyLines front
+    → IsBadHead bytes
 bad_front front bytes e h = bad_either front bytes e (cases_lt head_limit (length bytes)) h
 
-pub cut_front : (front bytes bytes' : List ℕ) → front ≡ take head_limit bytes → bytes' ≡ bytes → length bytes ≤ head_limit → IsUnfinished front → IsCutHead bytes'
+pub cut_front : (front bytes bytes' : List ℕ) → front ≡ take head_limit bytes → bytes' ≡ bytes → length bytes
+    ≤ head_limit → IsUnfinished front → IsCutHead bytes'
 cut_front front bytes bytes' e same l h =
-    rw same (record { short = l; unfinished = subst (λ (t : List ℕ). IsUnfinished t) (e ∙ take_all head_limit bytes l) h })
+    rw same (record {
+      short = l;
+      unfinished = subst (λ (t : List ℕ). IsUnfinished t) (e ∙ take_all head_limit bytes l)
+          h;
+    })
 
--- Cut or bad.
+-- Incomplete or bad.
 
--- bytes that end within a target are told to
-pub ends_told : (bytes : List ℕ) → EndsInTarget bytes → ends_in_target bytes ≡ true
-ends_told bytes (blank, method, target, token, uri, is) =
-    let line : without_blank_lines bytes ≡ method ++ (32 ∷ target) = ap without_blank_lines (is ∙ append_assoc (print_blank blank) method (32 ∷ target)) ∙ (skip_blank blank (method ++ (32 ∷ target)) ∙ token_stays method (32 ∷ target) token) in
+-- Bytes that end within a target pass the test for that.
+pub ends_in_target_holds : (bytes : List ℕ) → EndsInTarget bytes → ends_in_target bytes ≡ true
+ends_in_target_holds bytes (blank, method, target, token, uri, is) =
+    let line : without_blank_lines bytes ≡ method ++ (32 ∷ target) =
+    ap without_blank_lines (is ∙ append_assoc (print_blank blank) method (32 ∷ target))
+    ∙ (skip_blank blank (method ++ (32 ∷ target)) ∙ token_stays method (32 ∷ target) token) in
     ap is_open_target line ∙ open_target method target token uri
 
--- too many fields are too many whole lines
-pub exceeds_told : (bytes : List ℕ) → RequestExceeds fields_limit bytes → fields_limit + 1 < whole_lines bytes
-exceeds_told bytes (front, rest, is, h, reads, many) =
+-- Too many fields are too many complete lines.
+pub many_fields_many_lines : (bytes : List ℕ) → RequestExceeds fields_limit bytes → fields_limit + 1 < whole_lines bytes
+many_fields_many_lines bytes (front, rest, is, h, reads, many) =
     let same : whole_lines bytes ≡ whole_lines (front ++ rest) = ap whole_lines is in
     let lines = fields_lines front rest h reads in
     omega (arith, same, lines, many)
 
 open_is_no_end : (bytes : List ℕ) → MayBecomeRequest bytes ⊎ IsTrue (ends_in_target bytes) → IsNoHead bytes → ⊥
 open_is_no_end bytes (inl (inl m)) n = n.never m.0 m.1 [] m.2
-open_is_no_end bytes (inl (inr e)) n = both_ways (ends_in_target bytes) n.past_target (ends_told bytes e)
+open_is_no_end bytes (inl (inr e)) n = both_ways (ends_in_target bytes) n.past_target (ends_in_target_holds bytes e)
 open_is_no_end bytes (inr t) n = both_ways (ends_in_target bytes) n.past_target (search (rules, t))
 
 pub cut_is_not_bad : CutIsNotBad
 cut_is_not_bad bytes c (inl n) = open_is_no_end bytes c.unfinished.may_come n
-cut_is_not_bad bytes c (inr (inl (inl x))) = let k = exceeds_told bytes x in let few = c.unfinished.few in omega (arith, k, few)
+cut_is_not_bad bytes c (inr (inl (inl x))) = let k = many_fields_many_lines bytes x in let few = c.unfinished.few in
+    omega (arith, k, few)
 cut_is_not_bad bytes c (inr (inl (inr m))) = let k = m.1 in let few = c.unfinished.few in omega (arith, k, few)
 cut_is_not_bad bytes c (inr (inr l)) = let k = l.long in let short = c.short in omega (arith, k, short)

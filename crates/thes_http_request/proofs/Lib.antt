@@ -1,9 +1,9 @@
 mod HeadLemmas
 pub mod InboxLemmas
 mod BodyLemmas
-mod WantLemmas
+mod HeadRequestLemmas
 mod QueryLemmas
-mod AskLemmas
+mod HeadOutcomeLemmas
 mod FieldLemmas
 mod PlaceLemmas
 mod BlankLemmas

@@ -1,9 +1,10 @@
--- What is read of a connection.
-use Rattle.std.specs.Prelude.{ℕ, ◌≡◌, ◌≤◌, ◌<◌, ◌⊎◌, ◌+◌, ◌*◌, ◌++◌, Bool, true, List, length, take, map, Option, Result}
+-- The bytes read from a connection.
+use Rattle.std.specs.Prelude.{ℕ, ◌≡◌, ◌≤◌, ◌<◌, ◌⊎◌, ◌+◌, ◌*◌, ◌++◌, Bool, true, List, length, take, map, Option}
+use Rattle.std.specs.Prelude.{Result}
 use Rattle.std.specs.Char.{to_ascii_lowercase}
 use Rattle.std.specs.List.{position_or_len}
 use Rattle.std.specs.Io.KnownBytes.{Consumes, IsAtEnd}
-use Rattle.thes_base.specs.Pipe.{failed_of, ended_of, denied_of, unread}
+use Rattle.thes_base.specs.Pipe.{failed_of, ended_of, denied_of, unread_bytes}
 use Rattle.thes_base.specs.declared.pipe.Pipe.{Pipe}
 use Rattle.httparse.specs.Grammar.{RequestHead}
 use Rattle.httparse.specs.Spans.{IsRequestAt, IsRequestWithin, header_bytes}
@@ -12,49 +13,49 @@ use Rattle.httparse.specs.declared.spans.RequestSpans.{RequestSpans}
 use Rattle.thes_http_request.specs.declared.problem.Problem.{Problem}
 use Rattle.thes_http_request.specs.Heads.{HasHead, fields_limit, parts_of}
 use Rattle.thes_http_request.specs.Fields.{is_named}
-use Rattle.thes_http_request.specs.Wants.{Wants, wants_of}
+use Rattle.thes_http_request.specs.HeadRequests.{HeadRequest, head_request_of}
 
--- the spans cover the parts of a head that the bytes begin with
+-- The bytes begin with a head, and the spans are those of its parts.
 pub record IsHeadAt (bytes : List ℕ) (headers : List HeaderSpan) (spans : RequestSpans) : Type 0 where
   pub head : RequestHead
   pub at : IsRequestAt bytes headers spans head
   pub within : IsRequestWithin bytes headers spans
   pub few : length head.fields ≤ fields_limit
 
--- the spans of a field cover this name, in whatever case
+-- Whether the spans of a field cover this name, ignoring case.
 abbrev pub spans_named : List ℕ → List ℕ → HeaderSpan → Bool
 spans_named name bytes header = is_named (map to_ascii_lowercase name) (header_bytes bytes header)
 
--- the place of the first such field
+-- The index of the first field with this name, or the number of fields if there is none.
 abbrev pub first_named : List ℕ → List ℕ → List HeaderSpan → ℕ
 first_named name bytes headers = position_or_len (spans_named name bytes) headers
 
--- the bytes begin with a head, which the rest follows, and this is what it asks for
-pub record Asks (bytes rest : List ℕ) (outcome : Result Wants Problem) : Type 0 where
+-- The bytes begin with a head, which `rest` follows, and it asks for `outcome`.
+pub record HeadOutcome (bytes rest : List ℕ) (outcome : Result HeadRequest Problem) : Type 0 where
   pub head : RequestHead
   pub has : HasHead bytes head rest
-  pub wants : wants_of (parts_of head) ≡ outcome
+  pub wants : head_request_of (parts_of head) ≡ outcome
 
--- a reader or a writer failed, or was denied a read or a write
+-- The reader or writer failed, or was denied a read or a write.
 abbrev pub HasStopped : {T : Type 0} → Pipe T → Type 0
 HasStopped p = (failed_of p ≡ true) ⊎ (denied_of p ≡ true)
 
--- a read told the end of the input
+-- A read has returned the end of the input.
 abbrev pub HasEnded : {R : Type 0} → (R → Option (List ℕ)) → Pipe R → Type 0
-HasEnded remaining p = IsAtEnd (unread remaining p) × (ended_of p ≡ true)
+HasEnded remaining p = IsAtEnd (unread_bytes remaining p) × (ended_of p ≡ true)
 
--- bytes were taken, whatever they are
-pub record Takes (old new : Option (List ℕ)) : Type 0 where
+-- Some bytes were consumed.
+pub record ConsumesSome (old new : Option (List ℕ)) : Type 0 where
   pub more : List ℕ
   pub taken : Consumes old new more
 
--- what came stands after what was there
-pub record Grows (old new : Option (List ℕ)) (before after : List ℕ) : Type 0 where
+-- Some bytes were consumed and appended to the buffer.
+pub record BufferGrowth (old new : Option (List ℕ)) (before after : List ℕ) : Type 0 where
   pub more : List ℕ
   pub taken : Consumes old new more
   pub all : after ≡ before ++ more
 
--- the body came whole, after what was there already
+-- The whole body arrived: the first `count` bytes of `start` and the bytes consumed.
 pub record ReadsBody (old new : Option (List ℕ))
     (start : List ℕ) (count : ℕ) (body : List ℕ) : Type 0 where
   pub more : List ℕ
@@ -62,13 +63,14 @@ pub record ReadsBody (old new : Option (List ℕ))
   pub whole : count ≤ length (start ++ more)
   pub body_is : body ≡ take count (start ++ more)
 
--- the input ended before the body did
+-- The input ended before the body did.
 pub record CutsBody (old new : Option (List ℕ)) (start : List ℕ) (count : ℕ) : Type 0 where
   pub more : List ℕ
   pub taken : Consumes old new more
   pub short : length (start ++ more) < count
   pub at_end : IsAtEnd new
 
--- the room of a body's buffer: no more than the body is long, nor than twice what came and 4,096 bytes
-abbrev pub GrowsAsItCame : ℕ → ℕ → ℕ → Type 0
-GrowsAsItCame count came room = (room ≤ count) × (room ≤ 2 * came + 4096)
+-- The capacity of the body's buffer is at most the length of the body, and at most 4,096 bytes and
+-- twice what has arrived.
+abbrev pub HasBoundedCapacity : ℕ → ℕ → ℕ → Type 0
+HasBoundedCapacity count came room = (room ≤ count) × (room ≤ 2 * came + 4096)

@@ -1,7 +1,7 @@
 pub mod Heads
 pub mod Places
 pub mod Fields
-pub mod Wants
+pub mod HeadRequests
 pub mod Queries
 pub mod Inbox
 pub mod Laws

@@ -1,17 +1,17 @@
-//! The body of a request, as it comes.
+//! Reads the body of an HTTP request.
 ghost use Rattle.std.specs.Prelude.{◌≡◌, ◌≤◌, ◌<◌, ◌+◌, ◌++◌, [], length, true, false, vec_len, vec_capacity, IfOk, OnOk, IsErrOf};
-ghost use Rattle.thes_base.specs.Pipe.{ended_of, IsFresh, PaysCalls, unread};
-ghost use Rattle.thes_http_request.specs.Inbox.{ReadsBody, CutsBody, Takes, Grows, GrowsAsItCame, HasStopped, HasEnded};
+ghost use Rattle.thes_base.specs.Pipe.{ended_of, IsFresh, PaysCalls, unread_bytes};
+ghost use Rattle.thes_http_request.specs.Inbox.{ReadsBody, CutsBody, ConsumesSome, BufferGrowth, HasBoundedCapacity, HasStopped, HasEnded};
 
-use crate::inbox::Gone;
+use crate::inbox::InputFault;
 use std::alloc::AllocError;
 use std::io::Read;
 use thes_base::pipe::{Budget, Pipe};
 
-/// The reason why there is no body.
+/// Why there is no body.
 #[derive(Clone, Copy, Debug, PartialEq, Eq)]
 pub enum BodyStop {
-    Gone(Gone),
+    InputFault(InputFault),
     OutOfMemory,
 }
 
@@ -25,24 +25,25 @@ impl From<AllocError> for BodyStop {
     }
 }
 
-impl From<Gone> for BodyStop {
+impl From<InputFault> for BodyStop {
     ghost use Rattle.thes_http_request.specs.declared.body.BodyStop.TheVariants as stop;
 
-    ghost from_gives = { λ gone s. s ≡ stop.Gone gone };
+    ghost from_gives = { λ gone s. s ≡ stop.InputFault gone };
 
-    fn from(gone: Gone) -> BodyStop {
-        BodyStop::Gone(gone)
+    fn from(gone: InputFault) -> BodyStop {
+        BodyStop::InputFault(gone)
     }
 }
 
-// Makes room for a byte or more of those that are still to come.
+// Reserves room for at least one more byte, if there is none: at most the length so far and 4,096
+// bytes.
 fn make_room(body: &mut Vec<u8>, count: usize) -> Result<(), AllocError>
     requires short { vec_len body.old < count }
-    requires room { GrowsAsItCame count (vec_len body.old) (vec_capacity body.old) }
+    requires room { HasBoundedCapacity count (vec_len body.old) (vec_capacity body.old) }
     ensures items { body.new.items ≡ body.old.items }
     ensures len { vec_len body.new ≡ vec_len body.old }
     ensures some { OnOk result (vec_len body.new < vec_capacity body.new) }
-    ensures room { GrowsAsItCame count (vec_len body.new) (vec_capacity body.new) }
+    ensures room { HasBoundedCapacity count (vec_len body.new) (vec_capacity body.new) }
 {
     let len = body.len();
     if body.capacity() > len {
@@ -51,7 +52,7 @@ fn make_room(body: &mut Vec<u8>, count: usize) -> Result<(), AllocError>
     body.reserve_exact(len.saturating_add(4096).min(count - len))
 }
 
-// Adds bytes for which there is room.
+// Appends bytes for which there is room.
 fn add(body: &mut Vec<u8>, bytes: &[u8])
     requires { vec_len body.old + length bytes.now ≤ vec_capacity body.old }
     ensures items { body.new.items ≡ body.old.items ++ bytes.now }
@@ -63,27 +64,29 @@ fn add(body: &mut Vec<u8>, bytes: &[u8])
     }
 }
 
-// Reads into the chunk, and adds what came to the body, which has room for a whole chunk.
+// Reads into the chunk, appends the bytes read to the body, and returns whether there were any.
 fn read_more<R: Read>(
     reader: &mut Pipe<R>,
     budget: &mut Budget,
     chunk: &mut [u8],
     body: &mut Vec<u8>,
-) -> Result<bool, Gone>
+) -> Result<bool, InputFault>
     requires fresh { IsFresh reader.old }
     requires some { 0 < length chunk.old }
     requires room { vec_len body.old + length chunk.old ≤ vec_capacity body.old }
-    ensures taken { Takes (unread R.remaining reader.old) (unread R.remaining reader.new) }
-    ensures more { OnOk result (Grows (unread R.remaining reader.old)
-        (unread R.remaining reader.new) body.old.items body.new.items) }
+    ensures taken { ConsumesSome
+        (unread_bytes R.remaining reader.old)
+        (unread_bytes R.remaining reader.new) }
+    ensures more { OnOk result (BufferGrowth (unread_bytes R.remaining reader.old)
+        (unread_bytes R.remaining reader.new) body.old.items body.new.items) }
     ensures going { IfOk result (λ more. more ≡ true →
         (vec_len body.old < vec_len body.new)
         × (vec_len body.new ≤ vec_len body.old + length chunk.old)
         × IsFresh reader.new) }
     ensures end { IfOk result (λ more. more ≡ false →
         (body.new.items ≡ body.old.items) × HasEnded R.remaining reader.new) }
-    ensures fault { IsErrOf result Gone.ReadFault → HasStopped reader.new }
-    ensures not_cut { ¬ IsErrOf result Gone.Cut }
+    ensures fault { IsErrOf result InputFault.ReadFault → HasStopped reader.new }
+    ensures not_cut { ¬ IsErrOf result InputFault.Cut }
     ensures len { vec_len body.old ≤ vec_len body.new }
     ensures capacity { vec_capacity body.new ≡ vec_capacity body.old }
     ensures paid { PaysCalls reader.old reader.new budget.old budget.new }
@@ -93,13 +96,14 @@ fn read_more<R: Read>(
             add(body, &chunk[..count]);
             Ok(count > 0)
         }
-        Err(_) => Err(Gone::ReadFault),
+        Err(_) => Err(InputFault::ReadFault),
     }
 }
 
-/// Reads a body of that many bytes into an empty buffer; the first of them may be here already.
+/// Reads a body of `count` bytes into an empty buffer, beginning with those that `start` has.
 ///
-/// The buffer grows with what comes, whatever length was announced, and whether or not the body is whole.
+/// The buffer grows with the bytes that arrive, whatever length was announced, and also if the body
+/// ends early.
 pub fn read_body<R: Read>(
     reader: &mut Pipe<R>,
     budget: &mut Budget,
@@ -109,14 +113,18 @@ pub fn read_body<R: Read>(
 ) -> Result<(), BodyStop>
     requires fresh { IsFresh reader.old }
     requires empty { (body.old.items ≡ []) × (vec_capacity body.old ≡ 0) }
-    ensures taken { Takes (unread R.remaining reader.old) (unread R.remaining reader.new) }
-    ensures whole { OnOk result (ReadsBody (unread R.remaining reader.old)
-        (unread R.remaining reader.new) start.now count body.new.items) }
-    ensures cut { IsErrOf result (BodyStop.Gone Gone.Cut) →
-        CutsBody (unread R.remaining reader.old) (unread R.remaining reader.new) start.now count
+    ensures taken { ConsumesSome
+        (unread_bytes R.remaining reader.old)
+        (unread_bytes R.remaining reader.new) }
+    ensures whole { OnOk result (ReadsBody (unread_bytes R.remaining reader.old)
+        (unread_bytes R.remaining reader.new) start.now count body.new.items) }
+    ensures cut { IsErrOf result (BodyStop.InputFault InputFault.Cut) →
+        CutsBody (unread_bytes R.remaining reader.old)
+        (unread_bytes R.remaining reader.new) start.now count
         × (ended_of reader.new ≡ true) }
-    ensures fault { IsErrOf result (BodyStop.Gone Gone.ReadFault) → HasStopped reader.new }
-    ensures room { GrowsAsItCame count (vec_len body.new) (vec_capacity body.new) }
+    ensures fault { IsErrOf result (BodyStop.InputFault InputFault.ReadFault) →
+        HasStopped reader.new }
+    ensures room { HasBoundedCapacity count (vec_len body.new) (vec_capacity body.new) }
     ensures paid { PaysCalls reader.old reader.new budget.old budget.new }
 {
     let here = count.min(start.len());
@@ -127,7 +135,7 @@ pub fn read_body<R: Read>(
         make_room(body, count)?;
         let room = (body.capacity() - body.len()).min(4096);
         if !read_more(reader, budget, &mut chunk[..room], body)? {
-            return Err(BodyStop::Gone(Gone::Cut));
+            return Err(BodyStop::InputFault(InputFault::Cut));
         }
     }
     Ok(())

@@ -1,4 +1,4 @@
-//! Whether bytes begin with a head.
+//! Decides whether bytes begin with the head of an HTTP request.
 ghost use Rattle.std.specs.Prelude.{◌≡◌, ◌⊎◌, true, false, length, MatchOption};
 ghost use Rattle.std.specs.List.{list_any, list_all, before_first, after_first};
 ghost use Rattle.httparse.specs.Grammar.{is_uri_byte};
@@ -8,21 +8,21 @@ ghost use Rattle.thes_http_request.specs.Inbox.{IsHeadAt};
 use httparse::spans::{HeaderSpan, RequestSpans, parse_request};
 use httparse::{Error, Status, is_token, is_uri_token};
 
-// The request line, and 64 header lines.
+// The request line and 64 header lines.
 const LINES_LIMIT: usize = 65;
 
 /// The verdict on the bytes so far.
 #[derive(Clone, Copy, Drop)]
 pub enum Head {
-    /// They begin with a head, whose parts stand there.
+    /// They begin with a head, which has these parts.
     Whole(RequestSpans),
-    /// There is no head yet, and one may come.
+    /// There is no head yet, but more bytes may complete one.
     More,
-    /// No head can come, or one with too many lines.
+    /// No head can follow, or it has too many lines.
     Bad,
 }
 
-/// Tells whether a head is there, may come, or never comes.
+/// Returns whether the bytes begin with a head, may become one, or can't.
 pub fn head_of(bytes: &[u8], headers: &mut [HeaderSpan]) -> Head
     requires { length headers.old ≡ 64 }
     ensures whole { (spans : _) → result ≡ Head.Whole spans → IsHeadAt bytes.now headers.new spans }
@@ -42,7 +42,7 @@ pub fn head_of(bytes: &[u8], headers: &mut [HeaderSpan]) -> Head
     }
 }
 
-// The bytes after the empty lines before a request line.
+// Skips the empty lines before a request line.
 fn without_blank_lines(bytes: &[u8]) -> &[u8]
     ensures { result.now ≡ without_blank_lines bytes.now }
 {
@@ -58,7 +58,7 @@ fn without_blank_lines(bytes: &[u8]) -> &[u8]
     }
 }
 
-// How many lines of a head are whole, the request line among them.
+// Returns the number of complete lines, the request line included.
 fn whole_lines(bytes: &[u8]) -> usize
     ensures { result ≡ whole_lines bytes.now }
 {
@@ -72,7 +72,7 @@ fn whole_lines(bytes: &[u8]) -> usize
     lines
 }
 
-// Whether the bytes end within the target of a request line.
+// Returns whether the bytes end within the target of a request line.
 fn ends_in_target(bytes: &[u8]) -> bool
     ensures { result ≡ ends_in_target bytes.now }
 {
@@ -82,7 +82,7 @@ fn ends_in_target(bytes: &[u8]) -> bool
     }
 }
 
-// What stands before the first space of a line, and what stands after it.
+// Splits a line at its first space.
 fn split_at_space(line: &[u8]) -> Option<(&[u8], &[u8])>
     ensures { MatchOption result (list_any is_space line.now ≡ false)
         (λ parts. (list_any is_space line.now ≡ true)
@@ -93,7 +93,7 @@ fn split_at_space(line: &[u8]) -> Option<(&[u8], &[u8])>
     Some((&line[..at], &line[at + 1..]))
 }
 
-// Whether a target may have each of the bytes.
+// Returns whether each byte may be part of a target.
 fn is_target(bytes: &[u8]) -> bool
     ensures { result ≡ list_all is_uri_byte bytes.now }
 {

@@ -1,9 +1,9 @@
-//! The bytes of a head, as they come.
+//! Reads the head of an HTTP request.
 ghost use Rattle.std.specs.Prelude.{◌≡◌, ◌≤◌, ◌<◌, [], length, take, drop, true, false, IfOk, OnErr, IsErrOf};
 ghost use Rattle.std.specs.Io.KnownBytes.{Consumes};
-ghost use Rattle.thes_base.specs.Pipe.{IsFresh, PaysCalls, unread};
+ghost use Rattle.thes_base.specs.Pipe.{IsFresh, PaysCalls, unread_bytes};
 ghost use Rattle.thes_http_request.specs.Heads.{head_limit, IsBadHead, IsCutHead};
-ghost use Rattle.thes_http_request.specs.Inbox.{IsHeadAt, Grows, HasStopped, HasEnded};
+ghost use Rattle.thes_http_request.specs.Inbox.{IsHeadAt, BufferGrowth, HasStopped, HasEnded};
 
 use crate::head::{Head, head_of};
 use httparse::spans::{HeaderSpan, RequestSpans};
@@ -12,7 +12,7 @@ use std::io::Read;
 use std::marker::Model;
 use thes_base::pipe::{Budget, Pipe, Stop};
 
-/// The bytes that were read of a connection so far: one byte more than a head may have, at most.
+/// The bytes read from a connection so far: at most 8,193, one more than a head may have.
 #[derive(Drop)]
 pub struct Inbox {
     buffer: Vec<u8>,
@@ -29,26 +29,26 @@ impl Model for Inbox {
     ghost invariant = { λ f. (f.filled ≤ 8193) × (vec_len f.buffer ≡ 8193) };
 }
 
-/// The reason why there is no request.
+/// Why there is no request.
 #[derive(Clone, Copy, Debug, PartialEq, Eq)]
-pub enum Gone {
+pub enum InputFault {
     /// The input ended too early.
     Cut,
     /// The reader failed, or was denied a read.
     ReadFault,
 }
 
-/// The reason why there is no head.
+/// Why there is no head.
 #[derive(Clone, Copy, Debug, PartialEq, Eq)]
 pub enum HeadStop {
     Bad,
-    Gone(Gone),
+    InputFault(InputFault),
 }
 
 const HEAD_LIMIT: usize = 8192;
 
 impl Inbox {
-    /// Makes an inbox with nothing in it.
+    /// Allocates an empty inbox.
     pub fn new(alloc: Global) -> Result<Inbox, AllocError>
         ensures { IfOk result (λ inbox. inbox ≡ []) }
     {
@@ -56,23 +56,23 @@ impl Inbox {
         Ok(Inbox { buffer, filled: 0 })
     }
 
-    /// Returns all the bytes.
+    /// Returns the bytes read so far.
     pub fn bytes(&self) -> &[u8]
         ensures { result.now ≡ self.now }
     {
         &self.buffer[..self.filled]
     }
 
-    /// Returns the bytes after so many.
-    pub fn after(&self, count: usize) -> &[u8]
+    /// Returns the bytes after the first `count`.
+    pub fn bytes_after(&self, count: usize) -> &[u8]
         requires { count ≤ length self.now }
         ensures { result.now ≡ drop count self.now }
     {
         &self.bytes()[count..]
     }
 
-    /// Returns those that may be a head's: the first 8,192.
-    pub fn front(&self) -> &[u8]
+    /// Returns the bytes that may belong to a head: the first 8,192.
+    pub fn head_bytes(&self) -> &[u8]
         ensures { result.now ≡ take head_limit self.now }
     {
         let bytes = self.bytes();
@@ -83,7 +83,7 @@ impl Inbox {
         }
     }
 
-    // Whether there is one more than a head may have.
+    // Returns whether there are more bytes than a head may have.
     fn is_full(&self) -> bool
         ensures full { result ≡ true → head_limit < length self.now }
         ensures short { result ≡ false → length self.now ≤ head_limit }
@@ -91,18 +91,23 @@ impl Inbox {
         self.filled > HEAD_LIMIT
     }
 
-    // Reads what comes: whether there was anything.
-    fn fill<R: Read>(&mut self, reader: &mut Pipe<R>, budget: &mut Budget) -> Result<bool, Gone>
+    // Reads once, and returns whether any byte came.
+    fn fill<R: Read>(
+        &mut self,
+        reader: &mut Pipe<R>,
+        budget: &mut Budget,
+    ) -> Result<bool, InputFault>
         requires fresh { IsFresh reader.old }
         requires room { length self.old ≤ head_limit }
-        ensures taken { Grows (unread R.remaining reader.old) (unread R.remaining reader.new)
-            self.old self.new }
+        ensures taken { BufferGrowth
+            (unread_bytes R.remaining reader.old)
+            (unread_bytes R.remaining reader.new) self.old self.new }
         ensures more { IfOk result (λ more. more ≡ true →
             (length self.old < length self.new) × IsFresh reader.new) }
         ensures end { IfOk result (λ more. more ≡ false →
             (self.new ≡ self.old) × HasEnded R.remaining reader.new) }
         ensures err { OnErr result (HasStopped reader.new) }
-        ensures not_cut { ¬ IsErrOf result Gone.Cut }
+        ensures not_cut { ¬ IsErrOf result InputFault.Cut }
         ensures paid { PaysCalls reader.old reader.new budget.old budget.new }
     {
         match reader.read(budget, &mut self.buffer[self.filled..]) {
@@ -110,11 +115,11 @@ impl Inbox {
                 self.filled += count;
                 Ok(count > 0)
             }
-            Err(_) => Err(Gone::ReadFault),
+            Err(_) => Err(InputFault::ReadFault),
         }
     }
 
-    /// Reads until there is a head, or can't be one, or no more comes.
+    /// Reads until the bytes begin with a head, or can't, or the input ends.
     pub fn read_head<R: Read>(
         &mut self,
         reader: &mut Pipe<R>,
@@ -124,18 +129,20 @@ impl Inbox {
         requires fresh { IsFresh reader.old }
         requires empty { self.old ≡ [] }
         requires room { length headers.old ≡ 64 }
-        ensures taken { Consumes (unread R.remaining reader.old) (unread R.remaining reader.new)
-            self.new }
+        ensures taken { Consumes
+            (unread_bytes R.remaining reader.old)
+            (unread_bytes R.remaining reader.new) self.new }
         ensures whole { IfOk result (λ spans.
             IsHeadAt (take head_limit self.new) headers.new spans × IsFresh reader.new) }
         ensures bad { IsErrOf result HeadStop.Bad → IsBadHead self.new }
-        ensures cut { IsErrOf result (HeadStop.Gone Gone.Cut) →
+        ensures cut { IsErrOf result (HeadStop.InputFault InputFault.Cut) →
             IsCutHead self.new × HasEnded R.remaining reader.new }
-        ensures fault { IsErrOf result (HeadStop.Gone Gone.ReadFault) → HasStopped reader.new }
+        ensures fault { IsErrOf result (HeadStop.InputFault InputFault.ReadFault) →
+            HasStopped reader.new }
         ensures paid { PaysCalls reader.old reader.new budget.old budget.new }
     {
         loop {
-            match head_of(self.front(), headers) {
+            match head_of(self.head_bytes(), headers) {
                 Head::Whole(spans) => return Ok(spans),
                 Head::Bad => return Err(HeadStop::Bad),
                 Head::More => {
@@ -146,8 +153,8 @@ impl Inbox {
             }
             match self.fill(reader, budget) {
                 Ok(true) => {}
-                Ok(false) => return Err(HeadStop::Gone(Gone::Cut)),
-                Err(gone) => return Err(HeadStop::Gone(gone)),
+                Ok(false) => return Err(HeadStop::InputFault(InputFault::Cut)),
+                Err(gone) => return Err(HeadStop::InputFault(gone)),
             }
         }
     }

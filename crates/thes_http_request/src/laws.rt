@@ -1,7 +1,7 @@
-//! What holds of heads as they are defined, whoever reads them.
+//! Laws of the definition of a head, whichever program reads it.
 ghost use Rattle.thes_http_request.specs.Laws.{CutIsNotBad};
 
-/// States that no bytes are both cut within a head and a bad head.
+/// Proves that no bytes are both an incomplete head and a bad head.
 pub fn cut_is_not_bad()
     ensures { CutIsNotBad }
 {}

@@ -1,27 +1,27 @@
-//! Where a path leads.
+//! The resources that a path can name.
 ghost use Rattle.std.specs.Prelude.{◌≡◌, ◌<◌, ◌^◌, [], ◌∷◌, ℕ, Some, None, IfSome, MatchOption};
-ghost use Rattle.thes_http_request.specs.Places.{verb_of, verb_text, body_limit, found_at, numbered, display_named, place_named, place_within, place_below};
+ghost use Rattle.thes_http_request.specs.Places.{method_of, method_text, body_limit, place_of_path, numbered_place, display_named, place_named, place_within, place_below};
 
-/// A method that some path has.
+/// The methods: each path has one.
 #[derive(Clone, Copy, Debug, PartialEq, Eq)]
-pub enum Verb {
+pub enum Method {
     Get,
     Post,
 }
 
-impl Verb {
-    /// Returns the method's name.
+impl Method {
+    /// Returns the name of the method.
     pub fn as_str(self) -> &'static str
-        ensures { result.now ≡ verb_text self }
+        ensures { result.now ≡ method_text self }
     {
         match self {
-            Verb::Get => "GET",
-            Verb::Post => "POST",
+            Method::Get => "GET",
+            Method::Post => "POST",
         }
     }
 }
 
-/// A place: something that a path names.
+/// A place: what a path names.
 #[derive(Clone, Copy, Debug, PartialEq, Eq)]
 pub enum Place {
     Requests,
@@ -37,17 +37,17 @@ pub enum Place {
 }
 
 impl Place {
-    /// Returns the method that the place has.
-    pub fn verb(self) -> Verb
-        ensures { result ≡ verb_of self }
+    /// Returns the method of the place.
+    pub fn method(self) -> Method
+        ensures { result ≡ method_of self }
     {
         match self {
-            Place::Requests | Place::Import => Verb::Post,
-            _ => Verb::Get,
+            Place::Requests | Place::Import => Method::Post,
+            _ => Method::Get,
         }
     }
 
-    /// Returns the most bytes of a body, where one is read.
+    /// Returns the greatest length of a body in bytes, or `None` if no body is read.
     pub fn body_limit(self) -> Option<u32>
         ensures limit { result ≡ body_limit self }
         ensures short { IfSome result (λ most. most < 2 ^ 30) }
@@ -60,18 +60,18 @@ impl Place {
     }
 }
 
-/// A place, and the text that stands for a number in its path.
+/// A place, and the text in its path that should be a number.
 #[derive(Clone, Copy, Drop)]
-pub struct Found<'a> {
+pub struct PlaceMatch<'a> {
     pub place: Place,
     pub number: &'a str,
 }
 
-/// Finds the place of a path, if it has one.
-#[tactic(auto, unfolding(crate::specs::Places::found_at))]
-pub fn find_place(path: &str) -> Option<Found<'_>>
-    ensures { MatchOption result (found_at path.now ≡ None)
-        (λ f. found_at path.now ≡ Some (record { place = f.place; number = f.number.now })) }
+/// Returns the place that a path names, if there is one.
+#[tactic(auto, unfolding(crate::specs::Places::place_of_path))]
+pub fn find_place(path: &str) -> Option<PlaceMatch<'_>>
+    ensures { MatchOption result (place_of_path path.now ≡ None)
+        (λ f. place_of_path path.now ≡ Some (record { place = f.place; number = f.number.now })) }
 {
     let (front, rest) = path.split_once('/')?;
     if !front.is_empty() {
@@ -86,8 +86,8 @@ pub fn find_place(path: &str) -> Option<Found<'_>>
     }
 }
 
-// The place of a path of one part.
-fn place_named<'a>(name: &'a str) -> Option<Found<'a>>
+// Returns the place for a path with one part.
+fn place_named<'a>(name: &'a str) -> Option<PlaceMatch<'a>>
     ensures { MatchOption result (place_named name.now ≡ None)
         (λ f. place_named name.now ≡ Some (record { place = f.place; number = f.number.now })) }
 {
@@ -98,24 +98,25 @@ fn place_named<'a>(name: &'a str) -> Option<Found<'a>>
         "export" => Place::Export,
         _ => return None,
     };
-    Some(Found { place, number: "" })
+    Some(PlaceMatch { place, number: "" })
 }
 
-// The place of a path of two parts.
-fn place_within<'a>(first: &str, second: &'a str) -> Option<Found<'a>>
+// Returns the place for a path with two parts.
+fn place_within<'a>(first: &str, second: &'a str) -> Option<PlaceMatch<'a>>
     ensures { MatchOption result (place_within first.now second.now ≡ None)
-        (λ f. place_within first.now second.now ≡ Some (record { place = f.place; number = f.number.now })) }
+        (λ f. place_within first.now second.now
+        ≡ Some (record { place = f.place; number = f.number.now })) }
 {
     match first {
-        "concepts" => numbered(Place::Concept, second),
-        "postings" => numbered(Place::Posting, second),
+        "concepts" => numbered_place(Place::Concept, second),
+        "postings" => numbered_place(Place::Posting, second),
         "display" => display_named(second),
         _ => None,
     }
 }
 
-// The display of this name.
-fn display_named<'a>(name: &'a str) -> Option<Found<'a>>
+// Returns the place of the display with this name.
+fn display_named<'a>(name: &'a str) -> Option<PlaceMatch<'a>>
     ensures { MatchOption result (display_named name.now ≡ None)
         (λ f. display_named name.now ≡ Some (record { place = f.place; number = f.number.now })) }
 {
@@ -124,31 +125,32 @@ fn display_named<'a>(name: &'a str) -> Option<Found<'a>>
         "hierarchical" => Place::Hierarchical,
         _ => return None,
     };
-    Some(Found { place, number: "" })
+    Some(PlaceMatch { place, number: "" })
 }
 
-// The place of a path of three parts.
-fn place_below<'a>(first: &str, second: &'a str, third: &str) -> Option<Found<'a>>
+// Returns the place for a path with three parts.
+fn place_below<'a>(first: &str, second: &'a str, third: &str) -> Option<PlaceMatch<'a>>
     ensures { MatchOption result (place_below first.now second.now third.now ≡ None)
         (λ f. place_below first.now second.now third.now
         ≡ Some (record { place = f.place; number = f.number.now })) }
 {
     if first == "concepts" && third == "postings" {
-        numbered(Place::Postings, second)
+        numbered_place(Place::Postings, second)
     } else {
         None
     }
 }
 
-// A place with the text of its number, unless that is empty.
-fn numbered<'a>(place: Place, text: &'a str) -> Option<Found<'a>>
-    ensures { MatchOption result (numbered place text.now ≡ None)
-        (λ f. numbered place text.now ≡ Some (record { place = f.place; number = f.number.now })) }
+// Returns the place with the text of its number, unless that is empty.
+fn numbered_place<'a>(place: Place, text: &'a str) -> Option<PlaceMatch<'a>>
+    ensures { MatchOption result (numbered_place place text.now ≡ None)
+        (λ f. numbered_place place text.now
+        ≡ Some (record { place = f.place; number = f.number.now })) }
 {
     if text.is_empty() {
         None
     } else {
-        Some(Found {
+        Some(PlaceMatch {
             place,
             number: text,
         })

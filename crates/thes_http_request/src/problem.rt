@@ -1,21 +1,21 @@
-//! What can be wrong with a request, apart from a form.
-use crate::place::Verb;
+//! Problems with an HTTP request, before its body is read as a request.
+use crate::place::Method;
 
-/// A reason why a request isn't looked at further.
+/// Why a request is rejected.
 #[derive(Clone, Copy, Debug, PartialEq, Eq)]
 pub enum Problem {
-    /// There is no head within its bounds, or its body's length is no number.
+    /// There is no head within the limits, or the length of the body isn't a number.
     BadHead,
-    /// A transfer coding is asked for; none is known.
+    /// There is a transfer coding; none is supported.
     TransferCoding,
-    /// No place has the path.
+    /// The path names no place.
     NoSuchPath,
-    /// The path has this method, and another was asked for.
-    BadMethod(Verb),
-    /// The body's length isn't told.
+    /// The path has this method, not the one in the request.
+    BadMethod(Method),
+    /// The length of the body is missing.
     NoLength,
     /// The body is longer than the path allows.
     TooLong,
-    /// The query isn't a scheme and a language, once each.
+    /// The query isn't exactly a scheme and a language.
     BadQuery,
 }

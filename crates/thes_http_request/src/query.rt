@@ -1,23 +1,23 @@
-//! The query of a display.
+//! The query string of a display.
 ghost use Rattle.std.specs.Prelude.{◌≡◌, ◌∷◌, [], ℕ, List, Some, None, IfOk, MatchOption, codes, map};
 ghost use Rattle.std.specs.Cow.{cow_str_bytes};
-ghost use Rattle.thes_http_request.specs.Queries.{asked_of, asked_by};
+ghost use Rattle.thes_http_request.specs.Queries.{display_query_of, display_query_in_pairs};
 
 use form_urlencoded::parse;
 use std::alloc::{AllocError, Global};
 use std::borrow::CowStr;
 
-/// The two values of a display's query: the texts of a scheme's number and of a tag.
+/// The values of a display's query string: the texts of a scheme's number and of a language tag.
 #[derive(Drop)]
-pub struct Asked<'a> {
+pub struct DisplayQuery<'a> {
     pub scheme: CowStr<'a>,
     pub lang: CowStr<'a>,
 }
 
-/// Reads the two values of a query, in any order, if there is nothing else.
-pub fn read_query(alloc: Global, query: &str) -> Result<Option<Asked<'_>>, AllocError>
-    ensures { IfOk result (λ asked. MatchOption asked (asked_of query.now ≡ None)
-        (λ a. asked_of query.now
+/// Parses the query string of a display: `scheme` and `lang`, once each, in any order.
+pub fn read_query(alloc: Global, query: &str) -> Result<Option<DisplayQuery<'_>>, AllocError>
+    ensures { IfOk result (λ asked. MatchOption asked (display_query_of query.now ≡ None)
+        (λ a. display_query_of query.now
         ≡ Some (record { scheme = cow_str_bytes a.scheme; lang = cow_str_bytes a.lang }))) }
 {
     let mut pairs = parse(alloc, query.as_bytes());
@@ -30,27 +30,27 @@ pub fn read_query(alloc: Global, query: &str) -> Result<Option<Asked<'_>>, Alloc
     let None = pairs.next() else {
         return Ok(None);
     };
-    Ok(asked_in(first?, second?))
+    Ok(display_query_in(first?, second?))
 }
 
-// The two values of two pairs, if their names are right.
-fn asked_in<'a>(
+// Returns the two values, if the names are `scheme` and `lang`.
+fn display_query_in<'a>(
     first: (CowStr<'a>, CowStr<'a>),
     second: (CowStr<'a>, CowStr<'a>),
-) -> Option<Asked<'a>>
+) -> Option<DisplayQuery<'a>>
     ensures { let pairs = (cow_str_bytes first.entry.0, cow_str_bytes first.entry.1)
         ∷ (cow_str_bytes second.entry.0, cow_str_bytes second.entry.1) ∷ [] in
-        MatchOption result (asked_by pairs ≡ None) (λ a. asked_by pairs
+        MatchOption result (display_query_in_pairs pairs ≡ None) (λ a. display_query_in_pairs pairs
         ≡ Some (record { scheme = cow_str_bytes a.scheme; lang = cow_str_bytes a.lang })) }
 {
     if first.0.as_str() == "scheme" && second.0.as_str() == "lang" {
-        return Some(Asked {
+        return Some(DisplayQuery {
             scheme: first.1,
             lang: second.1,
         });
     }
     if first.0.as_str() == "lang" && second.0.as_str() == "scheme" {
-        return Some(Asked {
+        return Some(DisplayQuery {
             scheme: second.1,
             lang: first.1,
         });

@@ -1,1 +1,6 @@
 pub mod RecordLemmas
+pub mod ReportLemmas
+pub mod ImportLemmas
+pub mod LaterPostingLemmas
+pub mod RepeatedImportLemmas
+pub mod WholeInputLemmas

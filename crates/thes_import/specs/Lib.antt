@@ -1,1 +1,6 @@
 pub mod PostingFile
+pub mod Outcomes
+pub mod Imports
+pub mod RepeatedImport
+pub mod WholeInput
+pub mod ImportEngine

@@ -1,6 +1,13 @@
-//! Posting files: what their bytes say.
+//! Posting files: reads their rows, and imports them into an office.
 #![tactic(auto)]
 
+pub mod csv_row;
+pub mod import;
+pub mod laws;
+mod outcome;
+mod perform;
+pub mod postings;
 pub mod reading;
 mod records;
-pub mod row;
+pub mod report;
+mod whole_input;

@@ -1,23 +1,23 @@
-//! What a posting file says, row by row.
+//! Reads a posting file as rows.
 ghost use Rattle.std.specs.Prelude.{◌≡◌, ◌↔◌, ◌<◌, [], ◌∷◌, IsTrue, IfErr, IfOk, MatchBool, drop, length, map};
 ghost use Rattle.std.specs.List.{AllZip};
 ghost use Rattle.csv.specs.Records.{fields_of};
-ghost use Rattle.thes_import.specs.PostingFile.{BeginsWithHeader, IsNoFile, IsPostingFile, IsRow, header};
+ghost use Rattle.thes_import.specs.PostingFile.{BeginsWithHeader, IsNoFile, IsPostingFile, IsCsvRow, header};
 
+use crate::csv_row::{CsvRow, field, read_row};
 use crate::records::records_of;
-use crate::row::{Row, field, read_row};
 use csv::ByteRecord;
 use std::alloc::{AllocError, Global};
 use thes_base::fault::{FormFault, ReadStop};
 
-// Whether a field says this.
+// Returns whether the field is this text.
 fn is_text(field: &[u8], text: &[u8]) -> bool
     ensures { IsTrue result ↔ (field.now ≡ text.now) }
 {
     field == text
 }
 
-// Whether a record has just these three fields.
+// Returns whether the record has exactly these three fields.
 fn has_fields(entry: &ByteRecord, first: &[u8], second: &[u8], third: &[u8]) -> bool
     ensures { IsTrue result ↔ (fields_of entry.now ≡ first.now ∷ second.now ∷ third.now ∷ []) }
 {
@@ -33,7 +33,7 @@ fn has_fields(entry: &ByteRecord, first: &[u8], second: &[u8], third: &[u8]) -> 
     is_text(field(entry, 2), third)
 }
 
-// Whether a record is the header.
+// Returns whether the record is the header.
 #[tactic(auto, unfolding(crate::specs::PostingFile::header))]
 fn is_header(entry: &ByteRecord) -> bool
     ensures { IsTrue result ↔ (fields_of entry.now ≡ header) }
@@ -46,8 +46,8 @@ fn is_header(entry: &ByteRecord) -> bool
     )
 }
 
-// Whether the first record is the header.
-fn begins(records: &[ByteRecord]) -> bool
+// Returns whether the first record is the header.
+fn begins_with_header(records: &[ByteRecord]) -> bool
     ensures { MatchBool result (BeginsWithHeader (map fields_of records.now))
         (¬ BeginsWithHeader (map fields_of records.now)) }
 {
@@ -57,9 +57,9 @@ fn begins(records: &[ByteRecord]) -> bool
     is_header(&records[0])
 }
 
-// What each further record says.
-fn read_rows(alloc: Global, records: &[ByteRecord]) -> Result<Vec<Row>, AllocError>
-    ensures { IfOk result (λ rows. AllZip IsRow (map fields_of records.now) rows.items) }
+// Reads each record as a row.
+fn read_rows(alloc: Global, records: &[ByteRecord]) -> Result<Vec<CsvRow>, AllocError>
+    ensures { IfOk result (λ rows. AllZip IsCsvRow (map fields_of records.now) rows.items) }
 {
     let mut rows = Vec::new(alloc);
     for record in records {
@@ -69,16 +69,16 @@ fn read_rows(alloc: Global, records: &[ByteRecord]) -> Result<Vec<Row>, AllocErr
     Ok(rows)
 }
 
-// All records but the first.
-fn further(records: &[ByteRecord]) -> &[ByteRecord]
+// Returns the records after the first.
+fn after_header(records: &[ByteRecord]) -> &[ByteRecord]
     requires { 0 < length records.now }
     ensures { result.now ≡ drop 1 records.now }
 {
     &records[1..]
 }
 
-/// Reads the rows of a posting file, or tells that it has no header.
-pub fn read_postings(alloc: Global, bytes: &[u8]) -> Result<Vec<Row>, ReadStop>
+/// Reads the rows of a posting file, or returns the fault of one without a header.
+pub fn read_postings(alloc: Global, bytes: &[u8]) -> Result<Vec<CsvRow>, ReadStop>
     ensures rows { IfOk result (λ rows. IsPostingFile bytes.now rows.items) }
     ensures fault { IfErr result (IsNoFile bytes.now) }
 {
@@ -87,9 +87,9 @@ pub fn read_postings(alloc: Global, bytes: &[u8]) -> Result<Vec<Row>, ReadStop>
         Err(_) => return Err(ReadStop::OutOfMemory),
     };
     let all = records.as_slice();
-    if !begins(all) {
+    if !begins_with_header(all) {
         return Err(ReadStop::Form(FormFault::BadShape));
     }
-    let rows = read_rows(alloc, further(all))?;
+    let rows = read_rows(alloc, after_header(all))?;
     Ok(rows)
 }

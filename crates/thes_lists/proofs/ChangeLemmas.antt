@@ -1,5 +1,6 @@
--- One list is written.
-use Rattle.std.proofs.Common.{ltb, ◌≡◌, ◌≢◌, ◌<◌, ◌≤◌, length, set, get_or, inl, inr, ℕ, true, [], Vec, Global, sym, ap, subst, ◌∙◌, arith}
+-- The effects of writing one of the lists.
+use Rattle.std.proofs.Common.{ltb, ◌≡◌, ◌≢◌, ◌<◌, ◌≤◌, length, set, get_or, inl, inr, ℕ, true, [], Vec, Global, sym}
+use Rattle.std.proofs.Common.{ap, subst, ◌∙◌, arith}
 use Rattle.std.specs.Prelude.{Some, vec_len, slice_get}
 use Rattle.std.specs.Option.{IsSomeAnd, option_map_or}
 use Rattle.std.specs.Vec.{vec_capacity, with_item}
@@ -8,14 +9,14 @@ use Rattle.std.proofs.lemmas.Grind.{get_or-set_at}
 use Rattle.std.proofs.lemmas.List.{get_or-set_other, length-set}
 use Rattle.std.proofs.lemmas.Option.{slice_get_past, slice_get-get_or}
 use Rattle.thes_lists.specs.declared.lists.Lists.{Lists}
-use Rattle.thes_lists.specs.Lists.{listed_at, HasSpare, AreSame, KeepsRooms, ChangesAt}
+use Rattle.thes_lists.specs.Lists.{listed_at, HasSpare, HaveSameValues, KeepsSpare, ChangesOnlyAt}
 
 abbrev IsRoomy : {A : Type 0} → Vec A Global → Type 0
 IsRoomy v = vec_len v < vec_capacity v
 
 module _ {A : Type 0} (old new : Lists A) (n : ℕ) (v : Vec A Global) (written : slice_get new.lists.items n ≡ Some v)
     (elsewhere : (m : ℕ) → m ≢ n → slice_get new.lists.items m ≡ slice_get old.lists.items m) where
-  changes_written : ChangesAt old new n v.items
+  changes_written : ChangesOnlyAt old new n v.items
   changes_written = record {
     here = ap (λ o. option_map_or (λ (w : Vec A Global). w.items) o []) written;
     others = λ m apart. ap (λ o. option_map_or (λ (w : Vec A Global). w.items) o []) (elsewhere m apart);
@@ -24,33 +25,35 @@ module _ {A : Type 0} (old new : Lists A) (n : ℕ) (v : Vec A Global) (written 
   rooms_elsewhere : (m : ℕ) → m ≢ n → HasSpare old m → HasSpare new m
   rooms_elsewhere m apart room = subst (λ o. IsSomeAnd o IsRoomy) (sym (elsewhere m apart)) room
 
-  -- the list as it was
-  same_written : v.items ≡ listed_at old n → AreSame old new
+  -- The written list has the same values.
+  same_written : v.items ≡ listed_at old n → HaveSameValues old new
   same_written same m = elim (cases_eq m n) [
     | inl here ↦ ap (listed_at new) here ∙ changes_written.here ∙ same ∙ ap (listed_at old) (sym here)
     | inr apart ↦ changes_written.others m apart
   ]
 
-  -- with as much room
-  rooms_written : (HasSpare old n → IsRoomy v) → KeepsRooms old new
+  -- The written list has at least as much room.
+  rooms_written : (HasSpare old n → IsRoomy v) → KeepsSpare old new
   rooms_written keeps m room = elim (cases_eq m n) [
-    | inl here ↦ subst (HasSpare new) (sym here) (subst (λ o. IsSomeAnd o IsRoomy) (sym written) (keeps (subst (HasSpare old) here room)))
+    | inl here ↦ subst (HasSpare new) (sym here)
+        (subst (λ o. IsSomeAnd o IsRoomy) (sym written) (keeps (subst (HasSpare old) here room)))
     | inr apart ↦ rooms_elsewhere m apart room
   ]
 
-  -- a list with more room
+  -- The written list has more room.
   module _ (before : Vec A Global) (was : Some before ≡ slice_get old.lists.items n) where
-    same_grown : v.items ≡ before.items → AreSame old new
+    same_grown : v.items ≡ before.items → HaveSameValues old new
     same_grown same = same_written (same ∙ ap (λ o. option_map_or (λ (w : Vec A Global). w.items) o []) was)
 
-    rooms_grown : vec_len v ≡ vec_len before → vec_capacity before ≤ vec_capacity v → KeepsRooms old new
+    rooms_grown : vec_len v ≡ vec_len before → vec_capacity before ≤ vec_capacity v → KeepsSpare old new
     rooms_grown len capacity = rooms_written (λ room. more (subst (λ o. IsSomeAnd o IsRoomy) (sym was) room))
       where
         more : IsRoomy before → IsRoomy v
         more room = omega arith
 
--- the list of a number that has one is written
-module _ {A : Type 0} (lists : Lists A) (n i : ℕ) (at : i ≡ n) (found : ltb i (length lists.lists.items) ≡ true) (v : Vec A Global) where
+-- The list of a number that has one is written.
+module _ {A : Type 0} (lists : Lists A) (n i : ℕ) (at : i ≡ n) (found : ltb i (length lists.lists.items) ≡ true)
+    (v : Vec A Global) where
   inside : i < length lists.lists.items
   inside = ltb-true i (length lists.lists.items) found
 
@@ -73,22 +76,23 @@ module _ {A : Type 0} (lists : Lists A) (n i : ℕ) (at : i ≡ n) (found : ltb 
         ∙ sym (slice_get_past lists.lists.items m past)
   ]
 
-  pub changes_at : ChangesAt lists wrote n v.items
+  pub changes_at : ChangesOnlyAt lists wrote n v.items
   changes_at = changes_written lists wrote n v wrote_here wrote_elsewhere
 
   pub rooms_stay : (m : ℕ) → m ≢ n → HasSpare lists m → HasSpare wrote m
   rooms_stay = rooms_elsewhere lists wrote n v wrote_here wrote_elsewhere
 
-  -- in place of this list
+  -- It replaces this list.
   module _ (before : Vec A Global) (is : before ≡ get_or lists.lists.items i before) where
     was_there : Some before ≡ slice_get lists.lists.items n
-    was_there = ap Some is ∙ sym (slice_get-get_or lists.lists.items i before inside) ∙ ap (slice_get lists.lists.items) at
+    was_there = ap Some is ∙ sym (slice_get-get_or lists.lists.items i before inside)
+        ∙ ap (slice_get lists.lists.items) at
 
     pub was_listed : listed_at lists n ≡ before.items
     was_listed = ap (λ o. option_map_or (λ (w : Vec A Global). w.items) o []) (sym was_there)
 
-    pub same_reserved : v.items ≡ before.items → AreSame lists wrote
+    pub same_reserved : v.items ≡ before.items → HaveSameValues lists wrote
     same_reserved = same_grown lists wrote n v wrote_here wrote_elsewhere before was_there
 
-    pub rooms_reserved : vec_len v ≡ vec_len before → vec_capacity before ≤ vec_capacity v → KeepsRooms lists wrote
+    pub rooms_reserved : vec_len v ≡ vec_len before → vec_capacity before ≤ vec_capacity v → KeepsSpare lists wrote
     rooms_reserved = rooms_grown lists wrote n v wrote_here wrote_elsewhere before was_there

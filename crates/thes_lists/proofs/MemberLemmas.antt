@@ -1,9 +1,9 @@
--- What a list has, by recursion: the same as `Contains`, and easier to take apart.
+-- Membership in a list by recursion is equivalent to `Contains`.
 use Rattle.std.proofs.Common.{◌≡◌, ◌⊎◌, inl, inr, zero, suc, List, [], ◌∷◌, Contains, refl, subst, arith}
 use Rattle.std.specs.List.{AllByRecursion}
 
 module _ {A : Type 0} where
-  -- what a list has, by recursion
+  -- The list has the value.
   abbrev pub Has : List A → A → Type 0
   Has [] x = ⊥
   Has (k ∷ ks) x = (k ≡ x) ⊎ Has ks x
@@ -16,7 +16,8 @@ module _ {A : Type 0} where
   pub Contains-from : (ks : List A) (x : A) → Has ks x → Contains ks x
   Contains-from [] x has = absurd has
   Contains-from (k ∷ ks) x (inl same) = (0, omega arith, same)
-  Contains-from (k ∷ ks) x (inr later) = let c = Contains-from ks x later in (suc c.0, (let l = c.1 in omega arith), c.2)
+  Contains-from (k ∷ ks) x (inr later) = let c = Contains-from ks x later in
+      (suc c.0, (let l = c.1 in omega arith), c.2)
 
   pub all_from_has : (P : A → Type 0) (ks : List A) → ((x : A) → Has ks x → P x) → AllByRecursion P ks
   all_from_has P [] each = tt

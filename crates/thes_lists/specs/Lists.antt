@@ -1,5 +1,6 @@
--- What is listed under each number, and which lists have room.
-use Rattle.std.specs.Prelude.{◌≡◌, ◌≢◌, ◌<◌, ℕ, List, [], IsSome, vec_len, slice_get}
+-- The values listed under each number, and the room in the lists.
+use Rattle.std.specs.Prelude.{◌≡◌, ◌≢◌, ◌<◌, List, [], IsSome, vec_len, slice_get}
+use Rattle.thes_base.specs.Types.{Number}
 use Rattle.std.specs.Option.{IsSomeAnd, option_map_or}
 use Rattle.std.specs.Vec.{vec_capacity}
 use Rattle.std.specs.List.Sorted.{IsStrictlySortedBy}
@@ -8,33 +9,36 @@ use Rattle.thes_base.specs.Listing.{IsListing}
 use Rattle.thes_lists.specs.declared.lists.Lists.{Lists}
 
 module _ {A : Type 0} where
-  -- the values of the number
-  abbrev pub listed_at : Lists A → ℕ → List A
+  -- The values of the number.
+  abbrev pub listed_at : Lists A → Number → List A
   listed_at lists n = option_map_or (λ v. v.items) (slice_get lists.lists.items n) []
 
-  -- the number has a list, if only an empty one
-  abbrev pub HasList : Lists A → ℕ → Type 0
+  -- The number has a list, perhaps an empty one.
+  abbrev pub HasList : Lists A → Number → Type 0
   HasList lists n = IsSome (slice_get lists.lists.items n)
 
-  -- and in its list is room for one value more
-  abbrev pub HasSpare : Lists A → ℕ → Type 0
+  -- The number has a list with room for one more value.
+  abbrev pub HasSpare : Lists A → Number → Type 0
   HasSpare lists n = IsSomeAnd (slice_get lists.lists.items n) (λ v. vec_len v < vec_capacity v)
 
-  abbrev pub AreSame : Lists A → Lists A → Type 0
-  AreSame old new = (n : ℕ) → listed_at new n ≡ listed_at old n
+  -- Each number has the same values.
+  abbrev pub HaveSameValues : Lists A → Lists A → Type 0
+  HaveSameValues old new = (n : Number) → listed_at new n ≡ listed_at old n
 
-  abbrev pub KeepsRooms : Lists A → Lists A → Type 0
-  KeepsRooms old new = (n : ℕ) → HasSpare old n → HasSpare new n
+  -- Each list with room for one more value still has it.
+  abbrev pub KeepsSpare : Lists A → Lists A → Type 0
+  KeepsSpare old new = (n : Number) → HasSpare old n → HasSpare new n
 
-  -- the values of this number alone have changed, to these
-  pub record ChangesAt (old new : Lists A) (n : ℕ) (values : List A) : Type 0 where
+  -- Only the values of number n have changed, to `values`.
+  pub record ChangesOnlyAt (old new : Lists A) (n : Number) (values : List A) : Type 0 where
     pub here : listed_at new n ≡ values
-    pub others : (m : ℕ) → m ≢ n → listed_at new m ≡ listed_at old m
+    pub others : (m : Number) → m ≢ n → listed_at new m ≡ listed_at old m
 
   module _ (cmp : A → A → Ordering) where
-    abbrev pub AllRise : Lists A → Type 0
-    AllRise lists = (n : ℕ) → IsStrictlySortedBy cmp (listed_at lists n)
+    -- The values of each number rise.
+    abbrev pub AreAllRising : Lists A → Type 0
+    AreAllRising lists = (n : Number) → IsStrictlySortedBy cmp (listed_at lists n)
 
-    -- under each number stands, in order, just what has its property
-    abbrev pub AreListings : (ℕ → A → Type 0) → Lists A → Type 0
-    AreListings P lists = (n : ℕ) → IsListing cmp (P n) (listed_at lists n)
+    -- The values of each number are exactly those with the number's property, in order.
+    abbrev pub AreListings : (Number → A → Type 0) → Lists A → Type 0
+    AreListings P lists = (n : Number) → IsListing cmp (P n) (listed_at lists n)

@@ -1,4 +1,4 @@
-//! For each number a rising list, and room for what is added to it.
+//! Sorted lists, one for each number.
 #![tactic(auto)]
 
 mod lists;

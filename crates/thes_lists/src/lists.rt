@@ -1,17 +1,18 @@
-//! For each number a rising list.
+//! Sorted lists, one for each number.
 ghost use Rattle.std.specs.Prelude.{◌≡◌, ◌≢◌, ◌<◌, ℕ, [], true, IfOk, OnOk};
 ghost use Rattle.std.specs.List.Sorted.{IsStrictlySortedBy};
 ghost use Rattle.std.specs.BTreeMap.{is_at};
 ghost use Rattle.std.specs.BTreeSet.{insert_key};
 ghost use Rattle.std.specs.Set.{remove_key};
 ghost use Rattle.std.specs.Vec.{vec_len, vec_capacity};
-ghost use Rattle.thes_lists.specs.Lists.{listed_at, HasList, HasSpare, AreSame, KeepsRooms, ChangesAt};
+ghost use Rattle.thes_lists.specs.Lists.{listed_at, HasList, HasSpare, HaveSameValues, KeepsSpare, ChangesOnlyAt};
 
 use std::alloc::{AllocError, Global};
 use thes_base::number::ResNo;
 
-/// For each number a list of values that rise. Room for a value is made first, so that a change can't fail. The lists stand by their
-/// numbers, so they take memory for the greatest number that has one: resources are numbered without gaps.
+/// A sorted list of values for each number. Room for a value is reserved first, so that an
+/// insertion can't fail. The lists are indexed by number, so that memory grows with the greatest
+/// number that has a list; resources are numbered without gaps.
 #[derive(Drop)]
 pub struct Lists<T> {
     alloc: Global,
@@ -19,7 +20,7 @@ pub struct Lists<T> {
 }
 
 impl<T: Ord + Drop> Lists<T> {
-    /// Lists without values.
+    /// Creates empty lists.
     pub fn new(alloc: Global) -> Lists<T>
         ensures { (n : ℕ) → listed_at result n ≡ [] }
     {
@@ -39,10 +40,10 @@ impl<T: Ord + Drop> Lists<T> {
         }
     }
 
-    // Makes an empty list for a number that has none.
-    fn open(&mut self, n: ResNo) -> Result<(), AllocError>
-        ensures same { AreSame self.old self.new }
-        ensures rooms { KeepsRooms self.old self.new }
+    // Creates an empty list for a number that has none.
+    fn create_list(&mut self, n: ResNo) -> Result<(), AllocError>
+        ensures same { HaveSameValues self.old self.new }
+        ensures rooms { KeepsSpare self.old self.new }
         ensures list { OnOk result (HasList self.new n) }
     {
         'opening: while self.lists.len() <= n.get() as usize {
@@ -51,26 +52,26 @@ impl<T: Ord + Drop> Lists<T> {
         Ok(())
     }
 
-    /// Makes room for one value more.
+    /// Reserves room for one more value.
     pub fn make_room(&mut self, n: ResNo) -> Result<(), AllocError>
-        ensures same { AreSame self.old self.new }
-        ensures rooms { KeepsRooms self.old self.new }
+        ensures same { HaveSameValues self.old self.new }
+        ensures rooms { KeepsSpare self.old self.new }
         ensures room { OnOk result (HasSpare self.new n) }
     {
         if self.reserve_in(n)? {
             return Ok(());
         }
-        self.open(n)?;
+        self.create_list(n)?;
         self.reserve_in(n)?;
         Ok(())
     }
 
-    // Makes room for one value more in the list of a number, and says whether it has one.
+    // Reserves room for one more value in the list of a number, and returns whether it has a list.
     fn reserve_in(&mut self, n: ResNo) -> Result<bool, AllocError>
-        ensures same { AreSame self.old self.new }
-        ensures rooms { KeepsRooms self.old self.new }
+        ensures same { HaveSameValues self.old self.new }
+        ensures rooms { KeepsSpare self.old self.new }
         ensures room { IfOk result (λ has. has ≡ true → HasSpare self.new n) }
-        ensures open { OnOk result (HasList self.old n → HasSpare self.new n) }
+        ensures spare_if_listed { OnOk result (HasList self.old n → HasSpare self.new n) }
     {
         match self.lists.get_mut(n.get() as usize) {
             Some(list) => {
@@ -81,11 +82,11 @@ impl<T: Ord + Drop> Lists<T> {
         }
     }
 
-    /// Inserts a value at its place in the order, unless an equal one is there.
+    /// Inserts a value in order, unless an equal one is there.
     pub fn insert(&mut self, n: ResNo, x: T)
         requires room { HasSpare self.old n }
         requires rises { IsStrictlySortedBy T.cmp (listed_at self.old n) }
-        ensures list { ChangesAt self.old self.new n (insert_key T.cmp (listed_at self.old n) x) }
+        ensures list { ChangesOnlyAt self.old self.new n (insert_key T.cmp (listed_at self.old n) x) }
         ensures rooms { (m : ℕ) → m ≢ n → HasSpare self.old m → HasSpare self.new m }
     {
         match self.lists.get_mut(n.get() as usize) {
@@ -94,10 +95,11 @@ impl<T: Ord + Drop> Lists<T> {
         }
     }
 
-    /// Removes a value, if it is there.
+    /// Removes the value that is equal to `x`, if there is one.
     pub fn remove(&mut self, n: ResNo, x: &T)
         requires { IsStrictlySortedBy T.cmp (listed_at self.old n) }
-        ensures { ChangesAt self.old self.new n (remove_key (is_at (T.cmp x.now)) (listed_at self.old n)) }
+        ensures { ChangesOnlyAt self.old self.new n
+            (remove_key (is_at (T.cmp x.now)) (listed_at self.old n)) }
     {
         match self.lists.get_mut(n.get() as usize) {
             Some(list) => remove_from(list, x),
@@ -106,7 +108,7 @@ impl<T: Ord + Drop> Lists<T> {
     }
 }
 
-// Inserts a value at its place in a list with room for it, unless an equal one is there.
+// Inserts a value in order into a list with room for it, unless an equal one is there.
 fn insert_in<T: Ord + Drop>(list: &mut Vec<T>, x: T)
     requires room { vec_len list.old < vec_capacity list.old }
     requires rises { IsStrictlySortedBy T.cmp list.old.items }
@@ -120,7 +122,7 @@ fn insert_in<T: Ord + Drop>(list: &mut Vec<T>, x: T)
     }
 }
 
-// Removes a value from a list, if it is there.
+// Removes the value that is equal to `x`, if there is one.
 fn remove_from<T: Ord + Drop>(list: &mut Vec<T>, x: &T)
     requires { IsStrictlySortedBy T.cmp list.old.items }
     ensures { list.new.items ≡ remove_key (is_at (T.cmp x.now)) list.old.items }

@@ -1,4 +1,4 @@
--- One more row of cells, and a fault that stays.
+-- Proves that rules met stay met as rows come, and what a kept or a faulty row means at each stage.
 use Rattle.std.proofs.Common.{◌≡◌, List, [], ◌∷◌, ◌++◌, map, sym, ap, ◌∙◌, subst, inl, inr, true}
 use Rattle.std.specs.Prelude.{Some, option_map}
 use Rattle.std.proofs.lemmas.Option.{same_Some}
@@ -6,108 +6,234 @@ use Rattle.thes_base.specs.declared.fault.Fault.TheVariants.{BadStore}
 use Rattle.thes_base.specs.declared.fault.Table.TheVariants as table
 use Rattle.thes_tables.specs.declared.cells.Cell.{Cell}
 use Rattle.thes_tables.specs.Tables.{Tables}
-use Rattle.thes_tables.specs.Cells.{Raw, RawTable, resource_rows, outside_cells, label_cells, link_cells, hier_cells, posting_cells, move_cells}
+use Rattle.thes_tables.specs.Cells.{Raw, RawTable, resource_rows, outside_cells, label_cells, link_cells, hier_cells}
+use Rattle.thes_tables.specs.Cells.{posting_cells, move_cells}
 use Rattle.thes_vocab.specs.Vocabulary.{Vocabulary}
 use Rattle.thes_load_rules.specs.Rules.{ResourceRule, OutsideRule, LabelRule, LinkRule, HierRule, PostingRule, MoveRule}
-use Rattle.thes_load_rules.specs.Loads.{IsTable, IsMeta}
-use Rattle.thes_load_rules.specs.Laws.{HasNone, MetaPasses, ResourcePasses, OutsidePasses, LabelPasses, LinkPasses, HierPasses, PostingPasses}
-use Rattle.thes_load_rules.proofs.Judging.{judged}
+use Rattle.thes_load_rules.specs.Verdicts.{IsTable, IsMeta}
+use Rattle.thes_load_rules.specs.Laws.{HasNoRows, MetaPasses, ResourcePasses, OutsidePasses, LabelPasses, LinkPasses}
+use Rattle.thes_load_rules.specs.Laws.{HierPasses, PostingPasses}
+use Rattle.thes_load_rules.proofs.VerdictByTableLemmas.{verdict_by_table}
 use Rattle.thes_load_rows.specs.declared.stage.Stage.TheVariants as stage
-use Rattle.thes_load_rows.specs.Reading.{IsFaulty, Reads}
-use Rattle.thes_load_rows.specs.Progress.{Grows, pushed, HasRead, HasNames, NoneAfterOutside, NoneAfterLabel, NoneAfterLink, NoneAfterHier, NoneAfterPosting}
+use Rattle.thes_load_rows.specs.ReadResults.{IsFaulty, ReadResult}
+use Rattle.thes_load_rows.specs.Progress.{Grows, raw_with_row, HasRead, HasNames, NoneAfterOutside, NoneAfterLabel}
+use Rattle.thes_load_rows.specs.Progress.{NoneAfterLink, NoneAfterHier, NoneAfterPosting}
 use Rattle.thes_load_rows.specs.declared.names.OutsideLoad.{OutsideLoad}
-use Rattle.thes_load_rows.specs.declared.linked.LinkedVocab.{LinkedVocab}
+use Rattle.thes_load_rows.specs.declared.linked_vocab.LinkedVocab.{LinkedVocab}
 use Rattle.thes_load_rows.specs.declared.postings.PostingLoad.{PostingLoad}
-use Rattle.thes_load_rows.specs.Naming.{HasOutside, HasLabels}
-use Rattle.thes_load_rows.specs.Linking.{HasLinks}
-use Rattle.thes_load_rows.specs.Taken.{HasPostings}
+use Rattle.thes_load_rows.specs.NamesSoFar.{HasOutside, HasLabels}
+use Rattle.thes_load_rows.specs.LinksSoFar.{HasLinks}
+use Rattle.thes_load_rows.specs.RowsSoFar.{HasPostings}
 
--- what begins faultily is faulty, whatever comes after it
-pub faulty_none : {A : Type 0} (cells_of : List A → List (List Cell)) (Rule : List A → Type 0) (begun : List (List Cell)) → IsFaulty cells_of Rule begun → (queried : RawTable) → Grows (Some begun) queried → HasNone cells_of Rule queried
+-- Rows that begin with a faulty row are faulty, whatever comes after it.
+pub faulty_none : {A : Type 0} (cells_of : List A → List (List Cell)) (Rule : List A → Type 0)
+    (begun : List (List Cell)) → IsFaulty cells_of Rule begun → (queried : RawTable) → Grows (Some begun) queried
+    → HasNoRows cells_of Rule queried
 faulty_none cells_of Rule begun faulty queried (inl none) rows (is, rule) = let e = sym none ∙ is in absurd (cc)
-faulty_none cells_of Rule begun faulty queried (inr (more, e)) rows (is, rule) = faulty more rows (same_Some _ _ (sym is ∙ e)) rule
+faulty_none cells_of Rule begun faulty queried (inr (more, e)) rows (is, rule) =
+    faulty more rows (same_Some _ _ (sym is ∙ e)) rule
 
--- Tables that pass, in what goes on from them.
+-- Tables that meet their rules still do so in rows that agree on them.
 
 pub meta_stays : (raw more : Raw) (t : Tables) → more.meta ≡ raw.meta → MetaPasses raw t → MetaPasses more t
 meta_stays raw more t e passes = subst (λ (q : RawTable). IsMeta q t.base) (sym e) passes
 
-pub resource_stays : (raw more : Raw) (t : Tables) → more.meta ≡ raw.meta → more.resource ≡ raw.resource → ResourcePasses raw t → ResourcePasses more t
-resource_stays raw more t e0 e1 (a, b) = (meta_stays raw more t e0 a, subst (λ (q : RawTable). IsTable (resource_rows 1) ResourceRule q t.resource) (sym e1) b)
+pub resource_stays : (raw more : Raw) (t : Tables) → more.meta ≡ raw.meta → more.resource ≡ raw.resource
+    → ResourcePasses raw t → ResourcePasses more t
+resource_stays raw more t e0 e1 (a, b) = (
+  meta_stays raw more t e0 a,
+  subst (λ (q : RawTable). IsTable (resource_rows 1) ResourceRule q t.resource)
+      (sym e1) b,
+)
 
-pub outside_stays : (raw more : Raw) (t : Tables) → more.meta ≡ raw.meta → more.resource ≡ raw.resource → more.outside ≡ raw.outside → OutsidePasses raw t → OutsidePasses more t
-outside_stays raw more t e0 e1 e2 (a, b) = (resource_stays raw more t e0 e1 a, subst (λ (q : RawTable). IsTable (map outside_cells) (OutsideRule t.base t.resource) q t.outside) (sym e2) b)
+pub outside_stays : (raw more : Raw) (t : Tables) → more.meta ≡ raw.meta → more.resource ≡ raw.resource → more.outside
+    ≡ raw.outside → OutsidePasses raw t → OutsidePasses more t
+outside_stays raw more t e0 e1 e2 (a, b) = (
+  resource_stays raw more t e0 e1 a,
+  subst (λ (q : RawTable). IsTable (map outside_cells) (OutsideRule t.base t.resource) q t.outside) (sym e2) b,
+)
 
-pub label_stays : (raw more : Raw) (t : Tables) → more.meta ≡ raw.meta → more.resource ≡ raw.resource → more.outside ≡ raw.outside → more.label ≡ raw.label → LabelPasses raw t → LabelPasses more t
-label_stays raw more t e0 e1 e2 e3 (a, b) = (outside_stays raw more t e0 e1 e2 a, subst (λ (q : RawTable). IsTable (map label_cells) (LabelRule t.resource) q t.label) (sym e3) b)
+pub label_stays : (raw more : Raw) (t : Tables) → more.meta ≡ raw.meta → more.resource ≡ raw.resource → more.outside
+    ≡ raw.outside → more.label ≡ raw.label → LabelPasses raw t → LabelPasses more t
+label_stays raw more t e0 e1 e2 e3 (a, b) = (
+  outside_stays raw more t e0 e1 e2 a,
+  subst (λ (q : RawTable). IsTable (map label_cells) (LabelRule t.resource) q
+      t.label) (sym e3) b,
+)
 
-pub link_stays : (raw more : Raw) (t : Tables) → more.meta ≡ raw.meta → more.resource ≡ raw.resource → more.outside ≡ raw.outside → more.label ≡ raw.label → more.link ≡ raw.link → LinkPasses raw t → LinkPasses more t
-link_stays raw more t e0 e1 e2 e3 e4 (a, b) = (label_stays raw more t e0 e1 e2 e3 a, subst (λ (q : RawTable). IsTable (map link_cells) (LinkRule t.resource) q t.link) (sym e4) b)
+pub link_stays : (raw more : Raw) (t : Tables) → more.meta ≡ raw.meta → more.resource ≡ raw.resource → more.outside
+    ≡ raw.outside → more.label ≡ raw.label → more.link ≡ raw.link → LinkPasses raw t → LinkPasses more t
+link_stays raw more t e0 e1 e2 e3 e4 (a, b) = (
+  label_stays raw more t e0 e1 e2 e3 a,
+  subst (λ (q : RawTable). IsTable (map link_cells) (LinkRule t.resource) q
+      t.link) (sym e4) b,
+)
 
-pub hier_stays : (raw more : Raw) (t : Tables) → more.meta ≡ raw.meta → more.resource ≡ raw.resource → more.outside ≡ raw.outside → more.label ≡ raw.label → more.link ≡ raw.link → more.hier ≡ raw.hier → HierPasses raw t → HierPasses more t
-hier_stays raw more t e0 e1 e2 e3 e4 e5 (a, b) = (link_stays raw more t e0 e1 e2 e3 e4 a, subst (λ (q : RawTable). IsTable (map hier_cells) (HierRule t.resource t.link) q t.hier) (sym e5) b)
+pub hier_stays : (raw more : Raw) (t : Tables) → more.meta ≡ raw.meta → more.resource ≡ raw.resource → more.outside
+    ≡ raw.outside → more.label ≡ raw.label → more.link ≡ raw.link → more.hier ≡ raw.hier → HierPasses raw t
+    → HierPasses more t
+hier_stays raw more t e0 e1 e2 e3 e4 e5 (a, b) = (
+  link_stays raw more t e0 e1 e2 e3 e4 a,
+  subst (λ (q : RawTable). IsTable (map hier_cells) (HierRule t.resource t.link) q t.hier) (sym e5) b,
+)
 
-pub posting_stays : (raw more : Raw) (t : Tables) → more.meta ≡ raw.meta → more.resource ≡ raw.resource → more.outside ≡ raw.outside → more.label ≡ raw.label → more.link ≡ raw.link → more.hier ≡ raw.hier → more.posting ≡ raw.posting → PostingPasses raw t → PostingPasses more t
-posting_stays raw more t e0 e1 e2 e3 e4 e5 e6 (a, b) = (hier_stays raw more t e0 e1 e2 e3 e4 e5 a, subst (λ (q : RawTable). IsTable (map posting_cells) (PostingRule t.resource) q t.posting) (sym e6) b)
+pub posting_stays : (raw more : Raw) (t : Tables) → more.meta ≡ raw.meta → more.resource ≡ raw.resource → more.outside
+    ≡ raw.outside → more.label ≡ raw.label → more.link ≡ raw.link → more.hier ≡ raw.hier → more.posting ≡ raw.posting
+    → PostingPasses raw t → PostingPasses more t
+posting_stays raw more t e0 e1 e2 e3 e4 e5 e6 (a, b) = (
+  hier_stays raw more t e0 e1 e2 e3 e4 e5 a,
+  subst (λ (q : RawTable). IsTable (map posting_cells) (PostingRule t.resource) q t.posting) (sym e6) b,
+)
 
--- Resource: the row that is the fault.
-pub resource_fault : (raw : Raw) (t : Tables) (cells : List Cell) → MetaPasses raw t → raw.resource ≡ Some (resource_rows 1 t.resource) → IsFaulty (resource_rows 1) ResourceRule (resource_rows 1 t.resource ++ cells ∷ []) → HasRead (stage.Stopped (BadStore table.Resource) table.Resource) (pushed table.Resource cells raw)
+-- A faulty row of table resource.
+pub resource_fault : (raw : Raw) (t : Tables) (cells : List Cell) → MetaPasses raw t → raw.resource
+    ≡ Some (resource_rows 1 t.resource) → IsFaulty (resource_rows 1) ResourceRule (resource_rows 1 t.resource ++ cells
+    ∷ []) → HasRead (stage.Stopped (BadStore table.Resource) table.Resource) (raw_with_row table.Resource cells raw)
 resource_fault raw t cells passes read faulty more (e0, grown) =
-    (judged more t).resource (meta_stays raw more t e0 passes)
-    (faulty_none (resource_rows 1) ResourceRule (resource_rows 1 t.resource ++ cells ∷ []) faulty more.resource (subst (λ (q : RawTable). Grows q more.resource) (ap (option_map (λ (rows : List (List Cell)). rows ++ cells ∷ [])) read) grown))
+    (verdict_by_table more t).resource (meta_stays raw more t e0 passes)
+    (faulty_none (resource_rows 1) ResourceRule (resource_rows 1 t.resource ++ cells ∷ []) faulty more.resource
+    (subst (λ (q : RawTable). Grows q more.resource)
+    (ap (option_map (λ (rows : List (List Cell)). rows ++ cells ∷ [])) read) grown))
 
--- Outside: the row that is the fault.
-pub outside_fault : (raw : Raw) (t : Tables) (cells : List Cell) → ResourcePasses raw t → raw.outside ≡ Some (map outside_cells t.outside) → IsFaulty (map outside_cells) (OutsideRule t.base t.resource) (map outside_cells t.outside ++ cells ∷ []) → HasRead (stage.Stopped (BadStore table.Outside) table.Outside) (pushed table.Outside cells raw)
+-- A faulty row of table outside.
+pub outside_fault : (raw : Raw) (t : Tables) (cells : List Cell) → ResourcePasses raw t → raw.outside
+    ≡ Some (map outside_cells t.outside) → IsFaulty (map outside_cells) (OutsideRule t.base t.resource)
+    (map outside_cells t.outside ++ cells ∷ []) → HasRead (stage.Stopped (BadStore table.Outside) table.Outside)
+    (raw_with_row table.Outside cells raw)
 outside_fault raw t cells passes read faulty more (e0, e1, grown) =
-    (judged more t).outside (resource_stays raw more t e0 e1 passes)
-    (faulty_none (map outside_cells) (OutsideRule t.base t.resource) (map outside_cells t.outside ++ cells ∷ []) faulty more.outside (subst (λ (q : RawTable). Grows q more.outside) (ap (option_map (λ (rows : List (List Cell)). rows ++ cells ∷ [])) read) grown))
+    (verdict_by_table more t).outside (resource_stays raw more t e0 e1 passes)
+    (faulty_none (map outside_cells) (OutsideRule t.base t.resource) (map outside_cells t.outside ++ cells ∷ [])
+    faulty more.outside
+    (subst (λ (q : RawTable). Grows q more.outside)
+    (ap (option_map (λ (rows : List (List Cell)). rows ++ cells ∷ [])) read) grown))
 
--- Label: the row that is the fault.
-pub label_fault : (raw : Raw) (t : Tables) (cells : List Cell) → OutsidePasses raw t → raw.label ≡ Some (map label_cells t.label) → IsFaulty (map label_cells) (LabelRule t.resource) (map label_cells t.label ++ cells ∷ []) → HasRead (stage.Stopped (BadStore table.Label) table.Label) (pushed table.Label cells raw)
+-- A faulty row of table label.
+pub label_fault : (raw : Raw) (t : Tables) (cells : List Cell) → OutsidePasses raw t → raw.label
+    ≡ Some (map label_cells t.label) → IsFaulty (map label_cells) (LabelRule t.resource) (map label_cells t.label
+    ++ cells ∷ []) → HasRead (stage.Stopped (BadStore table.Label) table.Label) (raw_with_row table.Label cells raw)
 label_fault raw t cells passes read faulty more (e0, e1, e2, grown) =
-    (judged more t).label (outside_stays raw more t e0 e1 e2 passes)
-    (faulty_none (map label_cells) (LabelRule t.resource) (map label_cells t.label ++ cells ∷ []) faulty more.label (subst (λ (q : RawTable). Grows q more.label) (ap (option_map (λ (rows : List (List Cell)). rows ++ cells ∷ [])) read) grown))
+    (verdict_by_table more t).label (outside_stays raw more t e0 e1 e2 passes)
+    (faulty_none (map label_cells) (LabelRule t.resource) (map label_cells t.label ++ cells ∷ []) faulty more.label
+    (subst (λ (q : RawTable). Grows q more.label)
+    (ap (option_map (λ (rows : List (List Cell)). rows ++ cells ∷ [])) read) grown))
 
--- Link: the row that is the fault.
-pub link_fault : (raw : Raw) (t : Tables) (cells : List Cell) → LabelPasses raw t → raw.link ≡ Some (map link_cells t.link) → IsFaulty (map link_cells) (LinkRule t.resource) (map link_cells t.link ++ cells ∷ []) → HasRead (stage.Stopped (BadStore table.Link) table.Link) (pushed table.Link cells raw)
+-- A faulty row of table link.
+pub link_fault : (raw : Raw) (t : Tables) (cells : List Cell) → LabelPasses raw t → raw.link
+    ≡ Some (map link_cells t.link) → IsFaulty (map link_cells) (LinkRule t.resource) (map link_cells t.link ++ cells
+    ∷ []) → HasRead (stage.Stopped (BadStore table.Link) table.Link) (raw_with_row table.Link cells raw)
 link_fault raw t cells passes read faulty more (e0, e1, e2, e3, grown) =
-    (judged more t).link (label_stays raw more t e0 e1 e2 e3 passes)
-    (faulty_none (map link_cells) (LinkRule t.resource) (map link_cells t.link ++ cells ∷ []) faulty more.link (subst (λ (q : RawTable). Grows q more.link) (ap (option_map (λ (rows : List (List Cell)). rows ++ cells ∷ [])) read) grown))
+    (verdict_by_table more t).link (label_stays raw more t e0 e1 e2 e3 passes)
+    (faulty_none (map link_cells) (LinkRule t.resource) (map link_cells t.link ++ cells ∷ []) faulty more.link
+    (subst (λ (q : RawTable). Grows q more.link)
+    (ap (option_map (λ (rows : List (List Cell)). rows ++ cells ∷ [])) read) grown))
 
--- Hier: the row that is the fault.
-pub hier_fault : (raw : Raw) (t : Tables) (cells : List Cell) → LinkPasses raw t → raw.hier ≡ Some (map hier_cells t.hier) → IsFaulty (map hier_cells) (HierRule t.resource t.link) (map hier_cells t.hier ++ cells ∷ []) → HasRead (stage.Stopped (BadStore table.Hier) table.Hier) (pushed table.Hier cells raw)
+-- A faulty row of table hier.
+pub hier_fault : (raw : Raw) (t : Tables) (cells : List Cell) → LinkPasses raw t → raw.hier
+    ≡ Some (map hier_cells t.hier) → IsFaulty (map hier_cells) (HierRule t.resource t.link)
+    (map hier_cells t.hier ++ cells ∷ []) → HasRead (stage.Stopped (BadStore table.Hier) table.Hier)
+    (raw_with_row table.Hier cells raw)
 hier_fault raw t cells passes read faulty more (e0, e1, e2, e3, e4, grown) =
-    (judged more t).hier (link_stays raw more t e0 e1 e2 e3 e4 passes)
-    (faulty_none (map hier_cells) (HierRule t.resource t.link) (map hier_cells t.hier ++ cells ∷ []) faulty more.hier (subst (λ (q : RawTable). Grows q more.hier) (ap (option_map (λ (rows : List (List Cell)). rows ++ cells ∷ [])) read) grown))
+    (verdict_by_table more t).hier (link_stays raw more t e0 e1 e2 e3 e4 passes)
+    (faulty_none (map hier_cells) (HierRule t.resource t.link) (map hier_cells t.hier ++ cells ∷ []) faulty more.hier
+    (subst (λ (q : RawTable). Grows q more.hier)
+    (ap (option_map (λ (rows : List (List Cell)). rows ++ cells ∷ [])) read) grown))
 
--- Posting: the row that is the fault.
-pub posting_fault : (raw : Raw) (t : Tables) (cells : List Cell) → HierPasses raw t → raw.posting ≡ Some (map posting_cells t.posting) → IsFaulty (map posting_cells) (PostingRule t.resource) (map posting_cells t.posting ++ cells ∷ []) → HasRead (stage.Stopped (BadStore table.Posting) table.Posting) (pushed table.Posting cells raw)
+-- A faulty row of table posting.
+pub posting_fault : (raw : Raw) (t : Tables) (cells : List Cell) → HierPasses raw t → raw.posting
+    ≡ Some (map posting_cells t.posting) → IsFaulty (map posting_cells) (PostingRule t.resource)
+    (map posting_cells t.posting ++ cells ∷ []) → HasRead (stage.Stopped (BadStore table.Posting) table.Posting)
+    (raw_with_row table.Posting cells raw)
 posting_fault raw t cells passes read faulty more (e0, e1, e2, e3, e4, e5, grown) =
-    (judged more t).posting (hier_stays raw more t e0 e1 e2 e3 e4 e5 passes)
-    (faulty_none (map posting_cells) (PostingRule t.resource) (map posting_cells t.posting ++ cells ∷ []) faulty more.posting (subst (λ (q : RawTable). Grows q more.posting) (ap (option_map (λ (rows : List (List Cell)). rows ++ cells ∷ [])) read) grown))
+    (verdict_by_table more t).posting (hier_stays raw more t e0 e1 e2 e3 e4 e5 passes)
+    (faulty_none (map posting_cells) (PostingRule t.resource) (map posting_cells t.posting ++ cells ∷ []) faulty
+    more.posting
+    (subst (λ (q : RawTable). Grows q more.posting)
+    (ap (option_map (λ (rows : List (List Cell)). rows ++ cells ∷ [])) read) grown))
 
--- Move: the row that is the fault.
-pub move_fault : (raw : Raw) (t : Tables) (cells : List Cell) → PostingPasses raw t → raw.move ≡ Some (map move_cells t.move) → IsFaulty (map move_cells) (MoveRule t.resource t.posting) (map move_cells t.move ++ cells ∷ []) → HasRead (stage.Stopped (BadStore table.Move) table.Move) (pushed table.Move cells raw)
+-- A faulty row of table move.
+pub move_fault : (raw : Raw) (t : Tables) (cells : List Cell) → PostingPasses raw t → raw.move
+    ≡ Some (map move_cells t.move) → IsFaulty (map move_cells) (MoveRule t.resource t.posting)
+    (map move_cells t.move ++ cells ∷ []) → HasRead (stage.Stopped (BadStore table.Move) table.Move)
+    (raw_with_row table.Move cells raw)
 move_fault raw t cells passes read faulty more (e0, e1, e2, e3, e4, e5, e6, grown) =
-    (judged more t).move (posting_stays raw more t e0 e1 e2 e3 e4 e5 e6 passes)
-    (faulty_none (map move_cells) (MoveRule t.resource t.posting) (map move_cells t.move ++ cells ∷ []) faulty more.move (subst (λ (q : RawTable). Grows q more.move) (ap (option_map (λ (rows : List (List Cell)). rows ++ cells ∷ [])) read) grown))
+    (verdict_by_table more t).move (posting_stays raw more t e0 e1 e2 e3 e4 e5 e6 passes)
+    (faulty_none (map move_cells) (MoveRule t.resource t.posting) (map move_cells t.move ++ cells ∷ []) faulty
+    more.move
+    (subst (λ (q : RawTable). Grows q more.move)
+    (ap (option_map (λ (rows : List (List Cell)). rows ++ cells ∷ [])) read) grown))
 
--- Outside: a row that is taken.
-pub outside_taken : (raw : Raw) (t : Tables) (cells : List Cell) (new : OutsideLoad) → ResourcePasses raw t → raw.outside ≡ Some (map outside_cells t.outside) → Reads (map outside_cells) (HasOutside t.base t.resource new.vocab new.last) (OutsideRule t.base t.resource) t.outside cells true → NoneAfterOutside raw → HasRead (stage.Outside new) (pushed table.Outside cells raw)
-outside_taken raw t cells new passes read (x, e, has) after = (record t { outside = t.outside ++ x ∷ [] }, passes, (ap (option_map (λ (rows : List (List Cell)). rows ++ cells ∷ [])) read ∙ ap (λ (rows : List (List Cell)). Some rows) (sym e)), has, after)
+-- A row of table outside that is kept.
+pub outside_taken : (raw : Raw) (t : Tables) (cells : List Cell) (new : OutsideLoad) → ResourcePasses raw t
+    → raw.outside ≡ Some (map outside_cells t.outside) → ReadResult (map outside_cells)
+    (HasOutside t.base t.resource new.vocab new.last) (OutsideRule t.base t.resource) t.outside cells true
+    → NoneAfterOutside raw → HasRead (stage.Outside new) (raw_with_row table.Outside cells raw)
+outside_taken raw t cells new passes read (x, e, has) after = (
+  record t { outside = t.outside ++ x ∷ [] },
+  passes,
+  (ap (option_map (λ (rows : List (List Cell)). rows ++ cells ∷ [])) read
+      ∙ ap (λ (rows : List (List Cell)). Some rows) (sym e)),
+  has,
+  after,
+)
 
--- Label: a row that is taken.
-pub label_taken : (raw : Raw) (t : Tables) (cells : List Cell) (new : Vocabulary) → OutsidePasses raw t → raw.label ≡ Some (map label_cells t.label) → Reads (map label_cells) (HasLabels t.base t.resource t.outside new) (LabelRule t.resource) t.label cells true → NoneAfterLabel raw → HasRead (stage.Label new) (pushed table.Label cells raw)
-label_taken raw t cells new passes read (x, e, has) after = (record t { label = t.label ++ x ∷ [] }, passes, (ap (option_map (λ (rows : List (List Cell)). rows ++ cells ∷ [])) read ∙ ap (λ (rows : List (List Cell)). Some rows) (sym e)), has, after)
+-- A row of table label that is kept.
+pub label_taken : (raw : Raw) (t : Tables) (cells : List Cell) (new : Vocabulary) → OutsidePasses raw t → raw.label
+    ≡ Some (map label_cells t.label) → ReadResult (map label_cells) (HasLabels t.base t.resource t.outside new)
+    (LabelRule t.resource) t.label cells true → NoneAfterLabel raw → HasRead (stage.Label new)
+    (raw_with_row table.Label cells raw)
+label_taken raw t cells new passes read (x, e, has) after = (
+  record t { label = t.label ++ x ∷ [] },
+  passes,
+  (ap (option_map (λ (rows : List (List Cell)). rows ++ cells ∷ [])) read
+      ∙ ap (λ (rows : List (List Cell)). Some rows) (sym e)),
+  has,
+  after,
+)
 
--- Link: a row that is taken.
-pub link_taken : (raw : Raw) (t : Tables) (cells : List Cell) (new : LinkedVocab) → LabelPasses raw t → HasNames new.vocab t → raw.link ≡ Some (map link_cells t.link) → Reads (map link_cells) (λ rows. HasLinks t.resource new.links.graph rows []) (LinkRule t.resource) t.link cells true → NoneAfterLink raw → HasRead (stage.Link new) (pushed table.Link cells raw)
-link_taken raw t cells new passes names read (x, e, has) after = (record t { link = t.link ++ x ∷ [] }, passes, names, (ap (option_map (λ (rows : List (List Cell)). rows ++ cells ∷ [])) read ∙ ap (λ (rows : List (List Cell)). Some rows) (sym e)), has, after)
+-- A row of table link that is kept.
+pub link_taken : (raw : Raw) (t : Tables) (cells : List Cell) (new : LinkedVocab) → LabelPasses raw t
+    → HasNames new.vocab t → raw.link ≡ Some (map link_cells t.link) → ReadResult (map link_cells)
+    (λ rows. HasLinks t.resource new.links.graph rows []) (LinkRule t.resource) t.link cells true → NoneAfterLink raw
+    → HasRead (stage.Link new) (raw_with_row table.Link cells raw)
+link_taken raw t cells new passes names read (x, e, has) after = (
+  record t { link = t.link ++ x ∷ [] },
+  passes,
+  names,
+  (ap (option_map (λ (rows : List (List Cell)). rows ++ cells ∷ [])) read
+      ∙ ap (λ (rows : List (List Cell)). Some rows) (sym e)),
+  has,
+  after,
+)
 
--- Hier: a row that is taken.
-pub hier_taken : (raw : Raw) (t : Tables) (cells : List Cell) (new : LinkedVocab) → LinkPasses raw t → HasNames new.vocab t → raw.hier ≡ Some (map hier_cells t.hier) → Reads (map hier_cells) (HasLinks t.resource new.links.graph t.link) (HierRule t.resource t.link) t.hier cells true → NoneAfterHier raw → HasRead (stage.Hier new) (pushed table.Hier cells raw)
-hier_taken raw t cells new passes names read (x, e, has) after = (record t { hier = t.hier ++ x ∷ [] }, passes, names, (ap (option_map (λ (rows : List (List Cell)). rows ++ cells ∷ [])) read ∙ ap (λ (rows : List (List Cell)). Some rows) (sym e)), has, after)
+-- A row of table hier that is kept.
+pub hier_taken : (raw : Raw) (t : Tables) (cells : List Cell) (new : LinkedVocab) → LinkPasses raw t
+    → HasNames new.vocab t → raw.hier ≡ Some (map hier_cells t.hier) → ReadResult (map hier_cells)
+    (HasLinks t.resource new.links.graph t.link) (HierRule t.resource t.link) t.hier cells true → NoneAfterHier raw
+    → HasRead (stage.Hier new) (raw_with_row table.Hier cells raw)
+hier_taken raw t cells new passes names read (x, e, has) after = (
+  record t { hier = t.hier ++ x ∷ [] },
+  passes,
+  names,
+  (ap (option_map (λ (rows : List (List Cell)). rows ++ cells ∷ [])) read
+      ∙ ap (λ (rows : List (List Cell)). Some rows) (sym e)),
+  has,
+  after,
+)
 
--- Posting: a row that is taken.
-pub posting_taken : (raw : Raw) (t : Tables) (cells : List Cell) (linked : LinkedVocab) (new : PostingLoad) → HierPasses raw t → HasNames linked.vocab t → HasLinks t.resource linked.links.graph t.link t.hier → raw.posting ≡ Some (map posting_cells t.posting) → Reads (map posting_cells) (HasPostings t.resource new.keys.keys new.firsts.items new.ats.items new.tally) (PostingRule t.resource) t.posting cells true → NoneAfterPosting raw → HasRead (stage.Posting linked new) (pushed table.Posting cells raw)
-posting_taken raw t cells linked new passes names links read (x, e, has) after = (record t { posting = t.posting ++ x ∷ [] }, passes, names, links, (ap (option_map (λ (rows : List (List Cell)). rows ++ cells ∷ [])) read ∙ ap (λ (rows : List (List Cell)). Some rows) (sym e)), has, after)
+-- A row of table posting that is kept.
+pub posting_taken : (raw : Raw) (t : Tables) (cells : List Cell) (linked_vocab : LinkedVocab) (new : PostingLoad)
+    → HierPasses raw t → HasNames linked_vocab.vocab t → HasLinks t.resource linked_vocab.links.graph t.link t.hier
+    → raw.posting ≡ Some (map posting_cells t.posting) → ReadResult (map posting_cells)
+    (HasPostings t.resource new.keys.keys new.firsts.items new.stored_places.items new.tally) (PostingRule t.resource)
+    t.posting cells true → NoneAfterPosting raw → HasRead (stage.Posting linked_vocab new)
+    (raw_with_row table.Posting cells raw)
+posting_taken raw t cells linked_vocab new passes names links read (x, e, has) after = (
+  record t { posting = t.posting ++ x ∷ [] },
+  passes,
+  names,
+  links,
+  (ap (option_map (λ (rows : List (List Cell)). rows ++ cells ∷ [])) read
+      ∙ ap (λ (rows : List (List Cell)). Some rows) (sym e)),
+  has,
+  after,
+)

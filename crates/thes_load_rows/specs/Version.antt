@@ -1,4 +1,4 @@
--- What the row of meta tells.
+-- The row of table meta, by version.
 use Rattle.std.specs.Prelude.{◌≡◌, ◌≢◌, ◌⊎◌, ◌<◌, ℕ, List, [], ◌∷◌, Option, None, Some}
 use Rattle.thes_base.specs.Forms.{IsBase}
 use Rattle.thes_tables.specs.declared.cells.Cell.{Cell}
@@ -6,10 +6,11 @@ use Rattle.thes_tables.specs.Cells.{number_cell, meta_cells}
 use Rattle.thes_load_rows.specs.declared.meta.MetaRow.{MetaRow}
 use Rattle.thes_load_rows.specs.declared.meta.MetaRow.TheVariants.{Newer, Older, Base}
 
+-- The cells of a row of table meta of this version.
 abbrev pub version_cells : ℕ → Cell → List Cell
 version_cells version base = number_cell 1 ∷ number_cell version ∷ base ∷ []
 
--- the cells are those of a newer version, of an older one, or of this one and with this base; or they are none of these
+-- The cells are those of a newer version, of an older one, or of this one with this base; or they are none of these.
 abbrev pub SpellsMeta : List Cell → Option MetaRow → Type 0
 SpellsMeta cells (Some Newer) = (version : ℕ) × (base : Cell) × (2 < version) × (cells ≡ version_cells version base)
 SpellsMeta cells (Some Older) = (base : Cell) × (cells ≡ version_cells 1 base)

@@ -1,13 +1,13 @@
-//! What single cells spell.
+//! Parsers of single cells.
 ghost use Rattle.std.specs.Prelude.{◌≡◌, IfOk, None};
-ghost use Rattle.thes_base.specs.Forms.{IsNumber, HasKeptForm};
+ghost use Rattle.thes_base.specs.Forms.{IsNumber, HasStoredForm};
 ghost use Rattle.thes_base.specs.Labels.{label_kind_no};
 ghost use Rattle.thes_base.specs.Links.{link_kind_no};
 ghost use Rattle.thes_tables.specs.declared.cells.Cell.TheVariants.{Text};
 ghost use Rattle.thes_tables.specs.Cells.{number_cell, flag_cell, optional_cell, resource_kind_no, hier_type_no};
 ghost use Rattle.thes_tables.specs.Tables.{hier_type};
 ghost use Rattle.thes_load_rows.specs.Forms.{IsNumberOrNone};
-ghost use Rattle.thes_load_rows.specs.Spelled.{Spells, SpellsValue};
+ghost use Rattle.thes_load_rows.specs.CellSpelling.{Spells, SpellsValue};
 
 use std::alloc::{AllocError, Global};
 use thes_base::data::{LabelKind, LabelValue, LinkKind, ResourceKind};
@@ -18,7 +18,7 @@ use thes_base::text::Formed;
 use thes_tables::cells::Cell;
 use thes_tables::rows::HierType;
 
-/// Reads the number of a resource, a posting or a move.
+/// Parses the number of a resource, a posting or a move: 1 to 2³² - 1.
 pub fn number_in(cell: &Cell) -> Option<u32>
     ensures { Spells number_cell IsNumber cell.now result }
 {
@@ -28,7 +28,7 @@ pub fn number_in(cell: &Cell) -> Option<u32>
     }
 }
 
-/// Reads the number of a resource, or null.
+/// Parses the number of a resource, or null.
 pub fn optional_in(cell: &Cell) -> Option<Option<ResNo>>
     ensures { Spells optional_cell IsNumberOrNone cell.now result }
 {
@@ -38,7 +38,7 @@ pub fn optional_in(cell: &Cell) -> Option<Option<ResNo>>
     }
 }
 
-/// Reads a truth value: 0 or 1.
+/// Parses a flag: 0 or 1.
 pub fn flag_in(cell: &Cell) -> Option<bool>
     ensures { Spells flag_cell (λ _. Unit {0}) cell.now result }
 {
@@ -49,7 +49,7 @@ pub fn flag_in(cell: &Cell) -> Option<bool>
     }
 }
 
-/// Reads the kind of a resource.
+/// Parses the kind of a resource.
 pub fn resource_kind_in(cell: &Cell) -> Option<ResourceKind>
     ensures { Spells (λ kind. number_cell (resource_kind_no kind)) (λ _. Unit {0}) cell.now result }
 {
@@ -62,7 +62,7 @@ pub fn resource_kind_in(cell: &Cell) -> Option<ResourceKind>
     }
 }
 
-/// Reads the kind of a label.
+/// Parses the kind of a label.
 pub fn label_kind_in(cell: &Cell) -> Option<LabelKind>
     ensures { Spells (λ kind. number_cell (label_kind_no kind)) (λ _. Unit {0}) cell.now result }
 {
@@ -75,9 +75,10 @@ pub fn label_kind_in(cell: &Cell) -> Option<LabelKind>
     }
 }
 
-/// Reads the kind of a link that isn't hierarchical.
+/// Parses the kind of a link that isn't hierarchical.
 pub fn link_kind_in(cell: &Cell) -> Option<LinkKind>
-    ensures { Spells (λ kind. number_cell (link_kind_no kind)) (λ kind. hier_type kind ≡ None) cell.now result }
+    ensures { Spells (λ kind. number_cell (link_kind_no kind))
+        (λ kind. hier_type kind ≡ None) cell.now result }
 {
     match cell {
         Cell::Int(2) => Some(LinkKind::Related),
@@ -91,7 +92,7 @@ pub fn link_kind_in(cell: &Cell) -> Option<LinkKind>
     }
 }
 
-/// Reads the type of a hierarchical link.
+/// Parses the type of a hierarchical link.
 pub fn hier_type_in(cell: &Cell) -> Option<HierType>
     ensures { Spells (λ typ. number_cell (hier_type_no typ)) (λ _. Unit {0}) cell.now result }
 {
@@ -104,9 +105,9 @@ pub fn hier_type_in(cell: &Cell) -> Option<HierType>
     }
 }
 
-/// Reads a text of the form `F`, if it stands as it is kept.
+/// Parses a text of the form `F`, which must be normalized already.
 pub fn text_in<F: Form>(alloc: Global, cell: &Cell) -> Result<Option<Formed<F>>, AllocError>
-    ensures { IfOk result (Spells Text (HasKeptForm F.is_form F.LOWERED) cell.now) }
+    ensures { IfOk result (Spells Text (HasStoredForm F.is_form F.LOWERED) cell.now) }
 {
     match cell {
         Cell::Text(text) => match Formed::<F>::read(alloc, text.as_str()) {
@@ -124,7 +125,7 @@ pub fn text_in<F: Form>(alloc: Global, cell: &Cell) -> Result<Option<Formed<F>>,
     }
 }
 
-/// Reads what a label of this kind says.
+/// Parses the text of a label of this kind.
 pub fn value_in(
     alloc: Global,
     kind: LabelKind,

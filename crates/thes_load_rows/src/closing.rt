@@ -1,9 +1,9 @@
-//! The end of each table: no more rows of it come.
+//! The end of each table, after its last row.
 ghost use Rattle.std.specs.Prelude.{IfOk};
 ghost use Rattle.thes_load_rows.specs.declared.stage.Stage.TheVariants as stage;
 ghost use Rattle.thes_load_rows.specs.Progress.{Closes};
 
-use crate::linked::LinkedVocab;
+use crate::linked_vocab::LinkedVocab;
 use crate::meta::MetaRow;
 use crate::names::OutsideLoad;
 use crate::postings::PostingLoad;
@@ -14,7 +14,7 @@ use thes_base::fault::{Fault, Table};
 use thes_base::text::Base;
 use thes_vocab::VocabLoad;
 
-/// Ends the rows of meta.
+/// Checks that table meta has a row of this version, and begins table resource.
 pub fn close_meta(alloc: Global, row: Option<MetaRow>) -> Stage
     ensures { Closes (stage.Meta row) result }
 {
@@ -26,7 +26,7 @@ pub fn close_meta(alloc: Global, row: Option<MetaRow>) -> Stage
     }
 }
 
-/// Ends the rows of resource.
+/// Checks table resource as a whole, and begins table outside.
 pub fn close_resource(alloc: Global, base: Base, load: ResourceLoad) -> Result<Stage, AllocError>
     ensures { IfOk result (Closes (stage.Resource base load)) }
 {
@@ -38,7 +38,7 @@ pub fn close_resource(alloc: Global, base: Base, load: ResourceLoad) -> Result<S
     }
 }
 
-/// Ends the rows of outside.
+/// Checks table outside as a whole, and begins table label.
 pub fn close_outside(load: OutsideLoad) -> Stage
     ensures { Closes (stage.Outside load) result }
 {
@@ -49,16 +49,17 @@ pub fn close_outside(load: OutsideLoad) -> Stage
     }
 }
 
-/// Ends the rows of label.
+/// Checks table label as a whole, and begins table link.
 pub fn close_label(alloc: Global, vocab: VocabLoad) -> Result<Stage, AllocError>
     ensures { IfOk result (Closes (stage.Label vocab)) }
 {
+    // No effect; states what is known of the labels for the proof.
     vocab.so_far();
     if vocab.has_all_iris() {
         match vocab.close() {
             Some(vocab) => {
-                let linked = LinkedVocab::new(alloc, vocab)?;
-                Ok(Stage::Link(linked))
+                let linked_vocab = LinkedVocab::new(alloc, vocab)?;
+                Ok(Stage::Link(linked_vocab))
             }
             None => Ok(Stage::Stopped(Fault::BadStore(Table::Label), Table::Link)),
         }
@@ -67,21 +68,21 @@ pub fn close_label(alloc: Global, vocab: VocabLoad) -> Result<Stage, AllocError>
     }
 }
 
-/// Ends the rows of hier.
-pub fn close_hier(alloc: Global, linked: LinkedVocab) -> Result<Stage, AllocError>
-    ensures { IfOk result (Closes (stage.Hier linked)) }
+/// Checks the links of both tables together, and begins table posting.
+pub fn close_hier(alloc: Global, linked_vocab: LinkedVocab) -> Result<Stage, AllocError>
+    ensures { IfOk result (Closes (stage.Hier linked_vocab)) }
 {
-    if linked.links.close(alloc)? {
-        Ok(Stage::Posting(linked, PostingLoad::new(alloc)))
+    if linked_vocab.links.close(alloc)? {
+        Ok(Stage::Posting(linked_vocab, PostingLoad::new(alloc)))
     } else {
         Ok(Stage::Stopped(Fault::BadStore(Table::Hier), Table::Posting))
     }
 }
 
-/// Ends the rows of posting.
-pub fn close_posting(linked: LinkedVocab, load: PostingLoad) -> Stage
-    ensures { Closes (stage.Posting linked load) result }
+/// Begins table move, with each posting at its first concept.
+pub fn close_posting(linked_vocab: LinkedVocab, load: PostingLoad) -> Stage
+    ensures { Closes (stage.Posting linked_vocab load) result }
 {
     let (moves, placed) = load.close();
-    Stage::Move(linked, placed, moves)
+    Stage::Move(linked_vocab, placed, moves)
 }

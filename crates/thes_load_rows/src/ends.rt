@@ -1,19 +1,19 @@
-//! What the resources with given numbers are, and what links may join.
+//! Look-ups of resources by number, and the check of a link's ends.
 ghost use Rattle.std.specs.Prelude.{◌≡◌, ◌↔◌, IsTrue, option_copied};
-ghost use Rattle.thes_base.specs.Resources.{numbered, IsConcept, is_live_concept, is_outside};
-ghost use Rattle.thes_load_rows.specs.Linking.{IsFitLink};
+ghost use Rattle.thes_base.specs.Resources.{entry_at, IsConcept, is_live_concept, is_outside};
+ghost use Rattle.thes_load_rows.specs.LinksSoFar.{IsFitLink};
 
 use thes_base::data::{Link, Resource, ResourceKind};
 use thes_base::number::ResNo;
 
-/// Finds the resource with this number.
+/// Returns the resource with this number, if there is one.
 pub fn resource_at(resources: &[Resource], n: ResNo) -> Option<&Resource>
-    ensures { option_copied result ≡ numbered resources.now n }
+    ensures { option_copied result ≡ entry_at resources.now n }
 {
     resources.get(n.get() as usize - 1)
 }
 
-/// Checks whether the number is a concept's.
+/// Returns whether the number is a concept's, live or not.
 pub fn is_concept(resources: &[Resource], n: ResNo) -> bool
     ensures { IsTrue result ↔ IsConcept resources.now n }
 {
@@ -23,7 +23,7 @@ pub fn is_concept(resources: &[Resource], n: ResNo) -> bool
     }
 }
 
-/// Checks whether the number is a live concept's.
+/// Returns whether the number is a live concept's.
 pub fn is_live(resources: &[Resource], n: ResNo) -> bool
     ensures { result ≡ is_live_concept resources.now n }
 {
@@ -33,7 +33,7 @@ pub fn is_live(resources: &[Resource], n: ResNo) -> bool
     }
 }
 
-/// Checks whether the number is an outside concept's.
+/// Returns whether the number is an outside concept's.
 pub fn is_outside(resources: &[Resource], n: ResNo) -> bool
     ensures { result ≡ is_outside resources.now n }
 {
@@ -43,7 +43,7 @@ pub fn is_outside(resources: &[Resource], n: ResNo) -> bool
     }
 }
 
-/// Checks whether a link has the ends that its kind asks for, whatever their order.
+/// Checks whether a link has the ends that its kind requires, in any order.
 pub fn is_fit(resources: &[Resource], link: &Link) -> bool
     ensures { IsTrue result ↔ IsFitLink resources.now link.now }
 {

@@ -1,11 +1,10 @@
-//! Reads rows of cells, table by table.
+//! Parses rows of cells, table by table, and checks them against the rules of the tables.
 #![tactic(auto)]
 
 mod cells;
 mod closing;
 mod ends;
-mod handed;
-mod linked;
+mod linked_vocab;
 mod links;
 mod meta;
 mod moves;
@@ -14,3 +13,4 @@ mod postings;
 mod resources;
 pub mod rows;
 pub mod stage;
+mod stage_steps;

@@ -1,17 +1,17 @@
-//! The rows of link and of hier.
+//! The tables link and hier: their rows, and the rule of their links.
 ghost use Rattle.std.specs.Prelude.{◌≡◌, ◌↔◌, ◌<◌, ◌^◌, [], List, IsTrue, IfOk, length, map};
 ghost use Rattle.thes_base.specs.declared.data.Resource.{Resource};
 ghost use Rattle.thes_base.specs.declared.data.Link.{Link};
-ghost use Rattle.thes_base.specs.Links.{norm};
+ghost use Rattle.thes_base.specs.Links.{normal_form};
 ghost use Rattle.thes_tables.specs.declared.rows.HierRow.{HierRow};
 ghost use Rattle.thes_tables.specs.Tables.{hier_kind, hier_link};
 ghost use Rattle.thes_graph.specs.Net.{is_marked};
 ghost use Rattle.thes_load_rules.specs.Rules.{LinkRule, HierRule};
 ghost use Rattle.thes_load_rows.specs.Forms.{HasLinkForm};
 ghost use Rattle.thes_tables.specs.Cells.{link_cells, hier_cells};
-ghost use Rattle.thes_load_rows.specs.Reading.{Reads};
-ghost use Rattle.thes_load_rows.specs.Taken.{Takes};
-ghost use Rattle.thes_load_rows.specs.Linking.{AreMarked, IsAdded, HasLinks};
+ghost use Rattle.thes_load_rows.specs.ReadResults.{ReadResult};
+ghost use Rattle.thes_load_rows.specs.RowsSoFar.{TakeResult};
+ghost use Rattle.thes_load_rows.specs.LinksSoFar.{AreMarked, IsAdded, HasLinks};
 
 use crate::ends::{is_fit, is_outside};
 use crate::rows::{hier_in, link_in};
@@ -19,18 +19,18 @@ use std::alloc::{AllocError, Global};
 use thes_base::data::{Link, LinkKind, Resource};
 use thes_base::number::ResNo;
 use thes_graph::graph::Graph;
-use thes_graph::judge::in_order;
+use thes_graph::judge::normalize_ends;
 use thes_tables::cells::Cell;
 use thes_tables::rows::{HierRow, HierType};
 
-/// Keeps of the rows of link and of hier their links.
+/// The links of the rows of the tables link and hier so far.
 #[derive(Drop)]
 pub struct LinkLoad {
     pub graph: Graph,
 }
 
 impl LinkLoad {
-    /// Starts with no row of either table.
+    /// Returns a load without rows, which knows the outside concepts.
     pub fn new(alloc: Global, resources: &[Resource]) -> Result<LinkLoad, AllocError>
         requires { length resources.now < 2 ^ 32 }
         ensures { IfOk result (λ load. HasLinks resources.now load.graph [] []) }
@@ -45,33 +45,38 @@ impl LinkLoad {
         Ok(LinkLoad { graph })
     }
 
-    /// Takes the next row of link, or answers false if it breaks the rule.
+    /// Adds the next row of table link, or returns false if it breaks the rule.
     pub fn take(&mut self, resources: &[Resource], link: &Link) -> Result<bool, AllocError>
         requires { HasLinkForm link.now }
         ensures same { self.new.graph.outside ≡ self.old.graph.outside }
-        ensures takes { IfOk result (λ good. (rows : List Link) → HasLinks resources.now self.old.graph rows []
-            → Takes (λ more. HasLinks resources.now self.new.graph more []) (LinkRule resources.now) rows link.now good) }
+        ensures takes { IfOk result (λ good. (rows : List Link)
+            → HasLinks resources.now self.old.graph rows []
+            → TakeResult (λ more. HasLinks resources.now self.new.graph more [])
+            (LinkRule resources.now) rows link.now good) }
     {
         let good = add_legal(&mut self.graph, resources, link)?;
         Ok(good)
     }
 
-    /// Takes the next row of hier, or answers false if it breaks the rule.
+    /// Adds the next row of table hier, or returns false if it breaks the rule.
     pub fn take_hier(&mut self, resources: &[Resource], row: &HierRow) -> Result<bool, AllocError>
         ensures same { self.new.graph.outside ≡ self.old.graph.outside }
-        ensures takes { IfOk result (λ good. (links : List Link) (rows : List HierRow) → HasLinks resources.now self.old.graph links rows
-            → Takes (HasLinks resources.now self.new.graph links) (HierRule resources.now links) rows row.now good) }
+        ensures takes { IfOk result (λ good. (links : List Link) (rows : List HierRow)
+            → HasLinks resources.now self.old.graph links rows
+            → TakeResult (HasLinks resources.now self.new.graph links)
+            (HierRule resources.now links) rows row.now good) }
     {
         let good = add_legal(&mut self.graph, resources, &link_of(row))?;
         Ok(good)
     }
 
-    /// Reads the next row of link, or answers false if it breaks the rule or is none.
+    /// Parses the next row of table link and adds it, or returns false if it is faulty.
     pub fn read(&mut self, resources: &[Resource], cells: &[Cell]) -> Result<bool, AllocError>
         requires { length resources.now < 2 ^ 32 }
         ensures same { self.new.graph.outside ≡ self.old.graph.outside }
-        ensures reads { IfOk result (λ good. (rows : List Link) → HasLinks resources.now self.old.graph rows []
-            → Reads (map link_cells) (λ more. HasLinks resources.now self.new.graph more [])
+        ensures reads { IfOk result (λ good. (rows : List Link)
+            → HasLinks resources.now self.old.graph rows []
+            → ReadResult (map link_cells) (λ more. HasLinks resources.now self.new.graph more [])
             (LinkRule resources.now) rows cells.now good) }
     {
         match link_in(cells) {
@@ -83,12 +88,13 @@ impl LinkLoad {
         }
     }
 
-    /// Reads the next row of hier, or answers false if it breaks the rule or is none.
+    /// Parses the next row of table hier and adds it, or returns false if it is faulty.
     pub fn read_hier(&mut self, resources: &[Resource], cells: &[Cell]) -> Result<bool, AllocError>
         requires { length resources.now < 2 ^ 32 }
         ensures same { self.new.graph.outside ≡ self.old.graph.outside }
-        ensures reads { IfOk result (λ good. (links : List Link) (rows : List HierRow) → HasLinks resources.now self.old.graph links rows
-            → Reads (map hier_cells) (HasLinks resources.now self.new.graph links)
+        ensures reads { IfOk result (λ good. (links : List Link) (rows : List HierRow)
+            → HasLinks resources.now self.old.graph links rows
+            → ReadResult (map hier_cells) (HasLinks resources.now self.new.graph links)
             (HierRule resources.now links) rows cells.now good) }
     {
         match hier_in(cells) {
@@ -100,10 +106,12 @@ impl LinkLoad {
         }
     }
 
-    /// Checks whether no rule is broken by the links of both tables together.
+    /// Checks whether the links of both tables together meet the rules.
     pub fn close(&self, alloc: Global) -> Result<bool, AllocError>
-        ensures { IfOk result (λ good. (resources : List Resource) (links : List Link) (rows : List HierRow)
-            → HasLinks resources self.now.graph links rows → IsTrue good ↔ HierRule resources links rows) }
+        ensures { IfOk result (λ good.
+            (resources : List Resource) (links : List Link) (rows : List HierRow)
+            → HasLinks resources self.now.graph links rows
+            → IsTrue good ↔ HierRule resources links rows) }
     {
         match self.graph.check_whole(alloc)? {
             None => Ok(true),
@@ -112,7 +120,7 @@ impl LinkLoad {
     }
 }
 
-// Adds a link that is legal and not held yet, or answers false.
+// Adds a link that is legal and new, and returns whether it is.
 fn add_legal(graph: &mut Graph, resources: &[Resource], link: &Link) -> Result<bool, AllocError>
     ensures same { graph.new.outside ≡ graph.old.outside }
     ensures adds { IfOk result (λ good. AreMarked resources.now graph.old
@@ -134,14 +142,15 @@ fn add_legal(graph: &mut Graph, resources: &[Resource], link: &Link) -> Result<b
     }
 }
 
-// Whether the link is handed in as it is kept.
+// Whether the link has its ends in the normal order.
 fn is_in_order(graph: &Graph, link: &Link) -> bool
-    ensures { IsTrue result ↔ (norm (is_marked graph.now) link.now ≡ link.now) }
+    ensures { IsTrue result ↔ (normal_form (is_marked graph.now) link.now ≡ link.now) }
 {
     let outside = graph.is_outside(link.a) || graph.is_outside(link.b);
-    in_order(link, outside) == *link
+    normalize_ends(link, outside) == *link
 }
 
+// The kind of link for a type of hierarchical relationship.
 fn kind_of(typ: HierType) -> LinkKind
     ensures { result ≡ hier_kind typ }
 {
@@ -153,7 +162,7 @@ fn kind_of(typ: HierType) -> LinkKind
     }
 }
 
-// The link that a row of hier tells.
+// The link that a row of table hier encodes.
 fn link_of(row: &HierRow) -> Link
     ensures { result ≡ hier_link row.now }
 {

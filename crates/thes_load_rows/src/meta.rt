@@ -1,4 +1,4 @@
-//! The row of meta.
+//! Table meta, which has one row.
 ghost use Rattle.std.specs.Prelude.{IfOk};
 ghost use Rattle.thes_load_rows.specs.Version.{SpellsMeta};
 
@@ -8,7 +8,7 @@ use thes_base::form::BaseForm;
 use thes_base::text::Base;
 use thes_tables::cells::Cell;
 
-/// A row of meta: of a newer store, of an older one, or of one of this version with its base.
+/// A row of table meta: of a newer or an older version, or of this one, with the base.
 #[derive(Debug, Drop)]
 pub enum MetaRow {
     Newer,
@@ -16,7 +16,7 @@ pub enum MetaRow {
     Base(Base),
 }
 
-/// Reads a row of meta.
+/// Parses a row of table meta.
 pub fn meta_in(alloc: Global, cells: &[Cell]) -> Result<Option<MetaRow>, AllocError>
     ensures { IfOk result (SpellsMeta cells.now) }
 {

@@ -1,14 +1,14 @@
-//! The rows of move.
+//! Table move: its rows, and its rule.
 ghost use Rattle.std.specs.Prelude.{◌≡◌, ◌<◌, ◌+◌, ◌↔◌, List, IsTrue, length, map, ◌^◌};
 ghost use Rattle.thes_base.specs.declared.data.Resource.{Resource};
-ghost use Rattle.thes_base.specs.Resources.{numbered};
+ghost use Rattle.thes_base.specs.Resources.{entry_at};
 ghost use Rattle.thes_tables.specs.declared.rows.PostingRow.{PostingRow};
 ghost use Rattle.thes_tables.specs.declared.rows.MoveRow.{MoveRow};
 ghost use Rattle.thes_load_rules.specs.Rules.{PostingRule, MoveRule};
 ghost use Rattle.thes_load_rows.specs.Forms.{HasMoveForm};
 ghost use Rattle.thes_tables.specs.Cells.{move_cells};
-ghost use Rattle.thes_load_rows.specs.Reading.{Reads};
-ghost use Rattle.thes_load_rows.specs.Taken.{Takes, HasMoves, IsNextMove, AreAt};
+ghost use Rattle.thes_load_rows.specs.ReadResults.{ReadResult};
+ghost use Rattle.thes_load_rows.specs.RowsSoFar.{TakeResult, HasMoves, IsNextMove, AreSamePlaces};
 
 use crate::ends::is_concept;
 use crate::rows::move_in;
@@ -17,7 +17,7 @@ use thes_base::number::{PostNo, ResNo};
 use thes_tables::cells::Cell;
 use thes_tables::rows::MoveRow;
 
-/// Keeps of the rows of move how many there were, and the place of each posting to which they lead.
+/// What is kept of the rows of table move so far: their number, and the place of each posting after them.
 #[derive(Drop)]
 pub struct MoveLoad {
     pub places: Vec<ResNo>,
@@ -25,13 +25,14 @@ pub struct MoveLoad {
     ghost few: { taken < 2 ^ 32 },
 }
 
+// The place of a posting.
 fn place_at(places: &[ResNo], number: PostNo) -> Option<ResNo>
-    ensures { result ≡ numbered places.now number }
+    ensures { result ≡ entry_at places.now number }
 {
     places.get(number.get() as usize - 1).copied()
 }
 
-// Whether a move goes on from the places, and is the next one.
+// Whether a move meets the rule as the next one, given the places before it.
 fn is_next(places: &[ResNo], resources: &[Resource], taken: u64, step: &MoveRow) -> bool
     requires { taken < u64.MAX }
     ensures { IsTrue result ↔ IsNextMove resources.now places.now taken step.now }
@@ -42,14 +43,14 @@ fn is_next(places: &[ResNo], resources: &[Resource], taken: u64, step: &MoveRow)
         && is_concept(resources, step.target)
 }
 
-// Follows a move from the places to which those before it lead. A row that breaks the rule changes nothing.
+// Applies a move to the places, or returns false if it breaks the rule.
 fn follow(places: &mut [ResNo], resources: &[Resource], taken: u64, step: &MoveRow) -> bool
     requires room { taken < u64.MAX }
     requires form { HasMoveForm step.now }
     ensures number { IsTrue result → step.now.number ≡ taken + 1 }
     ensures takes { (postings : List PostingRow) (rows : List MoveRow)
         → HasMoves resources.now postings taken places.old rows
-        → Takes (HasMoves resources.now postings (taken + 1) places.new)
+        → TakeResult (HasMoves resources.now postings (taken + 1) places.new)
         (MoveRule resources.now postings) rows step.now result }
 {
     if is_next(places, resources, taken, step) {
@@ -60,26 +61,26 @@ fn follow(places: &mut [ResNo], resources: &[Resource], taken: u64, step: &MoveR
     }
 }
 
-// The same in a vector.
+// Applies a move to the places in a vector, as `follow` does.
 fn follow_in(places: &mut Vec<ResNo>, resources: &[Resource], taken: u64, step: &MoveRow) -> bool
     requires room { taken < u64.MAX }
     requires form { HasMoveForm step.now }
     ensures number { IsTrue result → step.now.number ≡ taken + 1 }
     ensures takes { (postings : List PostingRow) (rows : List MoveRow)
         → HasMoves resources.now postings taken places.old.items rows
-        → Takes (HasMoves resources.now postings (taken + 1) places.new.items)
+        → TakeResult (HasMoves resources.now postings (taken + 1) places.new.items)
         (MoveRule resources.now postings) rows step.now result }
 {
     follow(places.as_mut_slice(), resources, taken, step)
 }
 
 impl MoveLoad {
-    /// Takes the next row, or answers false if it breaks the rule.
+    /// Applies the next row, or returns false if it breaks the rule.
     pub fn take(&mut self, resources: &[Resource], step: &MoveRow) -> bool
         requires { HasMoveForm step.now }
         ensures { (postings : List PostingRow) (rows : List MoveRow)
             → HasMoves resources.now postings self.old.taken self.old.places.items rows
-            → Takes (HasMoves resources.now postings self.new.taken self.new.places.items)
+            → TakeResult (HasMoves resources.now postings self.new.taken self.new.places.items)
             (MoveRule resources.now postings) rows step.now result }
     {
         if follow_in(&mut self.places, resources, self.taken, step) {
@@ -90,12 +91,14 @@ impl MoveLoad {
         }
     }
 
-    /// Reads the next row, or answers false if it breaks the rule or is none.
+    /// Parses the next row and applies it, or returns false if it is faulty.
     pub fn read(&mut self, resources: &[Resource], cells: &[Cell]) -> bool
         requires { length resources.now < 2 ^ 32 }
-        ensures { (postings : List PostingRow) (rows : List MoveRow) → PostingRule resources.now postings
+        ensures { (postings : List PostingRow) (rows : List MoveRow)
+            → PostingRule resources.now postings
             → HasMoves resources.now postings self.old.taken self.old.places.items rows
-            → Reads (map move_cells) (HasMoves resources.now postings self.new.taken self.new.places.items)
+            → ReadResult (map move_cells)
+            (HasMoves resources.now postings self.new.taken self.new.places.items)
             (MoveRule resources.now postings) rows cells.now result }
     {
         match move_in(cells) {
@@ -104,23 +107,23 @@ impl MoveLoad {
         }
     }
 
-    /// Checks whether each posting stands at the end where its row has it.
-    pub fn close(&self, ats: &[ResNo]) -> bool
+    /// Checks whether the moves lead to the places `stored_places` of the rows of table posting.
+    pub fn close(&self, stored_places: &[ResNo]) -> bool
         ensures { (resources : List Resource) (postings : List PostingRow) (rows : List MoveRow)
             → HasMoves resources postings self.now.taken self.now.places.items rows
-            → ats.now ≡ map (λ (p : PostingRow). p.place) postings
+            → stored_places.now ≡ map (λ (p : PostingRow). p.place) postings
             → IsTrue result ↔ MoveRule resources postings rows }
     {
-        are_at(self.places.as_slice(), ats)
+        are_same_places(self.places.as_slice(), stored_places)
     }
 }
 
-// Whether the places are these.
-fn are_at(places: &[ResNo], ats: &[ResNo]) -> bool
-    ensures { IsTrue result ↔ AreAt places.now ats.now }
+// Whether the two lists of places agree.
+fn are_same_places(places: &[ResNo], stored_places: &[ResNo]) -> bool
+    ensures { IsTrue result ↔ AreSamePlaces places.now stored_places.now }
 {
-    for i in 0..ats.len() {
-        if places.get(i).copied() != Some(ats[i]) {
+    for i in 0..stored_places.len() {
+        if places.get(i).copied() != Some(stored_places[i]) {
             return false;
         }
     }

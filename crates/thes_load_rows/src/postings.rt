@@ -1,13 +1,13 @@
-//! The rows of posting.
+//! Table posting: its rows, and its rule.
 ghost use Rattle.std.specs.Prelude.{◌≤◌, ◌<◌, ◌↔◌, List, IsTrue, IfOk, length, map, ◌^◌, ◌≡◌, []};
 ghost use Rattle.thes_base.specs.declared.data.Resource.{Resource};
 ghost use Rattle.thes_tables.specs.declared.rows.PostingRow.{PostingRow};
 ghost use Rattle.thes_load_rules.specs.Rules.{PostingRule};
 ghost use Rattle.thes_load_rows.specs.Forms.{HasPostingForm};
 ghost use Rattle.thes_tables.specs.Cells.{posting_cells};
-ghost use Rattle.thes_load_rows.specs.Reading.{Reads};
-ghost use Rattle.thes_load_rows.specs.Placed.{ArePlaced};
-ghost use Rattle.thes_load_rows.specs.Taken.{Takes, HasPostings, HasMoves, IsNextPosting, KeyIsTaken};
+ghost use Rattle.thes_load_rows.specs.ReadResults.{ReadResult};
+ghost use Rattle.thes_load_rows.specs.PostingPlaces.{ArePlaced};
+ghost use Rattle.thes_load_rows.specs.RowsSoFar.{TakeResult, HasPostings, HasMoves, IsNextPosting, KeyIsTaken};
 
 use crate::ends::{is_concept, is_live};
 use crate::moves::MoveLoad;
@@ -21,25 +21,25 @@ use thes_post::tally::Tally;
 use thes_tables::cells::Cell;
 use thes_tables::rows::PostingRow;
 
-/// Keeps of the rows of posting their keys, their first concepts, their places and their sums.
+/// What is kept of the rows of table posting so far: keys, first concepts, places and counts.
 #[derive(Drop)]
 pub struct PostingLoad {
     pub keys: BTreeSet<Key>,
     pub firsts: Vec<ResNo>,
-    pub ats: Vec<ResNo>,
+    pub stored_places: Vec<ResNo>,
     pub tally: Tally,
     ghost few: { length firsts.items < 2 ^ 32 },
     ghost told: { tally.accepted ≤ length firsts.items },
 }
 
-/// Where the rows of posting have the postings, and the sums of these.
+/// The places of all postings by the rows of table posting, and the counts of these.
 #[derive(Drop)]
 pub struct PlacedPostings {
-    pub ats: Vec<ResNo>,
+    pub stored_places: Vec<ResNo>,
     pub tally: Tally,
 }
 
-// Whether a row is the next one, but for its key.
+// Whether a row meets the rule as the next one, but for the uniqueness of its key.
 fn is_next(resources: &[Resource], taken: usize, row: &PostingRow) -> bool
     requires { taken < usize.MAX }
     ensures { IsTrue result ↔ IsNextPosting resources.now taken row.now }
@@ -50,7 +50,7 @@ fn is_next(resources: &[Resource], taken: usize, row: &PostingRow) -> bool
         && (row.withdrawn || is_live(resources, row.place))
 }
 
-// Adds a key, and answers whether it is new.
+// Inserts a key, and returns whether it is new.
 fn take_key(keys: &mut BTreeSet<Key>, key: Key) -> Result<bool, AllocError>
     ensures { IfOk result (KeyIsTaken keys.old.keys keys.new.keys key) }
 {
@@ -59,25 +59,28 @@ fn take_key(keys: &mut BTreeSet<Key>, key: Key) -> Result<bool, AllocError>
 }
 
 impl PostingLoad {
-    /// Starts with no row.
+    /// Returns a load without rows.
     pub fn new(alloc: Global) -> PostingLoad
         ensures { (resources : List Resource)
-            → HasPostings resources result.keys.keys result.firsts.items result.ats.items result.tally [] }
+            → HasPostings resources result.keys.keys result.firsts.items
+            result.stored_places.items result.tally [] }
     {
         PostingLoad {
             keys: BTreeSet::new(alloc),
             firsts: Vec::new(alloc),
-            ats: Vec::new(alloc),
+            stored_places: Vec::new(alloc),
             tally: Tally::new(alloc),
         }
     }
 
-    /// Takes the next row, or answers false if it breaks the rule.
+    /// Keeps the next row, or returns false if it breaks the rule.
     pub fn take(&mut self, resources: &[Resource], row: PostingRow) -> Result<bool, AllocError>
         requires { HasPostingForm row }
         ensures { IfOk result (λ good. (rows : List PostingRow)
-            → HasPostings resources.now self.old.keys.keys self.old.firsts.items self.old.ats.items self.old.tally rows
-            → Takes (HasPostings resources.now self.new.keys.keys self.new.firsts.items self.new.ats.items self.new.tally)
+            → HasPostings resources.now self.old.keys.keys self.old.firsts.items
+            self.old.stored_places.items self.old.tally rows
+            → TakeResult (HasPostings resources.now self.new.keys.keys self.new.firsts.items
+            self.new.stored_places.items self.new.tally)
             (PostingRule resources.now) rows row good) }
     {
         if is_next(resources, self.firsts.len(), &row) {
@@ -86,8 +89,8 @@ impl PostingLoad {
             let withdrawn = row.withdrawn;
             if take_key(&mut self.keys, row.key)? {
                 self.firsts.push(first)?;
-                self.ats.push(place)?;
-                self.tally.tell(place, withdrawn)?;
+                self.stored_places.push(place)?;
+                self.tally.count_posting(place, withdrawn)?;
                 Ok(true)
             } else {
                 Ok(false)
@@ -97,7 +100,7 @@ impl PostingLoad {
         }
     }
 
-    /// Reads the next row, or answers false if it breaks the rule or is none.
+    /// Parses the next row and keeps it, or returns false if it is faulty.
     pub fn read(
         &mut self,
         alloc: Global,
@@ -106,9 +109,11 @@ impl PostingLoad {
     ) -> Result<bool, AllocError>
         requires { length resources.now < 2 ^ 32 }
         ensures { IfOk result (λ good. (rows : List PostingRow)
-            → HasPostings resources.now self.old.keys.keys self.old.firsts.items self.old.ats.items self.old.tally rows
-            → Reads (map posting_cells)
-            (HasPostings resources.now self.new.keys.keys self.new.firsts.items self.new.ats.items self.new.tally)
+            → HasPostings resources.now self.old.keys.keys self.old.firsts.items
+            self.old.stored_places.items self.old.tally rows
+            → ReadResult (map posting_cells)
+            (HasPostings resources.now self.new.keys.keys self.new.firsts.items
+            self.new.stored_places.items self.new.tally)
             (PostingRule resources.now) rows cells.now good) }
     {
         match posting_in(alloc, cells)? {
@@ -120,10 +125,11 @@ impl PostingLoad {
         }
     }
 
-    /// Answers what the rows of move go on from: where each posting stood first, and where its row has it.
+    /// Splits what is kept: first concepts, where the moves begin, and places, where they must end.
     pub fn close(self) -> (MoveLoad, PlacedPostings)
         ensures { (resources : List Resource) (rows : List PostingRow)
-            → HasPostings resources self.keys.keys self.firsts.items self.ats.items self.tally rows
+            → HasPostings resources self.keys.keys self.firsts.items
+            self.stored_places.items self.tally rows
             → HasMoves resources rows result.0.taken result.0.places.items []
             × ArePlaced result.1 rows }
     {
@@ -132,7 +138,7 @@ impl PostingLoad {
             taken: 0,
         };
         let placed = PlacedPostings {
-            ats: self.ats,
+            stored_places: self.stored_places,
             tally: self.tally,
         };
         (moves, placed)

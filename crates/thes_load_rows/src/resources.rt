@@ -1,11 +1,11 @@
-//! The rows of resource.
+//! Table resource: its rows, and its rule.
 ghost use Rattle.std.specs.Prelude.{◌≡◌, ◌<◌, ◌^◌, ◌↔◌, List, IsTrue, IfOk, [], length};
 ghost use Rattle.thes_base.specs.declared.data.Resource.{Resource};
 ghost use Rattle.thes_base.specs.Resources.{IsScheme, scheme_of, replacement_of};
 ghost use Rattle.thes_load_rules.specs.Rules.{ResourceRule};
 ghost use Rattle.thes_tables.specs.Cells.{resource_rows};
-ghost use Rattle.thes_load_rows.specs.Reading.{Reads};
-ghost use Rattle.thes_load_rows.specs.Fitting.{IsNextResource, SchemeFits, ReplacementFits, Fits, EachFits, AreApart, HasReturn, is_cycle};
+ghost use Rattle.thes_load_rows.specs.ReadResults.{ReadResult};
+ghost use Rattle.thes_load_rows.specs.ResourceChecks.{IsNextResource, SchemeFits, ReplacementFits, ResourceFits, EachResourceFits, AreApart, HasReturn, is_cycle};
 
 use crate::ends::{is_concept, resource_at};
 use crate::rows::{ResourceRow, resource_in};
@@ -16,7 +16,7 @@ use thes_base::number::ResNo;
 use thes_graph::graph::Graph;
 use thes_tables::cells::Cell;
 
-/// Keeps all of the rows of resource.
+/// The rows of table resource so far, all of which are kept.
 #[derive(Drop)]
 pub struct ResourceLoad {
     pub resources: Vec<Resource>,
@@ -24,7 +24,7 @@ pub struct ResourceLoad {
 }
 
 impl ResourceLoad {
-    /// Starts with no row.
+    /// Returns a load without rows.
     pub fn new(alloc: Global) -> ResourceLoad
         ensures { result.resources.items ≡ [] }
     {
@@ -33,9 +33,10 @@ impl ResourceLoad {
         }
     }
 
-    /// Takes the next row, or answers false if it has another number.
+    /// Appends a row, or returns false if its number isn't the next one.
     pub fn take(&mut self, row: &ResourceRow) -> Result<bool, AllocError>
-        ensures { IfOk result (IsNextResource self.old.resources.items self.new.resources.items row.now) }
+        ensures { IfOk result
+            (IsNextResource self.old.resources.items self.new.resources.items row.now) }
     {
         if row.number.get() as usize == self.resources.len() + 1 {
             self.resources.push(row.resource)?;
@@ -45,9 +46,10 @@ impl ResourceLoad {
         }
     }
 
-    /// Reads the next row, or answers false if it breaks the rule or is none.
+    /// Parses a row and appends it, or returns false if it is faulty.
     pub fn read(&mut self, cells: &[Cell]) -> Result<bool, AllocError>
-        ensures { IfOk result (Reads (resource_rows 1) (λ rows. rows ≡ self.new.resources.items) ResourceRule
+        ensures { IfOk result
+            (ReadResult (resource_rows 1) (λ rows. rows ≡ self.new.resources.items) ResourceRule
             self.old.resources.items cells.now) }
     {
         match resource_in(cells) {
@@ -59,7 +61,7 @@ impl ResourceLoad {
         }
     }
 
-    /// Checks whether the resources meet the rule.
+    /// Checks whether the resources meet the rule of the table.
     pub fn close(&self, alloc: Global) -> Result<bool, AllocError>
         ensures { IfOk result (λ good. IsTrue good ↔ ResourceRule self.now.resources.items) }
     {
@@ -67,7 +69,7 @@ impl ResourceLoad {
     }
 }
 
-// Whether resources are legal among themselves.
+// Whether each resource is legal among the others, and replacements have no cycle.
 fn are_legal(alloc: Global, resources: &[Resource]) -> Result<bool, AllocError>
     requires { length resources.now < 2 ^ 32 }
     ensures { IfOk result (λ good. IsTrue good ↔ ResourceRule resources.now) }
@@ -83,9 +85,10 @@ fn are_legal(alloc: Global, resources: &[Resource]) -> Result<bool, AllocError>
     }
 }
 
+// Whether each resource is legal among the others.
 fn each_fits(resources: &[Resource]) -> bool
     requires { length resources.now < 2 ^ 32 }
-    ensures { IsTrue result ↔ EachFits resources.now }
+    ensures { IsTrue result ↔ EachResourceFits resources.now }
 {
     for i in 0..resources.len() {
         let n = ResNo::new(i as u32 + 1);
@@ -98,9 +101,9 @@ fn each_fits(resources: &[Resource]) -> bool
     true
 }
 
-// Whether a resource is as its kind asks.
+// Whether a resource has the scheme, the status and the replacement that its kind requires.
 fn fits(resources: &[Resource], n: ResNo, r: &Resource) -> bool
-    ensures { IsTrue result ↔ Fits resources.now n r.now }
+    ensures { IsTrue result ↔ ResourceFits resources.now n r.now }
 {
     scheme_fits(resources, r.kind, r.scheme)
         && (r.live || r.kind == ResourceKind::Concept)
@@ -148,8 +151,7 @@ fn replacement_fits(resources: &[Resource], n: ResNo, r: &Resource) -> bool
     }
 }
 
-// Whether a chain of replacements comes back to where it began. The replacements are seen as links to something
-// broader, of which a graph tells whether they have a cycle.
+// Whether replacements have a cycle: they are checked as the links of a graph, from each resource to a broader one.
 fn returns(alloc: Global, resources: &[Resource]) -> Result<bool, AllocError>
     requires few { length resources.now < 2 ^ 32 }
     requires apart { AreApart resources.now }
@@ -170,6 +172,7 @@ fn returns(alloc: Global, resources: &[Resource]) -> Result<bool, AllocError>
     if is_cycle(first) { Ok(true) } else { Ok(false) }
 }
 
+// Whether the first broken rule is that links have no cycle.
 fn is_cycle(first: Option<Refusal>) -> bool
     ensures { result ≡ is_cycle first }
 {

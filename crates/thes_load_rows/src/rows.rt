@@ -1,8 +1,8 @@
-//! What rows of cells spell, table by table.
+//! Parsers of rows of cells, one for each table.
 ghost use Rattle.std.specs.Prelude.{IfOk};
 ghost use Rattle.thes_tables.specs.Cells.{outside_cells, label_cells, link_cells, hier_cells, posting_cells, move_cells};
 ghost use Rattle.thes_load_rows.specs.Forms.{HasResourceForm, HasOutsideForm, HasLabelForm, HasLinkForm, HasHierForm, HasPostingForm, HasMoveForm};
-ghost use Rattle.thes_load_rows.specs.Spelled.{Spells, row_cells};
+ghost use Rattle.thes_load_rows.specs.CellSpelling.{Spells, row_cells};
 
 use crate::cells::{
     flag_in, hier_type_in, label_kind_in, link_kind_in, number_in, optional_in, resource_kind_in,
@@ -15,14 +15,14 @@ use thes_base::number::{MoveNo, PostNo, ResNo};
 use thes_tables::cells::Cell;
 use thes_tables::rows::{HierRow, LabelRow, MoveRow, OutsideRow, PostingRow};
 
-/// A row of resource.
+/// A row of table resource.
 #[derive(Clone, Copy, Debug)]
 pub struct ResourceRow {
     pub number: ResNo,
     pub resource: Resource,
 }
 
-/// Reads a row of resource.
+/// Parses a row of table resource.
 pub fn resource_in(cells: &[Cell]) -> Option<ResourceRow>
     ensures { Spells row_cells HasResourceForm cells.now result }
 {
@@ -45,7 +45,7 @@ pub fn resource_in(cells: &[Cell]) -> Option<ResourceRow>
     })
 }
 
-/// Reads a row of outside.
+/// Parses a row of table outside.
 pub fn outside_in(alloc: Global, cells: &[Cell]) -> Result<Option<OutsideRow>, AllocError>
     ensures { IfOk result (Spells outside_cells HasOutsideForm cells.now) }
 {
@@ -64,7 +64,7 @@ pub fn outside_in(alloc: Global, cells: &[Cell]) -> Result<Option<OutsideRow>, A
     }
 }
 
-/// Reads a row of label.
+/// Parses a row of table label.
 pub fn label_in(alloc: Global, cells: &[Cell]) -> Result<Option<LabelRow>, AllocError>
     ensures { IfOk result (Spells label_cells HasLabelForm cells.now) }
 {
@@ -89,7 +89,7 @@ pub fn label_in(alloc: Global, cells: &[Cell]) -> Result<Option<LabelRow>, Alloc
     }
 }
 
-/// Reads a row of link.
+/// Parses a row of table link.
 pub fn link_in(cells: &[Cell]) -> Option<Link>
     ensures { Spells link_cells HasLinkForm cells.now result }
 {
@@ -106,7 +106,7 @@ pub fn link_in(cells: &[Cell]) -> Option<Link>
     })
 }
 
-/// Reads a row of hier.
+/// Parses a row of table hier.
 pub fn hier_in(cells: &[Cell]) -> Option<HierRow>
     ensures { Spells hier_cells HasHierForm cells.now result }
 {
@@ -123,7 +123,7 @@ pub fn hier_in(cells: &[Cell]) -> Option<HierRow>
     })
 }
 
-/// Reads a row of posting.
+/// Parses a row of table posting.
 pub fn posting_in(alloc: Global, cells: &[Cell]) -> Result<Option<PostingRow>, AllocError>
     ensures { IfOk result (Spells posting_cells HasPostingForm cells.now) }
 {
@@ -158,7 +158,7 @@ pub fn posting_in(alloc: Global, cells: &[Cell]) -> Result<Option<PostingRow>, A
     }
 }
 
-/// Reads a row of move.
+/// Parses a row of table move.
 pub fn move_in(cells: &[Cell]) -> Option<MoveRow>
     ensures { Spells move_cells HasMoveForm cells.now result }
 {

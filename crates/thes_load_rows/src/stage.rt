@@ -1,11 +1,11 @@
-//! What is kept while the rows of one table are read.
+//! The state of a load while the rows of one table come.
 ghost use Rattle.std.specs.Prelude.{◌≡◌, ◌↔◌, ◌<◌, ◌≤◌, IsTrue, IfOk};
 ghost use Rattle.thes_load_rows.specs.Progress.{stage_table, is_stopped, next_table, table_no, ReadsRow, Closes, Reaches};
 
 use crate::closing::{
     close_hier, close_label, close_meta, close_outside, close_posting, close_resource,
 };
-use crate::linked::LinkedVocab;
+use crate::linked_vocab::LinkedVocab;
 use crate::meta::{MetaRow, meta_in};
 use crate::moves::MoveLoad;
 use crate::names::{OutsideLoad, read_label};
@@ -17,8 +17,7 @@ use thes_base::text::Base;
 use thes_tables::cells::Cell;
 use thes_vocab::VocabLoad;
 
-/// A stage of a load: what is kept while the rows of one table are read, or the fault that was found, and the table
-/// that is read then.
+/// The state of a load, by its current table: what is kept of the rows so far, or the first fault with that table.
 #[derive(Drop)]
 pub enum Stage {
     Meta(Option<MetaRow>),
@@ -33,8 +32,8 @@ pub enum Stage {
 }
 
 impl Stage {
-    /// Tells the table that is read.
-    pub fn at(&self) -> Table
+    /// Returns the current table: the one whose rows come.
+    pub fn current_table(&self) -> Table
         ensures { result ≡ stage_table self.now }
     {
         match self {
@@ -46,18 +45,18 @@ impl Stage {
             Stage::Hier(_) => Table::Hier,
             Stage::Posting(_, _) => Table::Posting,
             Stage::Move(_, _, _) => Table::Move,
-            Stage::Stopped(_, at) => *at,
+            Stage::Stopped(_, current_table) => *current_table,
         }
     }
 
-    /// Tells whether the rows of this table have ended.
+    /// Returns whether the load is past the rows of this table.
     pub fn is_past(&self, table: Table) -> bool
         ensures { IsTrue result ↔ (table_no table < table_no (stage_table self.now)) }
     {
-        number(table) < number(self.at())
+        number(table) < number(self.current_table())
     }
 
-    /// Tells whether a fault was found.
+    /// Returns whether the load has stopped with a fault.
     pub(crate) fn is_stopped(&self) -> bool
         ensures { result ≡ is_stopped self.now }
     {
@@ -67,7 +66,7 @@ impl Stage {
         }
     }
 
-    /// Reads the next row of the table that is read, or answers false if it breaks the rule or is none.
+    /// Parses the next row of the current table and keeps it, or returns false if it is faulty.
     pub(crate) fn read(&mut self, alloc: Global, cells: &[Cell]) -> Result<bool, AllocError>
         ensures { IfOk result (ReadsRow self.old self.new cells.now) }
     {
@@ -85,15 +84,22 @@ impl Stage {
             Stage::Resource(_, load) => load.read(cells),
             Stage::Outside(load) => load.read(alloc, cells),
             Stage::Label(vocab) => read_label(vocab, alloc, cells),
-            Stage::Link(linked) => linked.read_link(cells),
-            Stage::Hier(linked) => linked.read_hier(cells),
-            Stage::Posting(linked, load) => load.read(alloc, linked.vocab.resources(), cells),
-            Stage::Move(linked, _, load) => Ok(load.read(linked.vocab.resources(), cells)),
+            Stage::Link(linked_vocab) => linked_vocab.read_link(cells),
+            Stage::Hier(linked_vocab) => linked_vocab.read_hier(cells),
+            Stage::Posting(linked_vocab, load) => load.read(
+                alloc,
+                linked_vocab.vocab.resources(),
+                cells,
+            ),
+            Stage::Move(linked_vocab, _, load) => Ok(load.read(
+                linked_vocab.vocab.resources(),
+                cells,
+            )),
             Stage::Stopped(_, _) => Ok(true),
         }
     }
 
-    // Ends the rows of the table that is read, and goes on to the next one.
+    // Checks the current table as a whole, and moves on to the next one.
     fn close(self, alloc: Global) -> Result<Stage, AllocError>
         ensures { IfOk result (Closes self) }
     {
@@ -102,32 +108,32 @@ impl Stage {
             Stage::Resource(base, load) => close_resource(alloc, base, load),
             Stage::Outside(load) => Ok(close_outside(load)),
             Stage::Label(vocab) => close_label(alloc, vocab),
-            Stage::Link(linked) => Ok(Stage::Hier(linked)),
-            Stage::Hier(linked) => close_hier(alloc, linked),
-            Stage::Posting(linked, load) => Ok(close_posting(linked, load)),
-            Stage::Move(linked, placed, load) => Ok(Stage::Move(linked, placed, load)),
-            Stage::Stopped(fault, at) => Ok(Stage::Stopped(fault, next(at))),
+            Stage::Link(linked_vocab) => Ok(Stage::Hier(linked_vocab)),
+            Stage::Hier(linked_vocab) => close_hier(alloc, linked_vocab),
+            Stage::Posting(linked_vocab, load) => Ok(close_posting(linked_vocab, load)),
+            Stage::Move(linked_vocab, placed, load) => Ok(Stage::Move(linked_vocab, placed, load)),
+            Stage::Stopped(fault, current_table) => Ok(Stage::Stopped(fault, next(current_table))),
         }
     }
 
-    /// Ends the rows of the tables before this one, so that this one is read.
+    /// Closes the tables before this one, which becomes the current one.
     pub(crate) fn reach(self, alloc: Global, table: Table) -> Result<Stage, AllocError>
         requires { table_no (stage_table self) ≤ table_no table }
         ensures { IfOk result (λ new. Reaches self new table) }
     {
         let mut stage = self;
-        for i in number(stage.at())..number(table) {
+        for i in number(stage.current_table())..number(table) {
             stage = stage.close(alloc)?;
         }
         Ok(stage)
     }
 }
 
-// The table that is read after this one.
-fn next(at: Table) -> Table
-    ensures { result ≡ next_table at }
+// The table after this one; the last is its own successor.
+fn next(current_table: Table) -> Table
+    ensures { result ≡ next_table current_table }
 {
-    match at {
+    match current_table {
         Table::Meta => Table::Resource,
         Table::Resource => Table::Outside,
         Table::Outside => Table::Label,
@@ -138,7 +144,7 @@ fn next(at: Table) -> Table
     }
 }
 
-// The place of a table in the order in which they are read.
+// The index of a table in the order of a load.
 fn number(table: Table) -> u32
     ensures { result ≡ table_no table }
 {

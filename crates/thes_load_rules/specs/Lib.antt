@@ -1,3 +1,3 @@
 pub mod Rules
-pub mod Loads
+pub mod Verdicts
 pub mod Laws

@@ -1,22 +1,22 @@
-//! What holds of rows, whatever reads them.
-ghost use Rattle.thes_load_rules.specs.Laws.{OneVerdict, LoadsLegal, LegalLoads, JudgesInTurn};
+//! Laws of the verdict on rows of cells.
+ghost use Rattle.thes_load_rules.specs.Laws.{OneVerdict, LoadedIsLegal, LegalStateLoads, TablesCheckedInTurn};
 
-/// States that rows have at most one verdict.
+/// No effect; states for the proof that rows have at most one verdict.
 pub fn one_verdict()
     ensures { OneVerdict }
 {}
 
-/// States that rows which load are the rows of a legal state, the one that they tell.
-pub fn loads_legal()
-    ensures { LoadsLegal }
+/// No effect; states for the proof that rows that load encode a legal state.
+pub fn loaded_is_legal()
+    ensures { LoadedIsLegal }
 {}
 
-/// States that the rows of a legal state load, and tell it.
-pub fn legal_loads()
-    ensures { LegalLoads }
+/// No effect; states for the proof that the rows of a legal state load, and encode it.
+pub fn legal_state_loads()
+    ensures { LegalStateLoads }
 {}
 
-/// States that tables are judged in turn: the first that has no rows which meet its rule is named.
-pub fn judges_in_turn()
-    ensures { JudgesInTurn }
+/// No effect; states for the proof that tables are checked in order, and the first one to break its rule is faulty.
+pub fn tables_checked_in_turn()
+    ensures { TablesCheckedInTurn }
 {}

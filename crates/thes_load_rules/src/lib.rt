@@ -1,4 +1,4 @@
-//! Which rows are those of a legal state, and which table of others is the first that is faulty.
+//! The verdict on rows of cells: the tables of a legal state that they encode, or the first faulty table.
 #![tactic(auto)]
 
 pub mod laws;

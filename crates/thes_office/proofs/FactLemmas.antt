@@ -1,5 +1,6 @@
--- What a keeper tells of postings, and what it says of their histories.
-use Rattle.std.proofs.Common.{◌≡◌, ℕ, zero, suc, List, [], ◌∷◌, ◌++◌, refl, sym, ap, subst, ◌∙◌, inl, inr, map, append_assoc, append-nil}
+-- Proves that the facts queried from a keeper are those of the histories of the state.
+use Rattle.std.proofs.Common.{◌≡◌, ℕ, zero, suc, List, [], ◌∷◌, ◌++◌, refl, sym, ap, subst, ◌∙◌, inl, inr, map}
+use Rattle.std.proofs.Common.{append_assoc, append-nil}
 use Rattle.std.specs.Prelude.{Option, None, Some, Result, Ok, slice_get, option_map, filter, Bool, true, false, cond}
 use Rattle.std.proofs.lemmas.List.{map-append}
 use Rattle.std.proofs.lemmas.Option.{same_Some}
@@ -8,111 +9,156 @@ use Rattle.thes_base.specs.declared.fault.Fault.{Fault}
 use Rattle.thes_base.specs.declared.request.Command.{Command}
 use Rattle.thes_base.specs.declared.request.Command.TheVariants as request
 use Rattle.thes_base.specs.Legal.{Legal}
-use Rattle.thes_base.specs.Postings.{stands_at}
-use Rattle.thes_base.specs.Resources.{numbered}
+use Rattle.thes_base.specs.Postings.{is_assigned_to}
+use Rattle.thes_base.specs.Resources.{entry_at}
 use Rattle.thes_base.specs.State.{State}
 use Rattle.thes_tables.specs.declared.rows.PostingRow.{PostingRow}
 use Rattle.thes_tables.specs.Cells.{Raw}
 use Rattle.thes_tables.specs.Tables.{IsIn, posting_row}
 use Rattle.thes_core.specs.declared.facts.Facts.{Facts}
-use Rattle.thes_core.specs.Facts.{AreFacts, IsRowOfKey, row_at, standing_numbers}
-use Rattle.thes_store.specs.Handing.{Takes}
-use Rattle.thes_store.specs.Reading.{IsFound, standing_rows}
-use Rattle.thes_office.specs.Asks.{Asks, PushesNumber, TellsRow, TellsRows}
-use Rattle.thes_office.specs.Shows.{Shows}
+use Rattle.thes_core.specs.Facts.{AreFacts, IsRowOfKey, posting_row_at, standing_numbers}
+use Rattle.thes_store.specs.Sinks.{SinkAcceptsAll}
+use Rattle.thes_store.specs.Reading.{IsPostingOfKey, standing_rows}
+use Rattle.thes_office.specs.QueryFrames.{QueryFrame, PushesNumber, RowInTables, RowsInTables}
+use Rattle.thes_office.specs.TablesOfState.{TablesOfState}
 
--- a row among them is a history's
-in_rows : (hs : List History) (row : PostingRow) → IsIn row (map posting_row hs) → (i : ℕ) × (h : History) × (slice_get hs i ≡ Some h) × (row ≡ posting_row h)
+-- Each row is that of a history.
+in_rows : (hs : List History) (row : PostingRow) → IsIn row (map posting_row hs) → (i : ℕ) × (h : History)
+    × (slice_get hs i ≡ Some h) × (row ≡ posting_row h)
 in_rows [] row has = absurd has
 in_rows (h ∷ hs) row (inl same) = (0, h, refl, same)
 in_rows (h ∷ hs) row (inr later) = let r = in_rows hs row later in (suc r.0, r.1, r.2, r.3)
 
--- and that of a history is among them
+-- The row of each history is among the rows.
 row_in : (hs : List History) (i : ℕ) (h : History) → slice_get hs i ≡ Some h → IsIn (posting_row h) (map posting_row hs)
 row_in [] i h at = absurd (cc)
 row_in (g ∷ hs) zero h at = inl (ap posting_row (same_Some _ _ (sym at)))
 row_in (g ∷ hs) (suc i) h at = inr (row_in hs i h at)
 
-pub found_key : (base : List ℕ) (s : State) (rows : List PostingRow) (key : List ℕ) (found : Option PostingRow) → Legal base s → rows ≡ map posting_row s.histories → IsFound key rows found → IsRowOfKey key s.histories found
+-- The row found for a key is that of its history.
+pub found_key : (base : List ℕ) (s : State) (rows : List PostingRow) (key : List ℕ) (found : Option PostingRow)
+    → Legal base s → rows ≡ map posting_row s.histories → IsPostingOfKey key rows found → IsRowOfKey key s.histories
+    found
 found_key base s rows key (Some row) legal is f =
     let has = f.0 in
     let of_key = f.1 in
     let r = in_rows s.histories row (subst (IsIn row) is has) in
     let number : r.1.number ≡ suc r.0 = (legal.postings.sound (suc r.0) r.1 r.2).number in
-    (r.1, (ap (numbered s.histories) number ∙ r.2, ap (λ (x : PostingRow). x.key) (sym r.3) ∙ of_key), r.3)
+    (r.1, (ap (entry_at s.histories) number ∙ r.2, ap (λ (x : PostingRow). x.key) (sym r.3) ∙ of_key), r.3)
 found_key base s rows key None legal is never = λ h has. at h has.1 h.number has.0
   where
-    at : (h : History) → h.key ≡ key → (n : ℕ) → numbered s.histories n ≡ Some h → ⊥
+    at : (h : History) → h.key ≡ key → (n : ℕ) → entry_at s.histories n ≡ Some h → ⊥
     at h of_key zero e = absurd (cc)
-    at h of_key (suc i) e = never (posting_row h) (subst (IsIn (posting_row h)) (sym is) (row_in s.histories i h e)) of_key
+    at h of_key (suc i) e = never (posting_row h) (subst (IsIn (posting_row h)) (sym is) (row_in s.histories i h e))
+        of_key
 
-pub numbered_map : {A B : Type 0} (f : A → B) (xs : List A) (n : ℕ) → numbered (map f xs) n ≡ option_map f (numbered xs n)
+pub numbered_map : {A B : Type 0} (f : A → B) (xs : List A) (n : ℕ) → entry_at (map f xs) n
+    ≡ option_map f (entry_at xs n)
 numbered_map f xs zero = refl
 numbered_map f [] (suc n) = refl
 numbered_map f (x ∷ xs) (suc zero) = refl
 numbered_map f (x ∷ xs) (suc (suc n)) = numbered_map f xs (suc n)
 
--- those that stand at a concept, by their rows and by their histories
-pub standing_shown : (concept : ℕ) (hs : List History) → standing_rows concept (map posting_row hs) ≡ map posting_row (filter (stands_at concept) hs)
-standing_shown concept [] = refl
-standing_shown concept (h ∷ hs) = go (stands_at concept h) (standing_shown concept hs)
+-- The postings assigned to a concept, by rows and by histories.
+pub assigned_rows : (concept : ℕ) (hs : List History) → standing_rows concept (map posting_row hs)
+    ≡ map posting_row (filter (is_assigned_to concept) hs)
+assigned_rows concept [] = refl
+assigned_rows concept (h ∷ hs) = go (is_assigned_to concept h) (assigned_rows concept hs)
   where
-    go : (b : Bool) → standing_rows concept (map posting_row hs) ≡ map posting_row (filter (stands_at concept) hs)
-        → cond b (posting_row h ∷ standing_rows concept (map posting_row hs)) (standing_rows concept (map posting_row hs)) ≡ map posting_row (cond b (h ∷ filter (stands_at concept) hs) (filter (stands_at concept) hs))
+    go : (b : Bool) → standing_rows concept (map posting_row hs) ≡ map posting_row (filter (is_assigned_to concept) hs)
+        → cond b (posting_row h ∷ standing_rows concept (map posting_row hs))
+        (standing_rows concept (map posting_row hs))
+        ≡ map posting_row (cond b (h ∷ filter (is_assigned_to concept) hs) (filter (is_assigned_to concept) hs))
     go true e = ap (λ (rows : List PostingRow). posting_row h ∷ rows) e
     go false e = e
 
-pub numbers_taken : (old new : List ℕ) (rows : List PostingRow) → Takes PushesNumber old rows new → new ≡ old ++ map (λ (r : PostingRow). r.number) rows
+pub numbers_taken : (old new : List ℕ) (rows : List PostingRow) → SinkAcceptsAll PushesNumber old rows new → new ≡ old
+    ++ map (λ (r : PostingRow). r.number) rows
 numbers_taken old new [] took = took ∙ sym (append-nil old)
 numbers_taken old new (row ∷ rows) (mid, first, rest) =
-    numbers_taken mid new rows rest ∙ ap (λ (l : List ℕ). l ++ map (λ (r : PostingRow). r.number) rows) first ∙ append_assoc old (row.number ∷ []) (map (λ (r : PostingRow). r.number) rows)
+    numbers_taken mid new rows rest ∙ ap (λ (l : List ℕ). l ++ map (λ (r : PostingRow). r.number) rows) first
+    ∙ append_assoc old (row.number ∷ []) (map (λ (r : PostingRow). r.number) rows)
 
-numbers_of : (hs : List History) → map (λ (r : PostingRow). r.number) (map posting_row hs) ≡ map (λ (h : History). h.number) hs
+numbers_of : (hs : List History) → map (λ (r : PostingRow). r.number) (map posting_row hs)
+    ≡ map (λ (h : History). h.number) hs
 numbers_of [] = refl
 numbers_of (h ∷ hs) = ap (λ (l : List ℕ). h.number ∷ l) (numbers_of hs)
 
--- the numbers that were taken are those of the postings that stand there
-pub standing_taken : (s : State) (rows : List PostingRow) (concept : ℕ) (old new : List ℕ) → rows ≡ map posting_row s.histories → old ≡ [] → Takes PushesNumber old (standing_rows concept rows) new → new ≡ standing_numbers concept s.histories
-standing_taken s rows concept old new is none took =
+-- The numbers collected are those of the postings assigned to the concept.
+pub assigned_numbers : (s : State) (rows : List PostingRow) (concept : ℕ) (old new : List ℕ) → rows
+    ≡ map posting_row s.histories → old ≡ [] → SinkAcceptsAll PushesNumber old (standing_rows concept rows) new → new
+    ≡ standing_numbers concept s.histories
+assigned_numbers s rows concept old new is none took =
     numbers_taken old new (standing_rows concept rows) took
     ∙ ap (λ (l : List ℕ). l ++ map (λ (r : PostingRow). r.number) (standing_rows concept rows)) none
     ∙ ap (λ (l : List PostingRow). map (λ (r : PostingRow). r.number) (standing_rows concept l)) is
-    ∙ ap (map (λ (r : PostingRow). r.number)) (standing_shown concept s.histories)
-    ∙ numbers_of (filter (stands_at concept) s.histories)
+    ∙ ap (map (λ (r : PostingRow). r.number)) (assigned_rows concept s.histories)
+    ∙ numbers_of (filter (is_assigned_to concept) s.histories)
 
--- Postings were asked for one after another.
-pub record Telling {K : Type 0} (rows : K → Raw) (is_up : K → Type 0) (failed : K → ℕ) (old now : K) (ns : List ℕ) (told : List (Option PostingRow)) : Type 0 where
+-- The rows found so far, of postings queried one after another.
+pub record RowsReadSoFar {K : Type 0} (rows : K → Raw) (is_up : K → Type 0) (failed : K → ℕ) (old now : K)
+    (ns : List ℕ) (told : List (Option PostingRow)) : Type 0 where
   pub same : is_up now → rows now ≡ rows old
   pub was : is_up now → is_up old
   pub count : failed now ≡ failed old
-  pub told_all : is_up now → TellsRows (rows old) ns told
+  pub rows_are_read : is_up now → RowsInTables (rows old) ns told
 
-pub telling_more : {K : Type 0} (rows : K → Raw) (is_up : K → Type 0) (failed : K → ℕ) (old mid new : K) (ns more : List ℕ) (told last : List (Option PostingRow)) (n : ℕ) (row : Option PostingRow) → Telling rows is_up failed old mid ns told
-    → Asks rows is_up failed mid new (let x : Result (Option PostingRow) Fault = Ok row in x) → (is_up new → TellsRow (rows mid) n row) → more ≡ ns ++ n ∷ [] → last ≡ told ++ row ∷ [] → Telling rows is_up failed old new more last
-telling_more rows is_up failed old mid new ns more told last n row t asks one grown pushed = record {
+-- The rows found after one more query.
+pub rows_read_more : {K : Type 0} (rows : K → Raw) (is_up : K → Type 0) (failed : K → ℕ) (old mid new : K)
+    (ns more : List ℕ) (told last : List (Option PostingRow)) (n : ℕ) (row : Option PostingRow)
+    → RowsReadSoFar rows is_up failed old mid ns told
+    → QueryFrame rows is_up failed mid new (let x : Result (Option PostingRow) Fault = Ok row in x)
+    → (is_up new → RowInTables (rows mid) n row) → more ≡ ns ++ n ∷ [] → last ≡ told ++ row ∷ []
+    → RowsReadSoFar rows is_up failed old new more last
+rows_read_more rows is_up failed old mid new ns more told last n row t asks one grown pushed = record {
   same = λ up. asks.same up ∙ t.same (asks.was up);
   was = λ up. t.was (asks.was up);
   count = asks.cause ∙ t.count;
-  told_all = λ up base s x.
-      let here = one up base s (subst (λ (r : Raw). Shows r base s) (sym (t.same (asks.was up))) x) in
-      let before = t.told_all (asks.was up) base s x in
-      pushed ∙ (λ i. before i ++ here i ∷ []) ∙ sym (map-append (row_at s.histories) ns (n ∷ [])) ∙ ap (map (row_at s.histories)) (sym grown);
+  rows_are_read = λ up base s x.
+      let here = one up base s (subst (λ (r : Raw). TablesOfState r base s) (sym (t.same (asks.was up))) x) in
+      let before = t.rows_are_read (asks.was up) base s x in
+      pushed ∙ (λ i. before i ++ here i ∷ []) ∙ sym (map-append (posting_row_at s.histories) ns (n ∷ []))
+      ∙ ap (map (posting_row_at s.histories)) (sym grown);
 }
 
--- The facts of each request of which a keeper is asked.
+-- The facts for each request that needs them.
 module _ (hs : List History) (command : Command) where
-  pub facts_posted : (key rec : List ℕ) (concept : ℕ) (facts : Facts) → command ≡ request.Post key rec concept → IsRowOfKey key hs facts.known → facts.named.items ≡ [] → facts.standing.items ≡ [] → AreFacts command hs facts
-  facts_posted key rec concept facts is known named standing =
-      subst (λ (r : Command). AreFacts r hs facts) (sym is) record { known = known; named = named; standing = standing }
+  pub facts_of_post : (key rec : List ℕ) (concept : ℕ) (facts : Facts) → command ≡ request.Post key rec concept
+      → IsRowOfKey key hs facts.known → facts.named_postings.items ≡ [] → facts.standing.items ≡ []
+      → AreFacts command hs facts
+  facts_of_post key rec concept facts is known named_postings standing =
+      subst (λ (r : Command). AreFacts r hs facts) (sym is) record {
+        known = known;
+        named_postings = named_postings;
+        standing = standing;
+      }
 
-  pub facts_withdrawn : (posting : ℕ) (facts : Facts) → command ≡ request.Withdraw posting → facts.known ≡ None → facts.named.items ≡ map (row_at hs) (posting ∷ []) → facts.standing.items ≡ [] → AreFacts command hs facts
-  facts_withdrawn posting facts is known named standing =
-      subst (λ (r : Command). AreFacts r hs facts) (sym is) record { known = known; named = named; standing = standing }
+  pub facts_of_withdraw : (posting : ℕ) (facts : Facts) → command ≡ request.Withdraw posting → facts.known ≡ None
+      → facts.named_postings.items ≡ map (posting_row_at hs) (posting ∷ []) → facts.standing.items ≡ []
+      → AreFacts command hs facts
+  facts_of_withdraw posting facts is known named_postings standing =
+      subst (λ (r : Command). AreFacts r hs facts) (sym is) record {
+        known = known;
+        named_postings = named_postings;
+        standing = standing;
+      }
 
-  pub facts_split : (source : ℕ) (tag text postings : List ℕ) (facts : Facts) → command ≡ request.Split source tag text postings → facts.known ≡ None → facts.named.items ≡ map (row_at hs) postings → facts.standing.items ≡ [] → AreFacts command hs facts
-  facts_split source tag text postings facts is known named standing =
-      subst (λ (r : Command). AreFacts r hs facts) (sym is) record { known = known; named = named; standing = standing }
+  pub facts_split : (source : ℕ) (tag text postings : List ℕ) (facts : Facts) → command ≡ request.Split source tag
+      text postings → facts.known ≡ None → facts.named_postings.items ≡ map (posting_row_at hs) postings
+      → facts.standing.items ≡ [] → AreFacts command hs facts
+  facts_split source tag text postings facts is known named_postings standing =
+      subst (λ (r : Command). AreFacts r hs facts) (sym is) record {
+        known = known;
+        named_postings = named_postings;
+        standing = standing;
+      }
 
-  pub facts_merged : (source target : ℕ) (facts : Facts) → command ≡ request.Merge source target → facts.known ≡ None → facts.named.items ≡ [] → facts.standing.items ≡ standing_numbers source hs → AreFacts command hs facts
-  facts_merged source target facts is known named standing =
-      subst (λ (r : Command). AreFacts r hs facts) (sym is) record { known = known; named = named; standing = standing }
+  pub facts_of_merge : (source target : ℕ) (facts : Facts) → command ≡ request.Merge source target → facts.known
+      ≡ None → facts.named_postings.items ≡ [] → facts.standing.items ≡ standing_numbers source hs
+      → AreFacts command hs facts
+  facts_of_merge source target facts is known named_postings standing =
+      subst (λ (r : Command). AreFacts r hs facts) (sym is) record {
+        known = known;
+        named_postings = named_postings;
+        standing = standing;
+      }

@@ -1,6 +1,14 @@
-pub mod ShowLemmas
+pub mod StateTableLemmas
 pub mod FactLemmas
 pub mod StepLemmas
-pub mod KeptLemmas
-pub mod ListLemmas
+pub mod OfficeViewLemmas
+pub mod PostingListLemmas
 pub mod LoadLemmas
+pub mod LoadedCoreLemmas
+pub mod TableFeedLemmas
+pub mod StoreFeedLemmas
+pub mod TurnLemmas
+pub mod PermutationLemmas
+pub mod RisingNumberLemmas
+pub mod RowOrderLemmas
+pub mod ArrangedRowLemmas

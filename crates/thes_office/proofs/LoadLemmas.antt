@@ -1,42 +1,71 @@
--- A core from all rows of a keeper.
+-- Proves that a core built of all rows of a keeper is a copy of its tables, and that any fault is their verdict.
 use Rattle.std.proofs.Common.{◌≡◌, ◌≢◌, ◌⊎◌, sym, subst, ◌∙◌, inl, inr}
 use Rattle.std.specs.Prelude.{Err}
 use Rattle.thes_base.specs.declared.data.Limits.{Limits}
 use Rattle.thes_base.specs.declared.fault.Fault.{Fault}
 use Rattle.thes_base.specs.declared.fault.Fault.TheVariants as faults
 use Rattle.thes_tables.specs.Cells.{Raw}
-use Rattle.thes_core.specs.Kept.{Kept}
-use Rattle.thes_loader.specs.Loaded.{IsLoaded}
-use Rattle.thes_load_rules.specs.Loads.{Loads}
+use Rattle.thes_core.specs.CoreView.{CoreView}
+use Rattle.thes_office.specs.LoadedCore.{IsLoaded}
+use Rattle.thes_load_rules.specs.Verdicts.{HasVerdict}
 use Rattle.thes_load_rules.specs.Rules.{state_of}
 use Rattle.thes_office.specs.Office.{IsCopy}
-use Rattle.thes_office.specs.Shows.{Shows}
-use Rattle.thes_office.proofs.ShowLemmas.{loads_shows}
+use Rattle.thes_office.specs.TablesOfState.{TablesOfState}
+use Rattle.thes_office.proofs.StateTableLemmas.{loaded_shows_state}
 
-pub loaded_copies : (raw : Raw) (limits : Limits) (copy : Kept) → copy.setting.limits ≡ limits → IsLoaded raw copy → IsCopy raw limits copy
+pub loaded_copies : (raw : Raw) (limits : Limits) (copy : CoreView) → copy.setting.limits ≡ limits → IsLoaded raw copy
+    → IsCopy raw limits copy
 loaded_copies raw limits copy set is = record {
   limits_are = set;
   state = state_of is.0;
   holds = is.2;
-  shows = subst (λ (base : _). Shows raw base (state_of is.0)) (sym is.3) (loads_shows raw is.0 is.1);
+  shows = subst (λ (base : _). TablesOfState raw base (state_of is.0)) (sym is.3) (loaded_shows_state raw is.0 is.1);
 }
 
--- the verdict on rows is no fault of the store
-pub never_store : (raw : Raw) (fault : Fault) → Loads raw (Err fault) → fault ≡ faults.Store → ⊥
+-- The verdict on rows is never Store.
+pub never_store : (raw : Raw) (fault : Fault) → HasVerdict raw (Err fault) → fault ≡ faults.Store → ⊥
 never_store raw fault (inl (newer, e)) is = absurd (cc)
 never_store raw fault (inr (n, inl (older, e))) is = absurd (cc)
 never_store raw fault (inr (n, inr (o, inl (meta, e)))) is = absurd (cc)
 never_store raw fault (inr (n, inr (o, inr (base, b, inl (resource, e))))) is = absurd (cc)
 never_store raw fault (inr (n, inr (o, inr (base, b, inr (rs, r, inl (outside, e)))))) is = absurd (cc)
 never_store raw fault (inr (n, inr (o, inr (base, b, inr (rs, r, inr (os, p, inl (label, e))))))) is = absurd (cc)
-never_store raw fault (inr (n, inr (o, inr (base, b, inr (rs, r, inr (os, p, inr (ls, l, inl (link, e)))))))) is = absurd (cc)
-never_store raw fault (inr (n, inr (o, inr (base, b, inr (rs, r, inr (os, p, inr (ls, l, inr (ks, k, inl (hier, e))))))))) is = absurd (cc)
-never_store raw fault (inr (n, inr (o, inr (base, b, inr (rs, r, inr (os, p, inr (ls, l, inr (ks, k, inr (hs, h, inl (posting, e)))))))))) is = absurd (cc)
-never_store raw fault (inr (n, inr (o, inr (base, b, inr (rs, r, inr (os, p, inr (ls, l, inr (ks, k, inr (hs, h, inr (ps, q, inl (move, e))))))))))) is = absurd (cc)
-never_store raw fault (inr (n, inr (o, inr (base, b, inr (rs, r, inr (os, p, inr (ls, l, inr (ks, k, inr (hs, h, inr (ps, q, inr (ms, m, e))))))))))) is = absurd (cc)
+never_store raw fault (inr (n, inr (o, inr (base, b, inr (rs, r, inr (os, p, inr (ls, l, inl (link, e)))))))) is =
+    absurd (cc)
+never_store raw fault
+    (inr (n, inr (o, inr (base, b, inr (rs, r, inr (os, p, inr (ls, l, inr (ks, k, inl (hier, e))))))))) is =
+    absurd (cc)
+never_store raw fault
+    (inr (
+      n,
+      inr (o, inr (base, b, inr (rs, r, inr (os, p, inr (ls, l, inr (ks, k, inr (hs, h, inl (posting, e)))))))),
+    )) is =
+    absurd (cc)
+never_store raw fault
+    (inr (
+      n,
+      inr (
+        o,
+        inr
+            (base, b, inr (rs, r, inr (os, p, inr (ls, l, inr (ks, k, inr (hs, h, inr (ps, q, inl (move, e)))))))),
+      ),
+    )) is =
+    absurd (cc)
+never_store raw fault
+    (inr (
+      n,
+      inr (
+        o,
+        inr
+            (base, b, inr (rs, r, inr (os, p, inr (ls, l, inr (ks, k, inr (hs, h, inr (ps, q, inr (ms, m, e)))))))),
+      ),
+    )) is =
+    absurd (cc)
 
--- the fault that is answered for a verdict is the verdict's
-pub verdict_told : (raw : Raw) (fault told : Fault) → (fault ≢ faults.Store → told ≡ fault) → (fault ≡ faults.OutOfMemory) ⊎ Loads raw (Err fault) → (told ≡ faults.OutOfMemory) ⊎ ((told ≡ faults.Store) ⊎ Loads raw (Err told))
-verdict_told raw fault told same (inl is) = inl (same (λ e. absurd (cc)) ∙ is)
-verdict_told raw fault told same (inr loads) =
-    inr (inr (subst (λ (f : Fault). Loads raw (Err f)) (sym (same (never_store raw fault loads))) loads))
+-- The fault returned for a verdict is that verdict.
+pub verdict_of_fault : (raw : Raw) (fault told : Fault) → (fault ≢ faults.Store → told ≡ fault)
+    → (fault ≡ faults.OutOfMemory) ⊎ HasVerdict raw (Err fault) → (told ≡ faults.OutOfMemory)
+    ⊎ ((told ≡ faults.Store) ⊎ HasVerdict raw (Err told))
+verdict_of_fault raw fault told same (inl is) = inl (same (λ e. absurd (cc)) ∙ is)
+verdict_of_fault raw fault told same (inr loads) =
+    inr (inr (subst (λ (f : Fault). HasVerdict raw (Err f)) (sym (same (never_store raw fault loads))) loads))

@@ -1,4 +1,10 @@
-pub mod Shows
-pub mod Asks
+pub mod TablesOfState
+pub mod QueryFrames
 pub mod Listing
 pub mod Office
+pub mod LoaderView
+pub mod LoadedCore
+pub mod LoaderFeed
+pub mod LoaderLaw
+pub mod SortedRows
+pub mod RowOrder

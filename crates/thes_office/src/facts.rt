@@ -1,6 +1,6 @@
-//! What a keeper tells of the postings that a request concerns.
+//! The facts about postings that a request needs, queried from the keeper.
 ghost use Rattle.std.specs.Prelude.{◌≡◌, [], None, IfOk};
-ghost use Rattle.thes_office.specs.Asks.{Asks, TellsFacts, TellsKey, TellsRow, TellsRows, TellsStanding};
+ghost use Rattle.thes_office.specs.QueryFrames.{QueryFrame, FactsInTables, KeyInTables, RowInTables, RowsInTables, AssignedInTables};
 
 use crate::numbers::Numbers;
 use std::alloc::Global;
@@ -12,33 +12,34 @@ use thes_core::Facts;
 use thes_store::keeper::{Keeper, Posting};
 use thes_tables::rows::PostingRow;
 
-/// Asks a keeper what a request has to be told of postings.
+/// Queries the keeper for the facts about postings that the request needs.
 pub fn facts_of<K: Keeper>(alloc: Global, keeper: &mut K, command: &Command) -> Result<Facts, Fault>
-    ensures told { IfOk result (λ facts. K.is_up keeper.new → TellsFacts (K.rows keeper.old) command.now facts) }
-    ensures asks { Asks K.rows K.is_up K.failed keeper.old keeper.new result }
+    ensures told { IfOk result (λ facts. K.is_up keeper.new
+        → FactsInTables (K.rows keeper.old) command.now facts) }
+    ensures asks { QueryFrame K.rows K.is_up K.failed keeper.old keeper.new result }
 {
     match command {
         Command::Post(key, _, _) => {
-            let known = known_of(keeper, key)?;
+            let known = posting_of_key(keeper, key)?;
             Ok(Facts {
                 known,
-                named: Vec::new(alloc),
+                named_postings: Vec::new(alloc),
                 standing: Vec::new(alloc),
             })
         }
         Command::Withdraw(posting) => {
-            let named = named_of(alloc, keeper, &[*posting])?;
-            Ok(named_facts(alloc, named))
+            let named_postings = postings_of_numbers(alloc, keeper, &[*posting])?;
+            Ok(named_facts(alloc, named_postings))
         }
         Command::Split(_, _, _, postings) => {
-            let named = named_of(alloc, keeper, postings.as_slice())?;
-            Ok(named_facts(alloc, named))
+            let named_postings = postings_of_numbers(alloc, keeper, postings.as_slice())?;
+            Ok(named_facts(alloc, named_postings))
         }
         Command::Merge(source, _) => {
-            let standing = standing_of(alloc, keeper, *source)?;
+            let standing = numbers_assigned_to(alloc, keeper, *source)?;
             Ok(Facts {
                 known: None,
-                named: Vec::new(alloc),
+                named_postings: Vec::new(alloc),
                 standing,
             })
         }
@@ -46,31 +47,36 @@ pub fn facts_of<K: Keeper>(alloc: Global, keeper: &mut K, command: &Command) -> 
     }
 }
 
-// What is told of a request that names postings.
-fn named_facts(alloc: Global, named: Vec<Option<PostingRow>>) -> Facts
+// The facts for a request that names postings.
+fn named_facts(alloc: Global, named_postings: Vec<Option<PostingRow>>) -> Facts
     ensures known { result.known ≡ None }
-    ensures named { result.named.items ≡ named.items }
+    ensures named_postings { result.named_postings.items ≡ named_postings.items }
     ensures standing { result.standing.items ≡ [] }
 {
     Facts {
         known: None,
-        named,
+        named_postings,
         standing: Vec::new(alloc),
     }
 }
 
-// The posting of a key.
-fn known_of<K: Keeper>(keeper: &mut K, key: &Key) -> Result<Option<PostingRow>, Fault>
-    ensures told { IfOk result (λ found. K.is_up keeper.new → TellsKey (K.rows keeper.old) key.now found) }
-    ensures asks { Asks K.rows K.is_up K.failed keeper.old keeper.new result }
+// The row of the posting with this key.
+fn posting_of_key<K: Keeper>(keeper: &mut K, key: &Key) -> Result<Option<PostingRow>, Fault>
+    ensures told { IfOk result (λ found. K.is_up keeper.new
+        → KeyInTables (K.rows keeper.old) key.now found) }
+    ensures asks { QueryFrame K.rows K.is_up K.failed keeper.old keeper.new result }
 {
     keeper.find(key)
 }
 
-// The posting of a number.
-fn row_of<K: Keeper>(keeper: &mut K, posting: PostNo) -> Result<Option<PostingRow>, Fault>
-    ensures told { IfOk result (λ row. K.is_up keeper.new → TellsRow (K.rows keeper.old) posting row) }
-    ensures asks { Asks K.rows K.is_up K.failed keeper.old keeper.new result }
+// The row of the posting with this number.
+fn posting_of_number<K: Keeper>(
+    keeper: &mut K,
+    posting: PostNo,
+) -> Result<Option<PostingRow>, Fault>
+    ensures told { IfOk result (λ row. K.is_up keeper.new
+        → RowInTables (K.rows keeper.old) posting row) }
+    ensures asks { QueryFrame K.rows K.is_up K.failed keeper.old keeper.new result }
 {
     match keeper.posting(posting) {
         Ok(Some(told)) => {
@@ -82,18 +88,19 @@ fn row_of<K: Keeper>(keeper: &mut K, posting: PostNo) -> Result<Option<PostingRo
     }
 }
 
-// The postings of these numbers, in their order.
-fn named_of<K: Keeper>(
+// The rows of the postings with these numbers, in that order.
+fn postings_of_numbers<K: Keeper>(
     alloc: Global,
     keeper: &mut K,
     postings: &[PostNo],
 ) -> Result<Vec<Option<PostingRow>>, Fault>
-    ensures told { IfOk result (λ rows. K.is_up keeper.new → TellsRows (K.rows keeper.old) postings.now rows.items) }
-    ensures asks { Asks K.rows K.is_up K.failed keeper.old keeper.new result }
+    ensures told { IfOk result (λ rows. K.is_up keeper.new
+        → RowsInTables (K.rows keeper.old) postings.now rows.items) }
+    ensures asks { QueryFrame K.rows K.is_up K.failed keeper.old keeper.new result }
 {
     let mut rows = Vec::new(alloc);
     for posting in postings {
-        match row_of(keeper, *posting) {
+        match posting_of_number(keeper, *posting) {
             Ok(row) => rows.push(row)?,
             Err(fault) => return Err(fault),
         }
@@ -101,14 +108,15 @@ fn named_of<K: Keeper>(
     Ok(rows)
 }
 
-// The numbers of the postings that stand at a concept.
-fn standing_of<K: Keeper>(
+// The numbers of the postings assigned to a concept.
+fn numbers_assigned_to<K: Keeper>(
     alloc: Global,
     keeper: &mut K,
     concept: ResNo,
 ) -> Result<Vec<PostNo>, Fault>
-    ensures told { IfOk result (λ numbers. K.is_up keeper.new → TellsStanding (K.rows keeper.old) concept numbers.items) }
-    ensures asks { Asks K.rows K.is_up K.failed keeper.old keeper.new result }
+    ensures told { IfOk result (λ numbers. K.is_up keeper.new
+        → AssignedInTables (K.rows keeper.old) concept numbers.items) }
+    ensures asks { QueryFrame K.rows K.is_up K.failed keeper.old keeper.new result }
 {
     let mut numbers = Numbers::new(alloc);
     match keeper.standing(concept, &mut numbers) {

@@ -1,11 +1,16 @@
-//! Requests over a keeper of the tables.
+//! Requests over a store: its tables, and a copy of all but the postings in memory.
 #![tactic(auto)]
 
 mod facts;
-mod loading;
+mod keeper_load;
+pub mod laws;
+mod loader;
 pub mod numbers;
 mod office;
 mod reading;
+mod row_lists;
 mod serving;
 
+pub use loader::Loader;
 pub use office::Office;
+pub use row_lists::{CellRow, CellRows, from_rows};

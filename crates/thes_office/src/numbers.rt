@@ -1,4 +1,4 @@
-//! The numbers of postings that a keeper hands out.
+//! A sink that collects the numbers of postings.
 ghost use Rattle.std.specs.Prelude.{◌≡◌, []};
 
 use std::alloc::Global;
@@ -8,7 +8,7 @@ use thes_base::number::PostNo;
 use thes_store::sink::PostingSink;
 use thes_tables::rows::PostingRow;
 
-/// Keeps the numbers of the rows that come, in their order.
+/// Collects the numbers of the rows that it receives, in that order.
 #[derive(Debug, Drop)]
 pub struct Numbers {
     list: Vec<PostNo>,
@@ -23,7 +23,7 @@ impl Model for Numbers {
 }
 
 impl Numbers {
-    /// Starts without numbers.
+    /// Returns a sink without numbers.
     pub fn new(alloc: Global) -> Numbers
         ensures { result ≡ [] }
     {
@@ -32,7 +32,7 @@ impl Numbers {
         }
     }
 
-    /// Hands the numbers out.
+    /// Unwraps the numbers.
     pub fn into_list(self) -> Vec<PostNo>
         ensures { result.items ≡ self }
     {
@@ -42,7 +42,7 @@ impl Numbers {
 }
 
 impl PostingSink for Numbers {
-    ghost use Rattle.thes_office.specs.Asks.{PushesNumber};
+    ghost use Rattle.thes_office.specs.QueryFrames.{PushesNumber};
 
     ghost gives = { PushesNumber };
 

@@ -1,14 +1,14 @@
-//! The office.
+//! The office: performs requests and answers queries.
 ghost use Rattle.std.specs.Prelude.{⊤, ◌≡◌, ◌⊎◌, ◌<◌, false, Err, OnOk, IfOk, IfErr, List, ℕ};
-ghost use Rattle.thes_base.specs.Headline.{IsInOrder};
+ghost use Rattle.thes_base.specs.Headline.{IsConsistentState};
 ghost use Rattle.thes_base.specs.State.{State};
-ghost use Rattle.thes_store.specs.Causes.{most};
-ghost use Rattle.thes_load_rules.specs.Loads.{Loads};
-ghost use Rattle.thes_office.specs.Office.{Goes, Performed, Ran, Same};
-ghost use Rattle.thes_office.specs.Shows.{Shows};
+ghost use Rattle.thes_store.specs.Causes.{max_failures};
+ghost use Rattle.thes_load_rules.specs.Verdicts.{HasVerdict};
+ghost use Rattle.thes_office.specs.Office.{FaultBehaviour, PerformResult, RunResult, SameTables};
+ghost use Rattle.thes_office.specs.TablesOfState.{TablesOfState};
 
 use crate::facts::facts_of;
-use crate::loading::load;
+use crate::keeper_load::load;
 use crate::serving::perform_at;
 use std::alloc::Global;
 use std::marker::Model;
@@ -18,7 +18,7 @@ use thes_base::request::{Answer, Command};
 use thes_core::Core;
 use thes_store::keeper::Keeper;
 
-/// Answers requests over a keeper of the tables, of whose vocabulary, links and sums it holds a copy.
+/// A keeper of the tables, with a copy of their vocabulary, links and counts in memory.
 #[derive(Drop)]
 pub struct Office<K: Keeper> {
     pub(crate) alloc: Global,
@@ -30,15 +30,16 @@ pub struct Office<K: Keeper> {
 
 impl<K: Keeper> Model for Office<K> {
     ghost use Rattle.std.specs.Coded.{codes};
-    ghost use Rattle.thes_office.specs.Office.{Kept, IsConsistent};
+    ghost use Rattle.thes_office.specs.Office.{OfficeView, IsConsistent};
 
-    ghost Value = { Kept K };
+    ghost Value = { OfficeView K };
 
     ghost coded = { Prim.hlevel (codes, K.code) };
 
     ghost view = { λ a. record { keeper = a.keeper; limits = a.limits; stale = a.stale } };
 
-    ghost invariant = { λ a. IsConsistent K.rows K.is_up K.failed a.keeper a.core a.limits a.stale };
+    ghost invariant = { λ a.
+        IsConsistent K.rows K.is_up K.failed a.keeper a.core a.limits a.stale };
 }
 
 impl<K: Keeper> Office<K> {
@@ -46,21 +47,22 @@ impl<K: Keeper> Office<K> {
     ghost use mathlib.Core.Option.{none};
     ghost use denote.Follow.{follows_so};
     ghost use Rattle.std.specs.Borrow.{sem};
-    ghost use Rattle.thes_office.specs.Office.{Readied};
+    ghost use Rattle.thes_office.specs.Office.{ReadyResult};
 
-    /// Opens an office over a keeper of tables that show a state. A fault hands the keeper back; another one than
-    /// OutOfMemory and Store is the verdict on the rows.
+    /// Opens an office over a keeper whose tables encode a state. A fault comes with the keeper; any but OutOfMemory
+    /// and Store is the verdict on the rows.
     pub fn start(alloc: Global, mut keeper: K, limits: Limits) -> Result<Office<K>, (Fault, K)>
         ensures limits { IfOk result (λ o. o.limits ≡ limits) }
         ensures fresh { IfOk result (λ o. o.stale ≡ false) }
         ensures same { IfOk result (λ o. K.is_up o.keeper → K.rows o.keeper ≡ K.rows keeper) }
         ensures back { IfErr result (λ e. K.is_up e.1 → K.rows e.1 ≡ K.rows keeper) }
         ensures shows { IfOk result (λ o. K.is_up o.keeper
-            → (base : List ℕ) × (s : State) × Shows (K.rows o.keeper) base s) }
+            → (base : List ℕ) × (s : State) × TablesOfState (K.rows o.keeper) base s) }
         ensures verdict { IfErr result (λ e. K.is_up e.1
-            → (e.0 ≡ Fault.OutOfMemory) ⊎ (e.0 ≡ Fault.Store) ⊎ Loads (K.rows keeper) (Err e.0)) }
+            → (e.0 ≡ Fault.OutOfMemory) ⊎ (e.0 ≡ Fault.Store)
+            ⊎ HasVerdict (K.rows keeper) (Err e.0)) }
         ensures store { IfErr result (λ e. e.0 ≡ Fault.Store → (K.failed keeper < K.failed e.1)
-            ⊎ (K.failed keeper ≡ most)) }
+            ⊎ (K.failed keeper ≡ max_failures)) }
     {
         match load(alloc, &mut keeper, limits) {
             Ok(core) => Ok(Office {
@@ -74,16 +76,17 @@ impl<K: Keeper> Office<K> {
         }
     }
 
-    /// Tells whether the copy may differ from the tables. They show a state that is in order, also where it does.
+    /// Returns whether the copy may differ from the tables. The tables are consistent either way.
     pub fn is_stale(&self) -> bool
         ensures value { result ≡ self.now.stale }
         ensures shows { K.is_up self.now.keeper
-            → (base : List ℕ) × (s : State) × Shows (K.rows self.now.keeper) base s × IsInOrder base s }
+            → (base : List ℕ) × (s : State) × TablesOfState (K.rows self.now.keeper) base s
+            × IsConsistentState base s }
     {
         self.stale
     }
 
-    /// Hands the keeper back.
+    /// Returns the keeper.
     pub fn into_keeper(self) -> K
         ensures { result ≡ self.keeper }
     {
@@ -97,10 +100,10 @@ impl<K: Keeper> Office<K> {
         keeper
     }
 
-    // Loads again if the copy is stale.
+    // Reloads the copy if it is stale.
     pub(crate) fn refresh(&mut self) -> Result<(), Fault>
-        ensures goes { Goes K.rows K.is_up K.failed self.old self.new result }
-        ensures same { Same K.rows K.is_up self.old self.new }
+        ensures goes { FaultBehaviour K.rows K.is_up K.failed self.old self.new result }
+        ensures same { SameTables K.rows K.is_up self.old self.new }
         ensures fresh { OnOk result (self.new.stale ≡ false) }
     {
         if !self.stale {
@@ -114,11 +117,11 @@ impl<K: Keeper> Office<K> {
         Ok(())
     }
 
-    // Performs a request where the copy is the tables' state.
+    // Performs a request with a copy that isn't stale.
     fn serve(&mut self, command: &Command) -> Result<Answer, Fault>
         requires { self.old.stale ≡ false }
-        ensures goes { Goes K.rows K.is_up K.failed self.old self.new result }
-        ensures performed { Performed K.rows K.is_up self.old command.now result self.new }
+        ensures goes { FaultBehaviour K.rows K.is_up K.failed self.old self.new result }
+        ensures performed { PerformResult K.rows K.is_up self.old command.now result self.new }
     {
         let facts = match facts_of(self.alloc, &mut self.keeper, command) {
             Ok(facts) => facts,
@@ -139,25 +142,26 @@ impl<K: Keeper> Office<K> {
         }
     }
 
-    /// Performs a request, and answers it as the machine does. A fault leaves the tables; what was committed is never answered
-    /// by a fault, also where memory for the copy runs out: then the copy is stale.
+    /// Performs a request, with the answer of the machine. A fault leaves the tables unchanged. A committed request is
+    /// always answered, even if memory for the copy runs out, which makes the copy stale.
     pub fn perform(&mut self, command: &Command) -> Result<Answer, Fault>
-        ensures goes { Goes K.rows K.is_up K.failed self.old self.new result }
-        ensures performed { Performed K.rows K.is_up self.old command.now result self.new }
+        ensures goes { FaultBehaviour K.rows K.is_up K.failed self.old self.new result }
+        ensures performed { PerformResult K.rows K.is_up self.old command.now result self.new }
     {
         self.refresh()?;
         self.serve(command)
     }
 
-    /// Performs requests in order, and adds their answers. For every list of requests the answers and the tables are those of
-    /// the machine; each posting accepted and not withdrawn then stands at exactly one live concept, the one its recorded
-    /// moves lead to from its first; the live concepts' counts add up to postings accepted less withdrawn; and the triples
-    /// meet the conditions of SKOS. A fault stops it: what was answered before stands.
+    /// Performs requests in order, and appends their answers. The answers and the tables are those of the machine: each
+    /// posting accepted and not withdrawn is assigned to exactly one live concept, which its moves lead to from its
+    /// first; the counts of live concepts add up to postings accepted less withdrawn; and the triples meet the
+    /// conditions of SKOS. A fault stops the run, and the requests answered before it stay performed.
     pub fn run(&mut self, commands: &[Command], answers: &mut Vec<Answer>) -> Result<(), Fault>
-        ensures goes { Goes K.rows K.is_up K.failed self.old self.new result }
-        ensures ran { Ran K.rows K.is_up self.old commands.now answers.old.items answers.new.items result self.new }
+        ensures goes { FaultBehaviour K.rows K.is_up K.failed self.old self.new result }
+        ensures ran { RunResult K.rows K.is_up self.old commands.now
+            answers.old.items answers.new.items result self.new }
     {
-        // What the office keeps is known from here on.
+        // No effect; states the invariant of the office for the proof.
         let _stale = self.stale;
         for command in commands {
             if answers.try_reserve(1).is_err() {
@@ -171,10 +175,12 @@ impl<K: Keeper> Office<K> {
         Ok(())
     }
 
-    /// Hands out a core that holds the tables' state. It loads first where the copy may differ from the tables.
+    /// Returns the copy of the tables, after a reload if it is stale.
     pub fn ready(&mut self) -> Result<&Core, Fault>
-        ensures* after { sem 𝓛 (follows_so (the_row K.row K.Keeper) (the_row K.row K.Keeper) self.entry.ghost_name none (λ _ _. ⊤)
-            (λ n. Readied K.rows K.is_up K.failed self.old result n)) }
+        ensures* after { sem 𝓛
+            (follows_so (the_row K.row K.Keeper) (the_row K.row K.Keeper) self.entry.ghost_name none
+            (λ _ _. ⊤)
+            (λ n. ReadyResult K.rows K.is_up K.failed self.old result n)) }
     {
         self.refresh()?;
         Ok(&self.core)

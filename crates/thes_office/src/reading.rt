@@ -1,12 +1,12 @@
-//! What an office reads of postings.
+//! Queries of postings.
 ghost use Rattle.std.specs.Prelude.{◌≡◌, false, IfOk};
 ghost use Rattle.thes_base.specs.Resources.{IsConcept};
-ghost use Rattle.thes_base.specs.Refusals.{unless_known};
-ghost use Rattle.thes_base.specs.Rows.{accepted};
+ghost use Rattle.thes_base.specs.Refusals.{unless_resource};
+ghost use Rattle.thes_base.specs.RefusalRules.{accepted};
 ghost use Rattle.thes_base.specs.Views.{totals_of};
-ghost use Rattle.thes_office.specs.Asks.{Asks, InShown, TellsHistory};
-ghost use Rattle.thes_office.specs.Listing.{Lists};
-ghost use Rattle.thes_office.specs.Office.{Goes, IsCopy, Same};
+ghost use Rattle.thes_office.specs.QueryFrames.{QueryFrame, InStateOfTables, HistoryInTables};
+ghost use Rattle.thes_office.specs.Listing.{ListingResult};
+ghost use Rattle.thes_office.specs.Office.{FaultBehaviour, IsCopy, SameTables};
 
 use crate::office::Office;
 use thes_base::data::{History, ResourceKind, Totals};
@@ -16,10 +16,11 @@ use thes_core::Core;
 use thes_store::keeper::{Keeper, Posting};
 use thes_store::sink::PostingSink;
 
-// The history of a posting.
+// The history of the posting with this number.
 fn history_at<K: Keeper>(keeper: &mut K, number: PostNo) -> Result<Option<History>, Fault>
-    ensures told { IfOk result (λ told. K.is_up keeper.new → TellsHistory (K.rows keeper.old) number told) }
-    ensures asks { Asks K.rows K.is_up K.failed keeper.old keeper.new result }
+    ensures told { IfOk result (λ told. K.is_up keeper.new
+        → HistoryInTables (K.rows keeper.old) number told) }
+    ensures asks { QueryFrame K.rows K.is_up K.failed keeper.old keeper.new result }
 {
     match keeper.posting(number) {
         Ok(Some(told)) => {
@@ -38,11 +39,11 @@ fn history_at<K: Keeper>(keeper: &mut K, number: PostNo) -> Result<Option<Histor
     }
 }
 
-// What refuses that the number is a concept's, live or dead.
-fn judge_concept(core: &Core, concept: ResNo) -> Option<Refusal>
+// Checks that the number is a concept's, live or not.
+fn check_concept(core: &Core, concept: ResNo) -> Option<Refusal>
     requires { core.now.spent ≡ false }
     ensures { let resources = core.now.resources in
-        unless_known (IsConcept resources) resources concept accepted result }
+        unless_resource (IsConcept resources) resources concept accepted result }
 {
     match core.resource(concept).copied() {
         None => Some(Refusal::UnknownResource),
@@ -51,7 +52,7 @@ fn judge_concept(core: &Core, concept: ResNo) -> Option<Refusal>
     }
 }
 
-// Hands the postings at a concept to a sink, or says what refuses that.
+// Yields the postings assigned to a concept to a sink, or returns the refusal.
 fn list<K: Keeper, S: PostingSink>(
     keeper: &mut K,
     core: &Core,
@@ -59,11 +60,13 @@ fn list<K: Keeper, S: PostingSink>(
     sink: &mut S,
 ) -> Result<Option<Refusal>, Fault>
     requires unspent { core.now.spent ≡ false }
-    requires copies { K.is_up keeper.old → IsCopy (K.rows keeper.old) core.now.setting.limits core.now }
-    ensures lists { K.is_up keeper.new → Lists S.gives (K.rows keeper.old) concept sink.old result sink.new }
-    ensures asks { Asks K.rows K.is_up K.failed keeper.old keeper.new result }
+    requires copies { K.is_up keeper.old
+        → IsCopy (K.rows keeper.old) core.now.setting.limits core.now }
+    ensures lists { K.is_up keeper.new
+        → ListingResult S.gives (K.rows keeper.old) concept sink.old result sink.new }
+    ensures asks { QueryFrame K.rows K.is_up K.failed keeper.old keeper.new result }
 {
-    if let Some(refusal) = judge_concept(core, concept) {
+    if let Some(refusal) = check_concept(core, concept) {
         return Ok(Some(refusal));
     }
     match keeper.standing(concept, sink) {
@@ -73,12 +76,12 @@ fn list<K: Keeper, S: PostingSink>(
 }
 
 impl<K: Keeper> Office<K> {
-    /// Tells how many postings were accepted, how many of them are withdrawn, and how many stand.
+    /// Returns the numbers of postings accepted, withdrawn, and accepted but not withdrawn.
     pub fn totals(&mut self) -> Result<Totals, Fault>
-        ensures goes { Goes K.rows K.is_up K.failed self.old self.new result }
-        ensures same { Same K.rows K.is_up self.old self.new }
+        ensures goes { FaultBehaviour K.rows K.is_up K.failed self.old self.new result }
+        ensures same { SameTables K.rows K.is_up self.old self.new }
         ensures told { IfOk result (λ totals. K.is_up self.new.keeper
-            → InShown (K.rows self.new.keeper) (λ s. totals ≡ totals_of s.histories)) }
+            → InStateOfTables (K.rows self.new.keeper) (λ s. totals ≡ totals_of s.histories)) }
     {
         if let Err(fault) = self.refresh() {
             return Err(fault);
@@ -88,10 +91,10 @@ impl<K: Keeper> Office<K> {
 
     /// Returns the history of a posting.
     pub fn posting(&mut self, number: PostNo) -> Result<Option<History>, Fault>
-        ensures goes { Goes K.rows K.is_up K.failed self.old self.new result }
-        ensures same { Same K.rows K.is_up self.old self.new }
+        ensures goes { FaultBehaviour K.rows K.is_up K.failed self.old self.new result }
+        ensures same { SameTables K.rows K.is_up self.old self.new }
         ensures told { IfOk result (λ told. K.is_up self.new.keeper
-            → TellsHistory (K.rows self.new.keeper) number told) }
+            → HistoryInTables (K.rows self.new.keeper) number told) }
     {
         self.refresh()?;
         match history_at(&mut self.keeper, number) {
@@ -103,17 +106,17 @@ impl<K: Keeper> Office<K> {
         }
     }
 
-    /// Hands the postings that stand at a concept to a sink, in the order of their numbers; or answers what refuses that.
-    /// After a fault the sink has the first ones of them.
+    /// Yields the postings assigned to a concept to a sink, in the order of their numbers, or returns the refusal. On a
+    /// fault the sink has received the first few of them.
     pub fn postings<S: PostingSink>(
         &mut self,
         concept: ResNo,
         sink: &mut S,
     ) -> Result<Option<Refusal>, Fault>
-        ensures goes { Goes K.rows K.is_up K.failed self.old self.new result }
-        ensures same { Same K.rows K.is_up self.old self.new }
+        ensures goes { FaultBehaviour K.rows K.is_up K.failed self.old self.new result }
+        ensures same { SameTables K.rows K.is_up self.old self.new }
         ensures lists { K.is_up self.new.keeper
-            → Lists S.gives (K.rows self.new.keeper) concept sink.old result sink.new }
+            → ListingResult S.gives (K.rows self.new.keeper) concept sink.old result sink.new }
     {
         if let Err(fault) = self.refresh() {
             return Err(fault);

@@ -1,16 +1,16 @@
-//! One request to tables that show a state.
+//! Performs one request.
 ghost use Rattle.std.specs.Prelude.{◌≡◌, false, IfOk, OnErr};
 ghost use Rattle.thes_store.specs.Causes.{HasCause};
-ghost use Rattle.thes_office.specs.Asks.{TellsFacts};
-ghost use Rattle.thes_office.specs.Office.{AreLimits, IsCopy, Steps};
+ghost use Rattle.thes_office.specs.QueryFrames.{FactsInTables};
+ghost use Rattle.thes_office.specs.Office.{AreLimits, IsCopy, TablesAfterStep};
 
 use thes_base::fault::Fault;
 use thes_base::request::{Answer, Command};
 use thes_core::{Core, Facts, Verdict};
 use thes_store::keeper::Keeper;
 
-/// Performs a request where the core holds the state that the tables show. What was committed is answered; where memory for
-/// the core runs out then, the core is spent.
+/// Performs a request with a core that holds the state of the tables. A committed request is answered; if memory for
+/// the core runs out after the commit, the core is unusable until reloaded.
 pub fn perform_at<K: Keeper>(
     keeper: &mut K,
     core: &mut Core,
@@ -19,10 +19,12 @@ pub fn perform_at<K: Keeper>(
 ) -> Result<Answer, Fault>
     requires unspent { core.old.spent ≡ false }
     requires few { K.is_up keeper.old → AreLimits core.old.setting.limits }
-    requires copies { K.is_up keeper.old → IsCopy (K.rows keeper.old) core.old.setting.limits core.old }
-    requires told { K.is_up keeper.old → TellsFacts (K.rows keeper.old) command.now facts.now }
+    requires copies { K.is_up keeper.old
+        → IsCopy (K.rows keeper.old) core.old.setting.limits core.old }
+    requires told { K.is_up keeper.old → FactsInTables (K.rows keeper.old) command.now facts.now }
     ensures steps { let limits = core.old.setting.limits in IfOk result (λ answer.
-        K.is_up keeper.new → Steps limits (K.rows keeper.old) command.now answer (K.rows keeper.new)) }
+        K.is_up keeper.new
+        → TablesAfterStep limits (K.rows keeper.old) command.now answer (K.rows keeper.new)) }
     ensures copies { K.is_up keeper.new → core.new.spent ≡ false
         → IsCopy (K.rows keeper.new) core.old.setting.limits core.new }
     ensures same { OnErr result (K.is_up keeper.new → K.rows keeper.new ≡ K.rows keeper.old) }
@@ -36,9 +38,9 @@ pub fn perform_at<K: Keeper>(
             if let Err(fault) = keeper.commit(delta) {
                 return Err(fault);
             }
-            // That its texts have their forms is known from here on.
-            command.forms();
-            // No fault comes after this line.
+            // No effect; states the forms of the command's texts for the proof.
+            command.learn_forms();
+            // The request is committed, so a failure of `apply` is no fault.
             let _ = core.apply(command, facts);
             Ok(answer)
         }

@@ -1,4 +1,4 @@
 pub mod EachLemmas
-pub mod JudgeLemmas
+pub mod ListedPostingLemmas
 pub mod OnceLemmas
-pub mod SumLemmas
+pub mod PostingCountLemmas

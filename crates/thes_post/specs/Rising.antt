@@ -1,7 +1,8 @@
 -- Rising lists of numbers.
-use Rattle.std.specs.Prelude.{◌≤◌, ◌+◌, ℕ, List, [], ◌∷◌}
+use Rattle.std.specs.Prelude.{◌≤◌, ◌+◌, List, [], ◌∷◌}
+use Rattle.thes_base.specs.Types.{Number}
 
--- each number is above the one before it, and the first is not below this one
-abbrev pub RisesFrom : ℕ → List ℕ → Type 0
+-- Each number is greater than the one before it, and the first is at least `least`.
+abbrev pub RisesFrom : Number → List Number → Type 0
 RisesFrom least [] = Unit {0}
 RisesFrom least (n ∷ ns) = (least ≤ n) × RisesFrom (n + 1) ns

@@ -1,4 +1,4 @@
-//! The sums of postings, and lists of their numbers.
+//! Counts of postings, and lists of their numbers.
 #![tactic(auto)]
 
 pub mod book;

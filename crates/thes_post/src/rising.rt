@@ -1,4 +1,4 @@
-//! Rising lists of the numbers of postings.
+//! Lists of the numbers of postings.
 ghost use Rattle.std.specs.Prelude.{◌↔◌, IsTrue, IfOk};
 ghost use Rattle.std.specs.List.Sorted.{IsPermutation, IsNonDecreasing};
 ghost use Rattle.thes_base.specs.Refusals.{EachOnce};
@@ -7,8 +7,8 @@ ghost use Rattle.thes_post.specs.Rising.{RisesFrom};
 use std::alloc::{AllocError, Global};
 use thes_base::number::PostNo;
 
-/// Copies the numbers, in order.
-pub fn sorted(alloc: Global, numbers: &[PostNo]) -> Result<Vec<PostNo>, AllocError>
+/// Returns the numbers in rising order.
+pub fn sorted_numbers(alloc: Global, numbers: &[PostNo]) -> Result<Vec<PostNo>, AllocError>
     ensures permutation { IfOk result (λ v. IsPermutation numbers.now v.items) }
     ensures in_order { IfOk result (λ v. IsNonDecreasing v.items) }
 {
@@ -18,7 +18,7 @@ pub fn sorted(alloc: Global, numbers: &[PostNo]) -> Result<Vec<PostNo>, AllocErr
     Ok(list)
 }
 
-// Tells whether each number is above the one before it.
+// Checks whether each number is greater than the one before it.
 fn is_rising(numbers: &[PostNo]) -> bool
     ensures { IsTrue result ↔ RisesFrom 0 numbers.now }
 {
@@ -33,9 +33,9 @@ fn is_rising(numbers: &[PostNo]) -> bool
     true
 }
 
-/// Tells whether each number stands once in the list.
+/// Checks whether no number is listed twice.
 pub fn is_each_once(alloc: Global, numbers: &[PostNo]) -> Result<bool, AllocError>
     ensures { IfOk result (λ once. IsTrue once ↔ EachOnce numbers.now) }
 {
-    Ok(is_rising(sorted(alloc, numbers)?.as_slice()))
+    Ok(is_rising(sorted_numbers(alloc, numbers)?.as_slice()))
 }

@@ -1,13 +1,13 @@
-//! The sums of postings that are told one by one.
+//! The counts of postings while they are loaded.
 ghost use Rattle.std.specs.Prelude.{◌≡◌, ◌≤◌, ◌<◌, ◌+◌, ◌^◌, ℕ, [], OnOk, OnErr};
-ghost use Rattle.thes_post.specs.Sums.{IsTold, count_of};
+ghost use Rattle.thes_post.specs.PostingCounts.{CountsAfterTally, count_of};
 
 use crate::book::Book;
 use std::alloc::{AllocError, Global};
 use std::marker::Model;
 use thes_base::number::ResNo;
 
-/// The sums of postings that are told one by one, where they stand now; how they came there is counted at the end.
+/// The counts of postings that are loaded one by one at their places. Moves are counted at the end.
 #[derive(Drop)]
 pub struct Tally {
     book: Book,
@@ -15,17 +15,17 @@ pub struct Tally {
 
 impl Model for Tally {
     ghost use Rattle.std.specs.Prelude.{◌≡◌};
-    ghost use Rattle.thes_post.specs.Sums.{Sums, IsWithin};
+    ghost use Rattle.thes_post.specs.PostingCounts.{PostingCounts, AreTallyCounts};
 
-    ghost Value = { Sums };
+    ghost Value = { PostingCounts };
 
     ghost view = { λ a. a.book };
 
-    ghost invariant = { λ a. IsWithin a.book };
+    ghost invariant = { λ a. AreTallyCounts a.book };
 }
 
 impl Tally {
-    /// Makes the sums of no postings.
+    /// Creates the counts of no postings.
     pub fn new(alloc: Global) -> Tally
         ensures { result ≡ record { counts = []; accepted = 0; withdrawn = 0; moves = 0 } }
     {
@@ -34,10 +34,10 @@ impl Tally {
         }
     }
 
-    /// Counts one more posting, which stands at the place or is withdrawn there.
-    pub fn tell(&mut self, place: ResNo, withdrawn: bool) -> Result<(), AllocError>
+    /// Counts one more posting, which is assigned to the place or withdrawn.
+    pub fn count_posting(&mut self, place: ResNo, withdrawn: bool) -> Result<(), AllocError>
         requires { self.old.accepted + 1 < 2 ^ 32 }
-        ensures ok { OnOk result (IsTold place withdrawn self.old self.new) }
+        ensures ok { OnOk result (CountsAfterTally place withdrawn self.old self.new) }
         ensures err { OnErr result (self.new ≡ self.old) }
     {
         self.book.post(place, 0)?;
@@ -47,7 +47,7 @@ impl Tally {
         Ok(())
     }
 
-    /// Counts the moves, and makes a book of the sums.
+    /// Returns the counts as a book, with the number of moves.
     pub fn close(self, moves: u64) -> Book
         requires { moves < 2 ^ 32 }
         ensures { result ≡ record self { moves = moves } }

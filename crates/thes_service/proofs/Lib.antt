@@ -1,3 +1,3 @@
-pub mod ShownLemmas
-pub mod LedLemmas
-pub mod ServedLemmas
+pub mod StateViewLemmas
+pub mod ScriptRunLemmas
+pub mod ConnectionRunLemmas

@@ -1,3 +1,3 @@
-pub mod Desk
-pub mod ListedRows
+pub mod OfficeRequests
+pub mod PostingLists
 pub mod Service

@@ -1,7 +1,7 @@
 //! Displays of the state that an office's tables show.
 ghost use Rattle.std.specs.Prelude.{◌≡◌, false, IfOk};
 ghost use Rattle.thes_base.specs.State.{State};
-ghost use Rattle.thes_core.specs.Kept.{Holds};
+ghost use Rattle.thes_core.specs.CoreView.{IsViewOf};
 ghost use Rattle.thes_service.specs.Service.{IsDisplay, IsDisplayed, OfficeDisplays};
 
 use std::alloc::{AllocError, Global};
@@ -11,12 +11,12 @@ use thes_base::text::Tag;
 use thes_core::Core;
 use thes_display::entry::alphabetical_text;
 use thes_display::gather::hierarchical_text;
-use thes_display::shown::judge_scheme;
-use thes_http::service::{Display, Displayed, Page};
+use thes_display::writing::check_scheme;
+use thes_http::service::{Display, DisplayAnswer, Page};
 use thes_office::Office;
 use thes_store::keeper::Keeper;
 
-// The text of a display.
+// Returns the text of a display.
 fn display_text(
     core: &Core,
     alloc: Global,
@@ -25,7 +25,7 @@ fn display_text(
     tag: &Tag,
 ) -> Result<Vec<u8>, AllocError>
     requires { core.now.spent ≡ false }
-    ensures { (s : State) → Holds core.now s →
+    ensures { (s : State) → IsViewOf core.now s →
         IfOk result (λ text. IsDisplay display scheme tag.now s text.items) }
 {
     match display {
@@ -34,35 +34,36 @@ fn display_text(
     }
 }
 
-// A display of the state that a core holds, or why there is no such scheme.
-fn scheme_displayed(
+// Returns a display of the state that the core holds, or the refusal of the scheme.
+fn display_core_scheme(
     core: &Core,
     alloc: Global,
     display: Display,
     scheme: ResNo,
     tag: &Tag,
-) -> Result<Displayed, AllocError>
+) -> Result<DisplayAnswer, AllocError>
     requires { core.now.spent ≡ false }
-    ensures { (s : State) → Holds core.now s →
+    ensures { (s : State) → IsViewOf core.now s →
         IfOk result (IsDisplayed display scheme tag.now s) }
 {
-    if let Some(refusal) = judge_scheme(core, scheme) {
-        return Ok(Displayed::No(refusal));
+    if let Some(refusal) = check_scheme(core, scheme) {
+        return Ok(DisplayAnswer::No(refusal));
     }
     let text = display_text(core, alloc, display, scheme, tag)?;
-    Ok(Displayed::Lines(Page::new(text)))
+    Ok(DisplayAnswer::Lines(Page::new(text)))
 }
 
-/// Makes a display of a scheme in a language, or tells the refusal.
-pub(crate) fn displayed<K: Keeper>(
+/// Returns a display of a scheme in a language, or the refusal of the scheme.
+pub(crate) fn display_scheme<K: Keeper>(
     office: &mut Office<K>,
     alloc: Global,
     display: Display,
     scheme: ResNo,
     tag: &Tag,
-) -> Result<Displayed, Fault>
-    ensures { OfficeDisplays K.rows K.is_up K.failed office.old display scheme tag.now result office.new }
+) -> Result<DisplayAnswer, Fault>
+    ensures { OfficeDisplays K.rows K.is_up K.failed office.old display scheme tag.now result
+        office.new }
 {
     let core = office.ready()?;
-    Ok(scheme_displayed(core, alloc, display, scheme, tag)?)
+    Ok(display_core_scheme(core, alloc, display, scheme, tag)?)
 }

@@ -1,7 +1,7 @@
 //! The export of the state that an office's tables show.
 ghost use Rattle.std.specs.Prelude.{◌≡◌, false, IfOk};
 ghost use Rattle.thes_base.specs.State.{State};
-ghost use Rattle.thes_core.specs.Kept.{Holds};
+ghost use Rattle.thes_core.specs.CoreView.{IsViewOf};
 ghost use Rattle.thes_export.specs.Export.{IsExport};
 ghost use Rattle.thes_service.specs.Service.{OfficeExports};
 
@@ -13,18 +13,18 @@ use thes_http::service::Page;
 use thes_office::Office;
 use thes_store::keeper::Keeper;
 
-// The export of the state that a core holds.
+// Returns the export of the state that the core holds.
 fn export_page(core: &Core, alloc: Global) -> Result<Page, AllocError>
     requires { core.now.spent ≡ false }
-    ensures { (s : State) → Holds core.now s →
+    ensures { (s : State) → IsViewOf core.now s →
         IfOk result (IsExport core.now.setting.base s) }
 {
     let text = export_text(alloc, core)?;
     Ok(Page::new(text))
 }
 
-/// Makes the export.
-pub(crate) fn exported<K: Keeper>(office: &mut Office<K>, alloc: Global) -> Result<Page, Fault>
+/// Returns the export as N-Triples.
+pub(crate) fn export_office<K: Keeper>(office: &mut Office<K>, alloc: Global) -> Result<Page, Fault>
     ensures { OfficeExports K.rows K.is_up K.failed office.old result office.new }
 {
     let core = office.ready()?;

@@ -1,16 +1,16 @@
-//! An office over a keeper as a desk, and as all that a connection may ask for.
+//! Scripts and connections over an office.
 #![tactic(auto)]
 
 mod displaying;
 mod exporting;
-mod front_desk;
 mod importing;
-mod rows;
+mod office_handler;
+mod posting_lister;
 mod script;
 mod server;
 mod service;
 mod viewing;
 
-pub use front_desk::FrontDesk;
+pub use office_handler::OfficeHandler;
 pub use script::office_script;
 pub use server::office_serve;

@@ -1,4 +1,4 @@
--- The eight tables as the database reads their texts, and two plain indexes.
+-- The schema of a store: eight tables and two plain indexes.
 use Rattle.sqlite.specs.Collation.TheVariants.{Binary}
 use Rattle.std.specs.Prelude.{ℕ, Bool, true, false, [], ◌∷◌, Some, None, Option, codes, List}
 use Rattle.sqlite.specs.declared.types.Value.TheVariants.{Null}
@@ -12,20 +12,24 @@ use Rattle.sqlite_schema.specs.declared.schema.Column.{Column}
 use Rattle.sqlite_schema.specs.declared.schema.Index.{Index}
 use Rattle.sqlite_catalog.specs.Change.{created, indexed}
 
+-- A column of a strict table, with this kind and name, which may be null unless it is required.
 abbrev pub column_of : Kind → Bool → List ℕ → Column
 column_of kind required name =
     record { name = name; kind = kind; is_strict = true; not_null = required; default = Null; collation = Binary }
 
--- whole numbers and texts, that must be there or may be null
+-- A column of integers that may be null.
 abbrev pub key_column : List ℕ → Column
 key_column = column_of Integer false
 
+-- A column of integers that is not null.
 abbrev pub number_column : List ℕ → Column
 number_column = column_of Integer true
 
+-- A column of texts that is not null.
 abbrev pub text_column : List ℕ → Column
 text_column = column_of Text true
 
+-- A table without checks, references and computed columns.
 abbrev pub table_of : List ℕ → List Column → Option ℕ → List ℕ → List (List ℕ) → List Order → Table
 table_of name columns key primary uniques orders = record {
   name = name;
@@ -42,66 +46,76 @@ table_of name columns key primary uniques orders = record {
   is_counted = false;
 }
 
--- its first column is the number of a row
+-- A table whose first column is the rowid.
 abbrev pub numbered_table : List ℕ → List Column → List (List ℕ) → List Order → Table
 numbered_table name columns uniques orders = table_of name columns (Some 0) (0 ∷ []) uniques orders
 
--- all columns together are its key
+-- A table whose primary key is all columns together.
 abbrev pub set_table : List ℕ → List Column → List ℕ → Table
 set_table name columns places = table_of name columns None places (places ∷ []) (plain ∷ [])
 
+-- Table meta: version and base, in one row.
 abbrev pub meta : Table
 meta = numbered_table (codes "meta") (key_column (codes "one") ∷ number_column (codes "version") ∷ text_column
     (codes "base") ∷ []) [] []
 
+-- Table resource: the schemes, concepts, collections and outside concepts by number.
 abbrev pub resource : Table
 resource = numbered_table (codes "resource")
     (key_column (codes "num") ∷ number_column (codes "kind") ∷ key_column (codes "scheme") ∷ number_column
     (codes "live")
     ∷ key_column (codes "replaced") ∷ []) [] []
 
+-- Table outside: the IRI of each outside concept.
 abbrev pub outside : Table
 outside =
     numbered_table (codes "outside") (key_column (codes "num") ∷ text_column (codes "iri") ∷ []) ((2 ∷ []) ∷ [])
     (plain ∷ [])
 
+-- Table label: the labels of resources.
 abbrev pub label : Table
 label = set_table (codes "label")
     (number_column (codes "owner") ∷ number_column (codes "kind") ∷ text_column (codes "tag") ∷ text_column
     (codes "text") ∷ [])
     (1 ∷ 2 ∷ 3 ∷ 4 ∷ [])
 
+-- Table link: all links but the hierarchical ones.
 abbrev pub link : Table
 link = set_table (codes "link") (number_column (codes "kind") ∷ number_column (codes "a") ∷ number_column
     (codes "b") ∷ []) (1 ∷ 2 ∷ 3 ∷ [])
 
+-- Table hier: the hierarchical links, with their types.
 abbrev pub hier : Table
 hier = set_table (codes "hier") (number_column (codes "a") ∷ number_column (codes "b") ∷ number_column
     (codes "typ") ∷ []) (1 ∷ 2 ∷ 3 ∷ [])
 
+-- Table posting: the postings by number, with their keys, records and places.
 abbrev pub posting : Table
 posting = numbered_table (codes "posting")
     (key_column (codes "num") ∷ text_column (codes "pkey") ∷ text_column (codes "record") ∷ number_column
     (codes "first_at")
     ∷ number_column (codes "at") ∷ number_column (codes "withdrawn") ∷ []) ((2 ∷ []) ∷ []) (plain ∷ [])
 
+-- Table move: the moves of postings.
 abbrev pub move : Table
 move = numbered_table (codes "move")
     (key_column (codes "num") ∷ number_column (codes "posting") ∷ number_column (codes "source") ∷ number_column
     (codes "target") ∷ []) [] []
 
+-- A plain index of the table in this tree.
 abbrev pub index_of : List ℕ → ℕ → List ℕ → Index
 index_of name table columns =
     record { name = name; tree = 0; table = table; columns = columns; order = plain; is_unique = false }
 
--- postings by the concept at which they stand, and moves by their posting
+-- The index of postings by place.
 abbrev pub posting_at : Index
 posting_at = index_of (codes "posting_at") 8 (5 ∷ [])
 
+-- The index of moves by posting.
 abbrev pub move_posting : Index
 move_posting = index_of (codes "move_posting") 10 (2 ∷ [])
 
--- the schema after each of the ten texts that make it
+-- The schemas after each of the ten statements that define it, from the empty one on.
 abbrev pub schema_0 : Schema
 schema_0 = record { tables = []; indexes = []; views = [] }
 
@@ -132,5 +146,6 @@ schema_8 = created schema_7 hier
 abbrev pub schema_9 : Schema
 schema_9 = indexed schema_8 (record posting { tree = 8 }) posting_at
 
+-- The schema of a store of version 2.
 abbrev pub store_schema : Schema
 store_schema = indexed schema_9 (record move { tree = 10 }) move_posting

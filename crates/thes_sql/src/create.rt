@@ -1,20 +1,20 @@
-//! The making of the tables.
+//! Creates the tables of a store.
 ghost use Rattle.std.specs.Prelude.{◌≡◌, ◌∷◌, [], IfOk, IsTrue};
-ghost use Rattle.thes_tables.specs.Tables.{no_rows};
+ghost use Rattle.thes_tables.specs.Tables.{empty_tables};
 ghost use Rattle.thes_sql.specs.Schema.{schema_0, schema_8, store_schema};
-ghost use Rattle.thes_sql.specs.Stored.{Keeps, Hold};
-ghost use Rattle.thes_sql.specs.Older.{old_schema, IsOldStore, IsEnlarged};
-ghost use Rattle.thes_sql.specs.Does.{IsEmpty, Turns, TurnsEach, Extends, Tries, DoesInside, StaysInside, IsOwnTransaction};
+ghost use Rattle.thes_sql.specs.StoredRows.{Keeps, Hold};
+ghost use Rattle.thes_sql.specs.OldStore.{old_schema, IsOldStore, HasEmptyHier};
+ghost use Rattle.thes_sql.specs.TransactionEffects.{IsEmpty, Transforms, TransformsTables, ExtendsSchema, RunsOrFailsToCompile, SucceedsInside, StaysInside, IsOwnTransaction};
 ghost use Rattle.sqlite.specs.State.{HasCleanDisk, Survives};
 ghost use Rattle.sqlite.specs.Held.{state};
 
 use sqlite::{Alter, Connection, Error, Transaction, params};
 use thes_base::text::Base;
 
-// Makes the seven tables that a store of version 1 has, too.
+// Creates the seven tables that a store of version 1 has already.
 fn define_tables<S: Alter>(tx: &mut Transaction<'_, S>) -> Result<(), Error>
     ensures same_reference { tx.new.conn.ghost_name ≡ tx.old.conn.ghost_name }
-    ensures does { DoesInside S.Store (Turns (IsEmpty schema_0) (IsEmpty old_schema))
+    ensures does { SucceedsInside S.Store (Transforms (IsEmpty schema_0) (IsEmpty old_schema))
         tx.old.conn tx.new.conn result }
     ensures stays { StaysInside S.Store tx.old.conn tx.new.conn }
 {
@@ -35,10 +35,11 @@ target INTEGER NOT NULL) STRICT;",
     )
 }
 
-// Makes table hier.
+// Creates table hier.
 fn define_hier<S: Alter>(tx: &mut Transaction<'_, S>) -> Result<(), Error>
     ensures same_reference { tx.new.conn.ghost_name ≡ tx.old.conn.ghost_name }
-    ensures does { DoesInside S.Store (Extends old_schema schema_8 (11 ∷ [])) tx.old.conn tx.new.conn result }
+    ensures does { SucceedsInside S.Store (ExtendsSchema old_schema schema_8 (11 ∷ []))
+        tx.old.conn tx.new.conn result }
     ensures stays { StaysInside S.Store tx.old.conn tx.new.conn }
 {
     tx.execute_batch(
@@ -48,10 +49,11 @@ PRIMARY KEY (a, b, typ)) STRICT;",
     )
 }
 
-// Makes an index, unless the database lacks what it is of.
+// Creates an index, unless its statement doesn't compile.
 fn try_index<S: Alter>(tx: &mut Transaction<'_, S>, sql: &str) -> Result<(), Error>
     ensures same_reference { tx.new.conn.ghost_name ≡ tx.old.conn.ghost_name }
-    ensures does { DoesInside S.Store (Tries sql.now) tx.old.conn tx.new.conn result }
+    ensures does { SucceedsInside S.Store (RunsOrFailsToCompile sql.now)
+        tx.old.conn tx.new.conn result }
     ensures stays { StaysInside S.Store tx.old.conn tx.new.conn }
 {
     match tx.execute(sql, &[]) {
@@ -61,11 +63,12 @@ fn try_index<S: Alter>(tx: &mut Transaction<'_, S>, sql: &str) -> Result<(), Err
     }
 }
 
-// Makes the indexes that find the postings at a place and the moves of a posting. Where a store of version 1 lacks posting
-// or move, it goes without.
+// Creates the indexes of postings by place and of moves by posting; each is optional, since a store of version 1 may
+// lack its table.
 fn define_indexes<S: Alter>(tx: &mut Transaction<'_, S>) -> Result<(), Error>
     ensures same_reference { tx.new.conn.ghost_name ≡ tx.old.conn.ghost_name }
-    ensures does { DoesInside S.Store (Extends schema_8 store_schema []) tx.old.conn tx.new.conn result }
+    ensures does { SucceedsInside S.Store (ExtendsSchema schema_8 store_schema [])
+        tx.old.conn tx.new.conn result }
     ensures stays { StaysInside S.Store tx.old.conn tx.new.conn }
 {
     try_index(tx, "CREATE INDEX IF NOT EXISTS posting_at ON posting (at)")?;
@@ -76,12 +79,13 @@ fn define_indexes<S: Alter>(tx: &mut Transaction<'_, S>) -> Result<(), Error>
     Ok(())
 }
 
-/// Makes table hier, and the indexes that find the postings at a place and the moves of a posting.
+/// Creates table hier and the two indexes, which version 1 lacks.
 pub(crate) fn define_newer<S: Alter>(tx: &mut Transaction<'_, S>) -> Result<(), Error>
     ensures same_reference { tx.new.conn.ghost_name ≡ tx.old.conn.ghost_name }
-    ensures does { DoesInside S.Store (Turns (IsEmpty old_schema) (IsEmpty store_schema))
+    ensures does { SucceedsInside S.Store (Transforms (IsEmpty old_schema) (IsEmpty store_schema))
         tx.old.conn tx.new.conn result }
-    ensures renews { DoesInside S.Store (TurnsEach IsOldStore IsEnlarged) tx.old.conn tx.new.conn result }
+    ensures renews { SucceedsInside S.Store (TransformsTables IsOldStore HasEmptyHier)
+        tx.old.conn tx.new.conn result }
     ensures stays { StaysInside S.Store tx.old.conn tx.new.conn }
 {
     define_hier(tx)?;
@@ -89,10 +93,11 @@ pub(crate) fn define_newer<S: Alter>(tx: &mut Transaction<'_, S>) -> Result<(), 
     Ok(())
 }
 
-// Adds the row of table meta.
+// Inserts the row of table meta.
 fn add_meta<S: Alter>(tx: &mut Transaction<'_, S>, base: &Base) -> Result<usize, Error>
     ensures same_reference { tx.new.conn.ghost_name ≡ tx.old.conn.ghost_name }
-    ensures does { DoesInside S.Store (Turns (IsEmpty store_schema) (λ db. Keeps db (no_rows base.now)))
+    ensures does { SucceedsInside S.Store
+        (Transforms (IsEmpty store_schema) (λ db. Keeps db (empty_tables base.now)))
         tx.old.conn tx.new.conn result }
     ensures stays { StaysInside S.Store tx.old.conn tx.new.conn }
 {
@@ -102,10 +107,11 @@ fn add_meta<S: Alter>(tx: &mut Transaction<'_, S>, base: &Base) -> Result<usize,
     )
 }
 
-// Makes all tables, with the row of meta.
+// Creates all tables and indexes, and inserts the row of meta.
 fn create_all<S: Alter>(tx: &mut Transaction<'_, S>, base: &Base) -> Result<(), Error>
     ensures same_reference { tx.new.conn.ghost_name ≡ tx.old.conn.ghost_name }
-    ensures does { DoesInside S.Store (Turns (IsEmpty schema_0) (λ db. Keeps db (no_rows base.now)))
+    ensures does { SucceedsInside S.Store
+        (Transforms (IsEmpty schema_0) (λ db. Keeps db (empty_tables base.now)))
         tx.old.conn tx.new.conn result }
     ensures stays { StaysInside S.Store tx.old.conn tx.new.conn }
 {
@@ -115,16 +121,17 @@ fn create_all<S: Alter>(tx: &mut Transaction<'_, S>, base: &Base) -> Result<(), 
     Ok(())
 }
 
-/// Makes the tables of a new store in one transaction: all of them or none, also where a crash comes at any moment. It
-/// answers false, and does nothing, where a transaction is under way already.
+/// Creates the tables of a new store in one transaction, atomically even if a crash interrupts it. Returns false and
+/// changes nothing inside another transaction.
 pub fn create_tables<S: Alter>(conn: &mut Connection<S>, base: &Base) -> Result<bool, Error>
     ensures all { HasCleanDisk (state S.Store conn.new) → IfOk result (λ done. IsTrue done
         → IsEmpty schema_0 (state S.Store conn.old).now
-        → Keeps (state S.Store conn.new).committed (no_rows base.now)
-        × Keeps (state S.Store conn.new).now (no_rows base.now)) }
+        → Keeps (state S.Store conn.new).committed (empty_tables base.now)
+        × Keeps (state S.Store conn.new).now (empty_tables base.now)) }
     ensures own { IsOwnTransaction S.Store conn.old conn.new result }
     ensures crash { IsEmpty schema_0 (state S.Store conn.old).now
-        → Survives (state S.Store conn.old) (state S.Store conn.new) (λ trees. Hold trees (no_rows base.now)) }
+        → Survives (state S.Store conn.old) (state S.Store conn.new)
+        (λ trees. Hold trees (empty_tables base.now)) }
 {
     if !conn.is_autocommit() {
         return Ok(false);

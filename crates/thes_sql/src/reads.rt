@@ -1,14 +1,14 @@
-//! What is read from the tables.
+//! Queries on the tables.
 ghost use Rattle.std.specs.Prelude.{◌≡◌};
-ghost use Rattle.thes_sql.specs.Reads.{rows_of, read_text, keyed_as, numbered_as, standing_at, moves_of};
-ghost use Rattle.thes_sql.specs.Reads.{Shows, ShowsTable, Understands, LeavesAlone};
+ghost use Rattle.thes_sql.specs.Reads.{cells_of_table, read_text, cells_with_key, cells_with_number, cells_at_concept, cells_of_moves};
+ghost use Rattle.thes_sql.specs.Reads.{SelectResult, TableSelectResult, HasNoInputError, LeavesAlone};
 
 use sqlite::{Alter, Connection, Error, Row, params};
 use thes_base::fault::Table;
 use thes_base::number::{PostNo, ResNo};
 use thes_base::text::Key;
 
-// The text that reads a table.
+// Returns the query for a table.
 fn table_text(table: Table) -> &'static str
     ensures { result.now ≡ read_text table }
 {
@@ -25,19 +25,25 @@ fn table_text(table: Table) -> &'static str
     }
 }
 
-/// Reads a table: rows with a number in the order of their numbers, the others as they came.
+/// Reads a table: rows with a number in its order, the others in insertion order.
 pub fn table_rows<S: Alter>(conn: &mut Connection<S>, table: Table) -> Result<Vec<Row>, Error>
-    ensures shows { Shows S.Store (rows_of table) conn.old conn.new result (λ rows. rows.items) }
-    ensures whatever { ShowsTable S.Store table conn.old conn.new result (λ rows. rows.items) }
-    ensures understood { Understands S.Store conn.old conn.new result }
+    ensures shows { SelectResult S.Store (cells_of_table table) conn.old conn.new result
+        (λ rows. rows.items) }
+    ensures whatever { TableSelectResult S.Store table conn.old conn.new result
+        (λ rows. rows.items) }
+    ensures understood { HasNoInputError S.Store conn.old conn.new result }
     ensures leaves { LeavesAlone S.Store conn.old conn.new }
 {
     conn.query_all(table_text(table), &[])
 }
 
-/// Reads the rows of posting that have a key.
-pub fn rows_keyed<S: Alter>(conn: &mut Connection<S>, key: &Key) -> Result<Vec<Row>, Error>
-    ensures shows { Shows S.Store (keyed_as key.now) conn.old conn.new result (λ rows. rows.items) }
+/// Reads the rows of posting with this key.
+pub fn posting_rows_with_key<S: Alter>(
+    conn: &mut Connection<S>,
+    key: &Key,
+) -> Result<Vec<Row>, Error>
+    ensures shows { SelectResult S.Store (cells_with_key key.now) conn.old conn.new result
+        (λ rows. rows.items) }
     ensures leaves { LeavesAlone S.Store conn.old conn.new }
 {
     conn.query_all(
@@ -46,9 +52,13 @@ pub fn rows_keyed<S: Alter>(conn: &mut Connection<S>, key: &Key) -> Result<Vec<R
     )
 }
 
-/// Reads the rows of posting that have a number.
-pub fn rows_numbered<S: Alter>(conn: &mut Connection<S>, n: PostNo) -> Result<Vec<Row>, Error>
-    ensures shows { Shows S.Store (numbered_as n) conn.old conn.new result (λ rows. rows.items) }
+/// Reads the rows of posting with this number.
+pub fn posting_rows_with_number<S: Alter>(
+    conn: &mut Connection<S>,
+    n: PostNo,
+) -> Result<Vec<Row>, Error>
+    ensures shows { SelectResult S.Store (cells_with_number n) conn.old conn.new result
+        (λ rows. rows.items) }
     ensures leaves { LeavesAlone S.Store conn.old conn.new }
 {
     conn.query_all(
@@ -57,9 +67,13 @@ pub fn rows_numbered<S: Alter>(conn: &mut Connection<S>, n: PostNo) -> Result<Ve
     )
 }
 
-/// Reads the rows of posting that aren't withdrawn and stand at a concept, in the order of their numbers.
-pub fn rows_standing<S: Alter>(conn: &mut Connection<S>, concept: ResNo) -> Result<Vec<Row>, Error>
-    ensures shows { Shows S.Store (standing_at concept) conn.old conn.new result (λ rows. rows.items) }
+/// Reads the rows of posting that are assigned to a concept and not withdrawn, in the order of their numbers.
+pub fn posting_rows_at<S: Alter>(
+    conn: &mut Connection<S>,
+    concept: ResNo,
+) -> Result<Vec<Row>, Error>
+    ensures shows { SelectResult S.Store (cells_at_concept concept) conn.old conn.new result
+        (λ rows. rows.items) }
     ensures leaves { LeavesAlone S.Store conn.old conn.new }
 {
     conn.query_all(
@@ -69,8 +83,12 @@ pub fn rows_standing<S: Alter>(conn: &mut Connection<S>, concept: ResNo) -> Resu
 }
 
 /// Reads the rows of move of a posting, in the order of their numbers.
-pub fn rows_moving<S: Alter>(conn: &mut Connection<S>, posting: PostNo) -> Result<Vec<Row>, Error>
-    ensures shows { Shows S.Store (moves_of posting) conn.old conn.new result (λ rows. rows.items) }
+pub fn move_rows_of_posting<S: Alter>(
+    conn: &mut Connection<S>,
+    posting: PostNo,
+) -> Result<Vec<Row>, Error>
+    ensures shows { SelectResult S.Store (cells_of_moves posting) conn.old conn.new result
+        (λ rows. rows.items) }
     ensures leaves { LeavesAlone S.Store conn.old conn.new }
 {
     conn.query_all(

@@ -1,8 +1,8 @@
-//! What statements are given of rows.
+//! Rows as the parameters of statements.
 ghost use Rattle.std.specs.Prelude.{◌≡◌, ◌<◌, IsUtf8};
 ghost use Rattle.thes_tables.specs.Cells.{resource_cells, outside_cells};
 ghost use Rattle.thes_tables.specs.Cells.{label_cells, link_cells, hier_cells, posting_cells, move_cells};
-ghost use Rattle.thes_sql.specs.Stored.{values, IsSpelledLabel, IsSpelledPosting};
+ghost use Rattle.thes_sql.specs.StoredRows.{values, IsSpelledLabel, IsSpelledPosting};
 ghost use Rattle.sqlite.specs.Values.{bound};
 
 use sqlite::params;
@@ -13,7 +13,7 @@ use thes_base::text::Iri;
 use thes_tables::numbers::{flag_number, resource_number, type_number};
 use thes_tables::rows::{HierRow, LabelRow, MoveRow, PostingRow};
 
-// The number of a resource, if there is one.
+// Returns a resource's number as an integer, if there is one.
 fn number_of(n: Option<ResNo>) -> Option<u32>
     ensures { result ≡ n }
 {
@@ -23,7 +23,7 @@ fn number_of(n: Option<ResNo>) -> Option<u32>
     }
 }
 
-// The values of a row of resource.
+// Returns the values of a row of resource.
 pub(crate) fn resource_values(n: ResNo, resource: &Resource) -> [ValueRef<'static>; 5]
     ensures { bound result ≡ values (resource_cells n resource.now) }
 {
@@ -36,7 +36,7 @@ pub(crate) fn resource_values(n: ResNo, resource: &Resource) -> [ValueRef<'stati
     ]
 }
 
-// The values of a row of outside.
+// Returns the values of a row of outside.
 pub(crate) fn outside_values(n: ResNo, iri: &Iri) -> [ValueRef<'_>; 2]
     ensures cells { bound result ≡ values (outside_cells (n, iri.now)) }
     ensures spelled { IsUtf8 iri.now }
@@ -44,7 +44,7 @@ pub(crate) fn outside_values(n: ResNo, iri: &Iri) -> [ValueRef<'_>; 2]
     *params![n.get(), iri.as_str()]
 }
 
-// The values of a row of label.
+// Returns the values of a row of label.
 pub(crate) fn label_values(row: &LabelRow) -> [ValueRef<'_>; 4]
     ensures cells { bound result ≡ values (label_cells row.now) }
     ensures spelled { IsSpelledLabel row.now }
@@ -57,21 +57,21 @@ pub(crate) fn label_values(row: &LabelRow) -> [ValueRef<'_>; 4]
     ]
 }
 
-// The values of a row of link.
+// Returns the values of a row of link.
 pub(crate) fn link_values(link: &Link) -> [ValueRef<'static>; 3]
     ensures { bound result ≡ values (link_cells link.now) }
 {
     *params![link.kind.number(), link.a.get(), link.b.get()]
 }
 
-// The values of a row of hier.
+// Returns the values of a row of hier.
 pub(crate) fn hier_values(row: &HierRow) -> [ValueRef<'static>; 3]
     ensures { bound result ≡ values (hier_cells row.now) }
 {
     *params![row.a.get(), row.b.get(), type_number(row.typ)]
 }
 
-// The values of a row of posting.
+// Returns the values of a row of posting.
 pub(crate) fn posting_values(row: &PostingRow) -> [ValueRef<'_>; 6]
     ensures cells { bound result ≡ values (posting_cells row.now) }
     ensures spelled { IsSpelledPosting row.now }
@@ -86,7 +86,7 @@ pub(crate) fn posting_values(row: &PostingRow) -> [ValueRef<'_>; 6]
     ]
 }
 
-// The values of a row of move.
+// Returns the values of a row of move.
 pub(crate) fn move_values(row: &MoveRow) -> [ValueRef<'static>; 4]
     ensures cells { bound result ≡ values (move_cells row.now) }
     ensures numbered { 0 < row.now.number }

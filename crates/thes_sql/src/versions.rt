@@ -1,18 +1,20 @@
-//! What is asked of a database that may be a store of version 1.
+//! Queries on a database that may be a store of version 1.
 ghost use Rattle.std.specs.Prelude.{◌≡◌, ◌∷◌, [], ℕ, List, IfOk, OnOk};
 ghost use Rattle.thes_base.specs.declared.fault.Table.TheVariants as table;
-ghost use Rattle.thes_sql.specs.Older.{HasVersion, version_row, Asks, links_text, hier_text, KeepsKnown, LeavesKnown};
+ghost use Rattle.thes_sql.specs.OldStore.{HasVersion, version_row, AnswersIsUnderstood, links_text, hier_text, KeepsKnown, LeavesKnown};
 ghost use Rattle.thes_sql.specs.Reads.{read_text};
 ghost use Rattle.sqlite.specs.State.{HasCleanDisk, Shown};
 ghost use Rattle.sqlite.specs.Held.{state};
 
 use sqlite::{Alter, Connection, Error, Row};
 
-/// Reads the rows of meta: in a store of this version or of version 1 it is one.
+/// Reads the rows of meta, of which a store has one.
 pub fn version_rows<S: Alter>(conn: &mut Connection<S>) -> Result<Vec<Row>, Error>
     ensures shown { HasCleanDisk (state S.Store conn.new) → IfOk result (λ rows.
-        Shown (read_text table.Meta) [] (state S.Store conn.old) (state S.Store conn.new) rows.items) }
-    ensures shows { HasCleanDisk (state S.Store conn.new) → IfOk result (λ rows. (version : ℕ) (base : List ℕ)
+        Shown (read_text table.Meta) []
+        (state S.Store conn.old) (state S.Store conn.new) rows.items) }
+    ensures shows { HasCleanDisk (state S.Store conn.new)
+        → IfOk result (λ rows. (version : ℕ) (base : List ℕ)
         → HasVersion version base (state S.Store conn.old).now
         → rows.items ≡ version_row version base ∷ []) }
     ensures kept { OnOk result (KeepsKnown S.Store conn.old conn.new) }
@@ -21,9 +23,9 @@ pub fn version_rows<S: Alter>(conn: &mut Connection<S>) -> Result<Vec<Row>, Erro
     conn.query_all("SELECT one, version, base FROM meta ORDER BY one", &[])
 }
 
-// Tells whether a query is understood.
+// Returns whether a query compiles.
 fn understands<S: Alter>(conn: &mut Connection<S>, sql: &str) -> Result<bool, Error>
-    ensures tells { Asks S.Store sql.now conn.old conn.new result }
+    ensures reports { AnswersIsUnderstood S.Store sql.now conn.old conn.new result }
     ensures kept { OnOk result (KeepsKnown S.Store conn.old conn.new) }
     ensures leaves { LeavesKnown S.Store conn.old conn.new }
 {
@@ -34,27 +36,27 @@ fn understands<S: Alter>(conn: &mut Connection<S>, sql: &str) -> Result<bool, Er
     }
 }
 
-/// Tells whether meta can be queried.
+/// Returns whether meta can be queried.
 pub fn has_meta<S: Alter>(conn: &mut Connection<S>) -> Result<bool, Error>
-    ensures tells { Asks S.Store (read_text table.Meta) conn.old conn.new result }
+    ensures reports { AnswersIsUnderstood S.Store (read_text table.Meta) conn.old conn.new result }
     ensures kept { OnOk result (KeepsKnown S.Store conn.old conn.new) }
     ensures leaves { LeavesKnown S.Store conn.old conn.new }
 {
     understands(conn, "SELECT one, version, base FROM meta ORDER BY one")
 }
 
-/// Tells whether the links can be queried.
+/// Returns whether the links can be queried.
 pub fn has_links<S: Alter>(conn: &mut Connection<S>) -> Result<bool, Error>
-    ensures tells { Asks S.Store links_text conn.old conn.new result }
+    ensures reports { AnswersIsUnderstood S.Store links_text conn.old conn.new result }
     ensures kept { OnOk result (KeepsKnown S.Store conn.old conn.new) }
     ensures leaves { LeavesKnown S.Store conn.old conn.new }
 {
     understands(conn, "SELECT kind, a, b FROM link")
 }
 
-/// Tells whether there is a table hier.
+/// Returns whether there is a table hier.
 pub fn has_hier<S: Alter>(conn: &mut Connection<S>) -> Result<bool, Error>
-    ensures tells { Asks S.Store hier_text conn.old conn.new result }
+    ensures reports { AnswersIsUnderstood S.Store hier_text conn.old conn.new result }
     ensures kept { OnOk result (KeepsKnown S.Store conn.old conn.new) }
     ensures leaves { LeavesKnown S.Store conn.old conn.new }
 {

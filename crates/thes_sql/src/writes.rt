@@ -1,7 +1,7 @@
-//! Each kind of change, as one statement.
+//! One statement for each kind of change.
 ghost use Rattle.std.specs.Prelude.{◌≡◌};
 ghost use Rattle.thes_tables.specs.declared.change.Change.TheVariants as change;
-ghost use Rattle.thes_sql.specs.Does.{Does, DoesInside, StaysInside};
+ghost use Rattle.thes_sql.specs.TransactionEffects.{AppliesChange, SucceedsInside, StaysInside};
 
 use crate::values::{
     hier_values, label_values, link_values, move_values, outside_values, posting_values,
@@ -14,14 +14,14 @@ use thes_base::text::Iri;
 use thes_tables::change::Change;
 use thes_tables::rows::{HierRow, LabelRow, MoveRow, PostingRow};
 
-// Adds a resource.
+// Inserts a resource.
 fn add_resource<S: Alter>(
     tx: &mut Transaction<'_, S>,
     n: ResNo,
     resource: &Resource,
 ) -> Result<usize, Error>
     ensures same_reference { tx.new.conn.ghost_name ≡ tx.old.conn.ghost_name }
-    ensures does { DoesInside S.Store (Does (change.AddResource n resource.now))
+    ensures does { SucceedsInside S.Store (AppliesChange (change.AddResource n resource.now))
         tx.old.conn tx.new.conn result }
     ensures stays { StaysInside S.Store tx.old.conn tx.new.conn }
 {
@@ -31,10 +31,11 @@ fn add_resource<S: Alter>(
     )
 }
 
-// Marks a resource dead.
+// Marks a resource as not live, without a replacement.
 fn retire<S: Alter>(tx: &mut Transaction<'_, S>, n: ResNo) -> Result<usize, Error>
     ensures same_reference { tx.new.conn.ghost_name ≡ tx.old.conn.ghost_name }
-    ensures does { DoesInside S.Store (Does (change.Retire n)) tx.old.conn tx.new.conn result }
+    ensures does { SucceedsInside S.Store (AppliesChange (change.Retire n))
+        tx.old.conn tx.new.conn result }
     ensures stays { StaysInside S.Store tx.old.conn tx.new.conn }
 {
     tx.execute(
@@ -43,10 +44,11 @@ fn retire<S: Alter>(tx: &mut Transaction<'_, S>, n: ResNo) -> Result<usize, Erro
     )
 }
 
-// Marks a resource dead, and names its replacement.
+// Marks a resource as not live, with its replacement.
 fn replace<S: Alter>(tx: &mut Transaction<'_, S>, n: ResNo, by: ResNo) -> Result<usize, Error>
     ensures same_reference { tx.new.conn.ghost_name ≡ tx.old.conn.ghost_name }
-    ensures does { DoesInside S.Store (Does (change.Replace n by)) tx.old.conn tx.new.conn result }
+    ensures does { SucceedsInside S.Store (AppliesChange (change.Replace n by))
+        tx.old.conn tx.new.conn result }
     ensures stays { StaysInside S.Store tx.old.conn tx.new.conn }
 {
     tx.execute(
@@ -55,10 +57,10 @@ fn replace<S: Alter>(tx: &mut Transaction<'_, S>, n: ResNo, by: ResNo) -> Result
     )
 }
 
-// Adds the IRI of an outside concept.
+// Inserts the IRI of an outside concept.
 fn add_outside<S: Alter>(tx: &mut Transaction<'_, S>, n: ResNo, iri: &Iri) -> Result<usize, Error>
     ensures same_reference { tx.new.conn.ghost_name ≡ tx.old.conn.ghost_name }
-    ensures does { DoesInside S.Store (Does (change.AddOutside n iri.now))
+    ensures does { SucceedsInside S.Store (AppliesChange (change.AddOutside n iri.now))
         tx.old.conn tx.new.conn result }
     ensures stays { StaysInside S.Store tx.old.conn tx.new.conn }
 {
@@ -68,10 +70,10 @@ fn add_outside<S: Alter>(tx: &mut Transaction<'_, S>, n: ResNo, iri: &Iri) -> Re
     )
 }
 
-// Adds a label.
+// Inserts a label.
 fn add_label<S: Alter>(tx: &mut Transaction<'_, S>, row: &LabelRow) -> Result<usize, Error>
     ensures same_reference { tx.new.conn.ghost_name ≡ tx.old.conn.ghost_name }
-    ensures does { DoesInside S.Store (Does (change.AddLabel row.now))
+    ensures does { SucceedsInside S.Store (AppliesChange (change.AddLabel row.now))
         tx.old.conn tx.new.conn result }
     ensures stays { StaysInside S.Store tx.old.conn tx.new.conn }
 {
@@ -84,7 +86,7 @@ fn add_label<S: Alter>(tx: &mut Transaction<'_, S>, row: &LabelRow) -> Result<us
 // Removes a label.
 fn drop_label<S: Alter>(tx: &mut Transaction<'_, S>, row: &LabelRow) -> Result<usize, Error>
     ensures same_reference { tx.new.conn.ghost_name ≡ tx.old.conn.ghost_name }
-    ensures does { DoesInside S.Store (Does (change.DropLabel row.now))
+    ensures does { SucceedsInside S.Store (AppliesChange (change.DropLabel row.now))
         tx.old.conn tx.new.conn result }
     ensures stays { StaysInside S.Store tx.old.conn tx.new.conn }
 {
@@ -94,10 +96,10 @@ fn drop_label<S: Alter>(tx: &mut Transaction<'_, S>, row: &LabelRow) -> Result<u
     )
 }
 
-// Adds a link.
+// Inserts a link.
 fn add_link<S: Alter>(tx: &mut Transaction<'_, S>, link: &Link) -> Result<usize, Error>
     ensures same_reference { tx.new.conn.ghost_name ≡ tx.old.conn.ghost_name }
-    ensures does { DoesInside S.Store (Does (change.AddLink link.now))
+    ensures does { SucceedsInside S.Store (AppliesChange (change.AddLink link.now))
         tx.old.conn tx.new.conn result }
     ensures stays { StaysInside S.Store tx.old.conn tx.new.conn }
 {
@@ -110,7 +112,7 @@ fn add_link<S: Alter>(tx: &mut Transaction<'_, S>, link: &Link) -> Result<usize,
 // Removes a link.
 fn drop_link<S: Alter>(tx: &mut Transaction<'_, S>, link: &Link) -> Result<usize, Error>
     ensures same_reference { tx.new.conn.ghost_name ≡ tx.old.conn.ghost_name }
-    ensures does { DoesInside S.Store (Does (change.DropLink link.now))
+    ensures does { SucceedsInside S.Store (AppliesChange (change.DropLink link.now))
         tx.old.conn tx.new.conn result }
     ensures stays { StaysInside S.Store tx.old.conn tx.new.conn }
 {
@@ -120,10 +122,10 @@ fn drop_link<S: Alter>(tx: &mut Transaction<'_, S>, link: &Link) -> Result<usize
     )
 }
 
-// Adds a hierarchical link.
+// Inserts a hierarchical link.
 fn add_hier<S: Alter>(tx: &mut Transaction<'_, S>, row: &HierRow) -> Result<usize, Error>
     ensures same_reference { tx.new.conn.ghost_name ≡ tx.old.conn.ghost_name }
-    ensures does { DoesInside S.Store (Does (change.AddHier row.now))
+    ensures does { SucceedsInside S.Store (AppliesChange (change.AddHier row.now))
         tx.old.conn tx.new.conn result }
     ensures stays { StaysInside S.Store tx.old.conn tx.new.conn }
 {
@@ -136,7 +138,7 @@ fn add_hier<S: Alter>(tx: &mut Transaction<'_, S>, row: &HierRow) -> Result<usiz
 // Removes a hierarchical link.
 fn drop_hier<S: Alter>(tx: &mut Transaction<'_, S>, row: &HierRow) -> Result<usize, Error>
     ensures same_reference { tx.new.conn.ghost_name ≡ tx.old.conn.ghost_name }
-    ensures does { DoesInside S.Store (Does (change.DropHier row.now))
+    ensures does { SucceedsInside S.Store (AppliesChange (change.DropHier row.now))
         tx.old.conn tx.new.conn result }
     ensures stays { StaysInside S.Store tx.old.conn tx.new.conn }
 {
@@ -146,10 +148,10 @@ fn drop_hier<S: Alter>(tx: &mut Transaction<'_, S>, row: &HierRow) -> Result<usi
     )
 }
 
-// Adds a posting.
+// Inserts a posting.
 fn add_posting<S: Alter>(tx: &mut Transaction<'_, S>, row: &PostingRow) -> Result<usize, Error>
     ensures same_reference { tx.new.conn.ghost_name ≡ tx.old.conn.ghost_name }
-    ensures does { DoesInside S.Store (Does (change.AddPosting row.now))
+    ensures does { SucceedsInside S.Store (AppliesChange (change.AddPosting row.now))
         tx.old.conn tx.new.conn result }
     ensures stays { StaysInside S.Store tx.old.conn tx.new.conn }
 {
@@ -159,10 +161,11 @@ fn add_posting<S: Alter>(tx: &mut Transaction<'_, S>, row: &PostingRow) -> Resul
     )
 }
 
-// Withdraws a posting.
+// Marks a posting as withdrawn.
 fn withdraw<S: Alter>(tx: &mut Transaction<'_, S>, n: PostNo) -> Result<usize, Error>
     ensures same_reference { tx.new.conn.ghost_name ≡ tx.old.conn.ghost_name }
-    ensures does { DoesInside S.Store (Does (change.Withdraw n)) tx.old.conn tx.new.conn result }
+    ensures does { SucceedsInside S.Store (AppliesChange (change.Withdraw n))
+        tx.old.conn tx.new.conn result }
     ensures stays { StaysInside S.Store tx.old.conn tx.new.conn }
 {
     tx.execute(
@@ -174,7 +177,7 @@ fn withdraw<S: Alter>(tx: &mut Transaction<'_, S>, n: PostNo) -> Result<usize, E
 // Sets the place of a posting.
 fn set_place<S: Alter>(tx: &mut Transaction<'_, S>, n: PostNo, place: ResNo) -> Result<usize, Error>
     ensures same_reference { tx.new.conn.ghost_name ≡ tx.old.conn.ghost_name }
-    ensures does { DoesInside S.Store (Does (change.SetPlace n place))
+    ensures does { SucceedsInside S.Store (AppliesChange (change.SetPlace n place))
         tx.old.conn tx.new.conn result }
     ensures stays { StaysInside S.Store tx.old.conn tx.new.conn }
 {
@@ -184,14 +187,14 @@ fn set_place<S: Alter>(tx: &mut Transaction<'_, S>, n: PostNo, place: ResNo) -> 
     )
 }
 
-// Moves all postings not withdrawn that stand at the source.
+// Moves all postings from the source to the target that aren't withdrawn.
 fn move_all<S: Alter>(
     tx: &mut Transaction<'_, S>,
     source: ResNo,
     target: ResNo,
 ) -> Result<usize, Error>
     ensures same_reference { tx.new.conn.ghost_name ≡ tx.old.conn.ghost_name }
-    ensures does { DoesInside S.Store (Does (change.MoveAll source target))
+    ensures does { SucceedsInside S.Store (AppliesChange (change.MoveAll source target))
         tx.old.conn tx.new.conn result }
     ensures stays { StaysInside S.Store tx.old.conn tx.new.conn }
 {
@@ -201,10 +204,10 @@ fn move_all<S: Alter>(
     )
 }
 
-// Adds a move.
+// Inserts a move.
 fn add_move<S: Alter>(tx: &mut Transaction<'_, S>, row: &MoveRow) -> Result<usize, Error>
     ensures same_reference { tx.new.conn.ghost_name ≡ tx.old.conn.ghost_name }
-    ensures does { DoesInside S.Store (Does (change.AddMove row.now))
+    ensures does { SucceedsInside S.Store (AppliesChange (change.AddMove row.now))
         tx.old.conn tx.new.conn result }
     ensures stays { StaysInside S.Store tx.old.conn tx.new.conn }
 {
@@ -217,7 +220,8 @@ fn add_move<S: Alter>(tx: &mut Transaction<'_, S>, row: &MoveRow) -> Result<usiz
 /// Makes one change, inside the transaction.
 pub(crate) fn apply<S: Alter>(tx: &mut Transaction<'_, S>, change: &Change) -> Result<usize, Error>
     ensures same_reference { tx.new.conn.ghost_name ≡ tx.old.conn.ghost_name }
-    ensures does { DoesInside S.Store (Does change.now) tx.old.conn tx.new.conn result }
+    ensures does { SucceedsInside S.Store (AppliesChange change.now)
+        tx.old.conn tx.new.conn result }
     ensures stays { StaysInside S.Store tx.old.conn tx.new.conn }
 {
     match change {

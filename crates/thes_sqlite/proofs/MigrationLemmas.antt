@@ -1,5 +1,6 @@
--- What a migration refuses, and the state that it leaves.
-use Rattle.std.proofs.Common.{arith, inl, inr, ◌≡◌, ◌⊎◌, ◌≤◌, ℕ, List, [], ◌∷◌, map, refl, sym, ap, subst, ◌∙◌, Result, Ok, Err, OnOk, IfErr, Bool, true, false, cond}
+-- Proves which stores a migration rejects, and the state that it leaves.
+use Rattle.std.proofs.Common.{arith, inl, inr, ◌≡◌, ◌⊎◌, ◌≤◌, ℕ, List, [], ◌∷◌, map, refl, sym, ap, subst, ◌∙◌}
+use Rattle.std.proofs.Common.{Result, Ok, Err, OnOk, IfErr, Bool, true, false, cond}
 use Rattle.sqlite.specs.Order.{Row}
 use Rattle.sqlite.specs.Effect.{Database}
 use Rattle.sqlite.specs.State.{HasCleanDisk, Shown}
@@ -14,28 +15,31 @@ use Rattle.thes_base.specs.Legal.{Legal}
 use Rattle.thes_base.specs.State.{State}
 use Rattle.thes_tables.specs.declared.cells.Cell.TheVariants as cells
 use Rattle.thes_tables.specs.Tables.{Tables, IsRowsOf}
-use Rattle.thes_tables.proofs.Listing.{head_one, tail_one, number_one}
+use Rattle.thes_tables.proofs.CellLemmas.{head_one, tail_one, number_one}
 use Rattle.thes_load_rules.specs.Rules.{state_of}
-use Rattle.thes_load_rules.specs.Loads.{Loads}
-use Rattle.thes_load_rules.proofs.Holding.{held_loads}
-use Rattle.thes_sql.specs.Stored.{Keeps}
-use Rattle.thes_sql.specs.Older.{KeepsOld, HasKnownSchema, HasVersion, KeepsKnown, LeavesKnown, version_row, old_schema}
-use Rattle.thes_tables.specs.OldRows.{renewed}
+use Rattle.thes_load_rules.specs.Verdicts.{HasVerdict}
+use Rattle.thes_load_rules.proofs.LegalTableLemmas.{held_loads}
+use Rattle.thes_sql.specs.StoredRows.{Keeps}
+use Rattle.thes_sql.specs.OldStore.{KeepsOld, HasKnownSchema, HasVersion, KeepsKnown, LeavesKnown, version_row}
+use Rattle.thes_sql.specs.OldStore.{old_schema}
+use Rattle.thes_tables.specs.OldRows.{tables_after_migration}
 use Rattle.thes_sql.specs.Reads.{read_text}
-use Rattle.thes_tables.proofs.OldRowLemmas.{renews}
+use Rattle.thes_tables.proofs.OldRowLemmas.{migration_law}
 use Rattle.thes_sqlite.specs.Faults.{IsKeeperFault}
-use Rattle.thes_sqlite.specs.Kept.{raw_in}
-use Rattle.thes_sqlite.specs.Migrated.{IsMigrateFault, IsMetaFault, IsTableFault, IsCause, IsWhole, Migrates}
+use Rattle.thes_sqlite.specs.KeeperView.{raw_in}
+use Rattle.thes_sqlite.specs.MigrationEffects.{IsMigrateFault, IsMetaFault, IsTableFault, IsMigrateCause}
+use Rattle.thes_sqlite.specs.MigrationEffects.{IsKnownStore, Migrates}
 use Rattle.thes_sqlite.specs.MigrationLaws.{HoldsOldState, HoldsState, MigratesState, MigratesStates}
 use Rattle.thes_sqlite.specs.ValueCells.{cell_of}
-use Rattle.thes_sqlite.proofs.Keeping.{raw_of}
+use Rattle.thes_sqlite.proofs.KeeperLemmas.{raw_of}
 
--- The row of meta of a whole store.
+-- The row of meta in a store of version 1 or 2.
 
-abbrev IsRight : ℕ → Type 0
-IsRight version = (version ≡ 1) ⊎ (version ≡ 2)
+abbrev IsKnownVersion : ℕ → Type 0
+IsKnownVersion version = (version ≡ 1) ⊎ (version ≡ 2)
 
-module _ (rows : List Row) (version : ℕ) (base : List ℕ) (is : rows ≡ version_row version base ∷ []) (right : IsRight version) where
+module _ (rows : List Row) (version : ℕ) (base : List ℕ) (is : rows ≡ version_row version base ∷ [])
+    (right : IsKnownVersion version) where
   not_newer : IsMetaFault rows faults.NewerStore → ⊥
   not_newer h =
       let row : version_row version base ≡ h.0 = head_one (sym is ∙ h.1) in
@@ -59,43 +63,45 @@ module _ (rows : List Row) (version : ℕ) (base : List ℕ) (is : rows ≡ vers
   whole_meta (faults.BadStore table.Meta) h = absurd (is_known h)
   whole_meta other h = absurd h
 
-pub version_of : (db : Database) (t : Tables) → IsWhole db t
-    → (version : ℕ) × HasVersion version t.base db × IsRight version
+pub version_of : (db : Database) (t : Tables) → IsKnownStore db t
+    → (version : ℕ) × HasVersion version t.base db × IsKnownVersion version
 version_of db t (inl old) = (1, (inr old.schema, old.hold.meta), inl refl)
 version_of db t (inr now) = (2, (inl now.schema, now.hold.meta), inr refl)
 
-pub known_of : (db : Database) (t : Tables) → IsWhole db t → HasKnownSchema db
+pub known_of : (db : Database) (t : Tables) → IsKnownStore db t → HasKnownSchema db
 known_of db t (inl old) = inr old.schema
 known_of db t (inr now) = inl now.schema
 
--- What was read of meta, after it was asked whether it can be.
+-- The rows of meta, read after the check that they can be.
 module _ {S : Type 0} (g : Ghosts S) (old mid new : Held S) (rows : List Row)
     (same : HasCleanDisk (state g new) → (state g mid).now ≡ (state g old).now)
     (shown : HasCleanDisk (state g new) → Shown (read_text table.Meta) [] (state g mid) (state g new) rows)
     (shows : HasCleanDisk (state g new) → (version : ℕ) (base : List ℕ) → HasVersion version base (state g mid).now
     → rows ≡ version_row version base ∷ []) where
-  meta_cause : (fault : Fault) → IsMetaFault rows fault → HasCleanDisk (state g new) → IsCause g old new fault
+  meta_cause : (fault : Fault) → IsMetaFault rows fault → HasCleanDisk (state g new) → IsMigrateCause g old new fault
   meta_cause faults.OutOfMemory h clean = tt
   meta_cause faults.NewerStore h clean = (rows, (mid, same clean, shown clean), h)
   meta_cause (faults.BadStore table.Meta) h clean = inr (rows, (mid, same clean, shown clean), h)
   meta_cause other h clean = absurd h
 
   pub meta_causes : {V : Type 0} (r : Result V Fault) → IfErr r (IsMetaFault rows)
-      → IfErr r (λ fault. HasCleanDisk (state g new) → IsCause g old new fault)
+      → IfErr r (λ fault. HasCleanDisk (state g new) → IsMigrateCause g old new fault)
   meta_causes (Ok v) h = tt
   meta_causes (Err fault) h = meta_cause fault h
 
   pub meta_whole : {V : Type 0} (r : Result V Fault) → IfErr r (IsMetaFault rows)
-      → IfErr r (λ fault. HasCleanDisk (state g new) → (t : Tables) → IsWhole (state g old).now t → IsKeeperFault fault)
+      → IfErr r (λ fault. HasCleanDisk (state g new) → (t : Tables) → IsKnownStore (state g old).now t
+      → IsKeeperFault fault)
   meta_whole (Ok v) h = tt
   meta_whole (Err fault) h = λ clean t whole.
       let v = version_of (state g old).now t whole in
-      whole_meta rows v.0 t.base (shows clean v.0 t.base (subst (HasVersion v.0 t.base) (sym (same clean)) v.1)) v.2 fault h
+      whole_meta rows v.0 t.base (shows clean v.0 t.base (subst (HasVersion v.0 t.base) (sym (same clean)) v.1)) v.2
+      fault h
 
--- A migration that is refused.
+-- A migration that fails.
 
 pub table_cause : {S : Type 0} (g : Ghosts S) (old new : Held S) (fault : Fault)
-    → IsTableFault (state g new).now.schema fault → IsCause g old new fault
+    → IsTableFault (state g new).now.schema fault → IsMigrateCause g old new fault
 table_cause g old new faults.NewerStore h = absurd h
 table_cause g old new (faults.BadStore table.Meta) h = absurd h
 table_cause g old new other h = h
@@ -115,7 +121,7 @@ module _ {S : Type 0} (g : Ghosts S) (old mid new : Held S) where
       let there = kept (known_on keeps known (clean_before second.clean clean)) clean in
       (there.0 ∙ here.0, there.1 ∙ here.1)
 
-  -- one more is asked of a database that was left as it was
+  -- One more query leaves the database as it is.
   pub leaves_on : KeepsKnown g old mid → LeavesKnown g old mid → LeavesKnown g mid new → LeavesKnown g old new
   leaves_on keeps first second = record {
     mode = λ idle. second.mode (first.mode idle);
@@ -130,24 +136,27 @@ module _ {S : Type 0} (g : Ghosts S) (old mid new : Held S) where
         (second.crash (known_on keeps known (clean_before second.clean clean)) clean db leave);
   }
 
--- where it was found to be one of version 1, it isn't one of version 2
+-- A store found to be of version 1 isn't one of version 2.
 older_only : (older : Bool) → older ≡ true → ◌≡◌ {A = ℕ} 2 (cond older 1 2) → ⊥
 older_only true is e = cc
 older_only false is e = cc
 
 pub old_schema_of : {S : Type 0} (g : Ghosts S) (old mid : Held S) (older : Bool) → KeepsKnown g old mid → older ≡ true
     → ((version : ℕ) (base : List ℕ) → HasVersion version base (state g old).now → version ≡ cond older 1 2)
-    → HasCleanDisk (state g mid) → (t : Tables) → IsWhole (state g old).now t → (state g mid).now.schema ≡ old_schema
-old_schema_of g old mid older keeps is tells clean t (inl was) =
+    → HasCleanDisk (state g mid) → (t : Tables) → IsKnownStore (state g old).now t → (state g mid).now.schema
+    ≡ old_schema
+old_schema_of g old mid older keeps is reports clean t (inl was) =
     ap (λ (db : Database). db.schema) (keeps (inr was.schema) clean).0 ∙ was.schema
-old_schema_of g old mid older keeps is tells clean t (inr now) =
-    absurd (older_only older is (tells 2 t.base (inl now.schema, now.hold.meta)))
+old_schema_of g old mid older keeps is reports clean t (inr now) =
+    absurd (older_only older is (reports 2 t.base (inl now.schema, now.hold.meta)))
 
-pub refuses : {S : Type 0} (g : Ghosts S) (old new : Held S) (fault : Fault) → old.in_transaction ≡ false → LeavesKnown g old new
-    → IsMigrateFault fault → (HasCleanDisk (state g new) → IsCause g old new fault)
-    → (HasCleanDisk (state g new) → (t : Tables) → IsWhole (state g old).now t → IsKeeperFault fault)
+-- A call that fails with a migration's fault, and leaves the store as it is, satisfies the contract.
+pub migration_refused : {S : Type 0} (g : Ghosts S) (old new : Held S) (fault : Fault) → old.in_transaction ≡ false
+    → LeavesKnown g old new
+    → IsMigrateFault fault → (HasCleanDisk (state g new) → IsMigrateCause g old new fault)
+    → (HasCleanDisk (state g new) → (t : Tables) → IsKnownStore (state g old).now t → IsKeeperFault fault)
     → Migrates g old new (Err fault)
-refuses g old new fault idle leaves named cause whole = record {
+migration_refused g old new fault idle leaves named cause whole = record {
   idle = leaves.mode idle;
   version = tt;
   faults = named;
@@ -164,32 +173,35 @@ refuses g old new fault idle leaves named cause whole = record {
 module _ {S : Type 0} (g : Ghosts S) (base : List ℕ) (s : State) (old new : Held S) (clean : HasCleanDisk (state g new))
     (was : HoldsOldState base s (state g old).now) where
   abbrev t : Tables
-  t = renewed was.0
+  t = tables_after_migration was.0
 
   rows : IsRowsOf base s t
-  rows = (renews base s was.0).0 was.2
+  rows = (migration_law base s was.0).0 was.2
 
   holds : (r : Result ℕ Fault) → OnOk r (HasCleanDisk (state g new) → (t : Tables) → KeepsOld (state g old).now t
-      → Keeps (state g new).committed (renewed t) × Keeps (state g new).now (renewed t))
+      → Keeps (state g new).committed (tables_after_migration t) × Keeps (state g new).now (tables_after_migration t))
       → OnOk r (HoldsState base s (state g new).now × HoldsState base s (state g new).committed)
   holds (Err e) made = tt
   holds (Ok v) made = let both = made clean was.0 was.1 in ((t, both.1, rows), (t, both.0, rows))
 
   loads : (r : Result ℕ Fault) → OnOk r (HasCleanDisk (state g new) → (t : Tables) → KeepsOld (state g old).now t
-      → Keeps (state g new).committed (renewed t) × Keeps (state g new).now (renewed t))
-      → OnOk r (Legal base s → (t : Tables) × Loads (raw_in (state g new).now.trees) (Ok t) × (state_of t ≡ s))
+      → Keeps (state g new).committed (tables_after_migration t) × Keeps (state g new).now (tables_after_migration t))
+      → OnOk r (Legal base s → (t : Tables) × HasVerdict (raw_in (state g new).now.trees) (Ok t) × (state_of t ≡ s))
   loads (Err e) made = tt
   loads (Ok v) made = λ legal.
       let both = made clean was.0 was.1 in
       let told = held_loads base s t legal rows in
-      (t, subst (λ raw. Loads raw (Ok t)) (sym (raw_of (state g new).now.trees t both.1.hold)) told.0, told.1)
+      (t, subst (λ raw. HasVerdict raw (Ok t)) (sym (raw_of (state g new).now.trees t both.1.hold)) told.0, told.1)
 
-  pub of_migration : (r : Result ℕ Fault) → Migrates g old new r → MigratesState g base s old new r
-  of_migration r m = record {
+  pub state_migrated : (r : Result ℕ Fault) → Migrates g old new r → MigratesState g base s old new r
+  state_migrated r m = record {
     holds = holds r m.made;
     loads = loads r m.made;
-    crash = λ db may. elim (m.crash clean was.0 was.1 db may) [ inl before ↦ inl before | inr made ↦ inr (t, made, rows) ];
+    crash = λ db may. elim (m.crash clean was.0 was.1 db may) [
+      | inl before ↦ inl before
+      | inr made ↦ inr (t, made, rows)
+    ];
   }
 
 pub migrates_states : {S : Type 0} (g : Ghosts S) → MigratesStates g
-migrates_states g base s old new r m clean was = of_migration g base s old new clean was r m
+migrates_states g base s old new r m clean was = state_migrated g base s old new clean was r m

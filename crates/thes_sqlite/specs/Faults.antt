@@ -1,8 +1,8 @@
--- The faults of a keeper.
+-- Faults of storage in a database.
 use Rattle.std.specs.Prelude.{◌≡◌, ◌⊎◌}
 use Rattle.thes_base.specs.declared.fault.Fault.{Fault}
 use Rattle.thes_base.specs.declared.fault.Fault.TheVariants as faults
 
--- running out of memory, or a fault of the store
+-- The fault is OutOfMemory or Store.
 abbrev pub IsKeeperFault : Fault → Type 0
 IsKeeperFault fault = (fault ≡ faults.OutOfMemory) ⊎ (fault ≡ faults.Store)

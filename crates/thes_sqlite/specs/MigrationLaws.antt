@@ -1,4 +1,4 @@
--- The state that a store holds, before a migration and after it.
+-- The state that a store holds before and after a migration.
 use Rattle.std.specs.Prelude.{◌≡◌, ◌⊎◌, ℕ, List, Result, Ok, OnOk}
 use Rattle.sqlite.specs.Tree.{Trees}
 use Rattle.sqlite.specs.Effect.{Database}
@@ -10,12 +10,12 @@ use Rattle.thes_base.specs.Legal.{Legal}
 use Rattle.thes_base.specs.State.{State}
 use Rattle.thes_tables.specs.Tables.{Tables, IsRowsOf}
 use Rattle.thes_load_rules.specs.Rules.{state_of}
-use Rattle.thes_load_rules.specs.Loads.{Loads}
-use Rattle.thes_sql.specs.Stored.{Keeps, Hold}
-use Rattle.thes_sql.specs.Older.{KeepsOld}
+use Rattle.thes_load_rules.specs.Verdicts.{HasVerdict}
+use Rattle.thes_sql.specs.StoredRows.{Keeps, Hold}
+use Rattle.thes_sql.specs.OldStore.{KeepsOld}
 use Rattle.thes_tables.specs.OldRows.{IsOldRowsOf}
-use Rattle.thes_sqlite.specs.Kept.{raw_in}
-use Rattle.thes_sqlite.specs.Migrated.{Migrates}
+use Rattle.thes_sqlite.specs.KeeperView.{raw_in}
+use Rattle.thes_sqlite.specs.MigrationEffects.{Migrates}
 
 -- The database is a store of version 1, and its rows are version 1's rows of this state.
 abbrev pub HoldsOldState : List ℕ → State → Database → Type 0
@@ -25,22 +25,24 @@ HoldsOldState base s db = (t : Tables) × KeepsOld db t × IsOldRowsOf base s t
 abbrev pub HoldsState : List ℕ → State → Database → Type 0
 HoldsState base s db = (t : Tables) × Keeps db t × IsRowsOf base s t
 
--- So it is with the rows that an open after a crash finds.
+-- The trees that an open after a crash finds hold version 2's rows of this state.
 abbrev pub FindsState : List ℕ → State → Trees → Type 0
 FindsState base s db = (t : Tables) × Hold db t × IsRowsOf base s t
 
--- What a migration makes of a store of version 1 that holds a state.
+-- The outcome of migrating a store of version 1 that holds a state.
 pub record MigratesState {S : Type 0} (g : Ghosts S) (base : List ℕ) (s : State) (old new : Held S) (r : Result ℕ Fault)
     : Type 0 where
-  -- the rows of the same state, committed
+  -- The database holds the same state, and it is committed.
   pub holds : OnOk r (HoldsState base s (state g new).now × HoldsState base s (state g new).committed)
-  -- they load, and it is the state that they tell
-  pub loads : OnOk r (Legal base s → (t : Tables) × Loads (raw_in (state g new).now.trees) (Ok t) × (state_of t ≡ s))
-  -- a crash leaves what it left before, or these rows
+  -- The rows of a legal state load, and yield this state.
+  pub loads : OnOk r (Legal base s → (t : Tables) × HasVerdict (raw_in (state g new).now.trees) (Ok t)
+      × (state_of t ≡ s))
+  -- A crash leaves what it could leave before the call, or the migrated rows.
   pub crash : (db : Trees) → (state g new).may_leave db → (state g old).may_leave db ⊎ FindsState base s db
 
--- Where the rows were version 1's rows of a state, they are after the migration version 2's rows of the same state.
+-- A migration takes a store with version 1's rows of a state to version 2's rows of the same state.
 abbrev pub MigratesStates : {S : Type 0} → Ghosts S → Type 0
 MigratesStates {S} g =
-    (base : List ℕ) (s : State) (old new : Held S) (r : Result ℕ Fault) → Migrates g old new r → HasCleanDisk (state g new)
+    (base : List ℕ) (s : State) (old new : Held S) (r : Result ℕ Fault) → Migrates g old new r
+    → HasCleanDisk (state g new)
     → HoldsOldState base s (state g old).now → MigratesState g base s old new r

@@ -1,4 +1,4 @@
--- The cells of values in a database that may hold anything.
+-- The cells of SQL values, in a database that may hold anything.
 use Rattle.std.specs.Prelude.{negsuc, if◌then◌else◌}
 use Rattle.std.specs.Str.{is_utf8}
 use Rattle.sqlite.specs.declared.types.Value.{Value}
@@ -6,11 +6,11 @@ use Rattle.sqlite.specs.declared.types.Value.TheVariants.{Null, Int, Text, Real,
 use Rattle.thes_tables.specs.declared.cells.Cell.{Cell}
 use Rattle.thes_tables.specs.declared.cells.Cell.TheVariants as cells
 
--- the number that stands for a value that no row of a store has: no column takes it
+-- The placeholder -1 for a value that no row of a store has; no column accepts it.
 abbrev pub no_cell : Cell
 no_cell = cells.Int (negsuc 0)
 
--- A number, a text of UTF-8 and null are cells. No other value is one.
+-- An integer, a UTF-8 text and null are cells; any other value is the placeholder.
 abbrev pub cell_of : Value → Cell
 cell_of Null = cells.Null
 cell_of (Int n) = cells.Int n

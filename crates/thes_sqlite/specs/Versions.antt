@@ -1,11 +1,11 @@
--- What the cells of a row of meta tell of its version.
+-- The version in the cells of a row of meta.
 use Rattle.std.specs.Prelude.{◌<◌, ◌≤◌, ℕ, List, Option, None, Some}
 use Rattle.thes_tables.specs.declared.cells.Cell.{Cell}
 use Rattle.thes_sqlite.specs.declared.migrating.Version.{Version}
 use Rattle.thes_sqlite.specs.declared.migrating.Version.TheVariants.{Older, Current, Newer}
-use Rattle.thes_sqlite.specs.Migrated.{IsVersionRow}
+use Rattle.thes_sqlite.specs.MigrationEffects.{IsVersionRow}
 
--- the cells are those of version 1, of this version or of a newer one; or of none from 1 on
+-- The cells are those of version 1, of version 2, of a newer version, or (None) of no version from 1 on.
 abbrev pub SpellsVersion : List Cell → Option Version → Type 0
 SpellsVersion cells (Some Older) = IsVersionRow 1 cells
 SpellsVersion cells (Some Current) = IsVersionRow 2 cells

@@ -1,4 +1,4 @@
-//! The faults of a keeper.
+//! Faults of storage in a database.
 ghost use Rattle.std.specs.Prelude.{◌≡◌, ◌≢◌, ◌≤◌, ◌+◌};
 ghost use Rattle.thes_store.specs.Causes.{IsCounted};
 ghost use Rattle.thes_sqlite.specs.Faults.{IsKeeperFault};
@@ -6,9 +6,10 @@ ghost use Rattle.thes_sqlite.specs.Faults.{IsKeeperFault};
 use sqlite::{Error, ErrorCode};
 use thes_base::fault::Fault;
 
-/// Tells which fault an error is: running out of memory, or one of the store.
+/// Maps an error to a fault: `OutOfMemory` or `Store`.
 pub fn fault_of(error: Error) -> Fault
-    ensures memory { error ≡ Error.SqliteFailure ErrorCode.OutOfMemory → result ≡ Fault.OutOfMemory }
+    ensures memory { error ≡ Error.SqliteFailure ErrorCode.OutOfMemory
+        → result ≡ Fault.OutOfMemory }
     ensures store { error ≢ Error.SqliteFailure ErrorCode.OutOfMemory → result ≡ Fault.Store }
     ensures kind { IsKeeperFault result }
 {
@@ -18,7 +19,7 @@ pub fn fault_of(error: Error) -> Fault
     }
 }
 
-/// Counts a fault, if it is one of the store. At its greatest value the count stays.
+/// Counts a fault unless it is `OutOfMemory`, and returns it. The count saturates.
 pub(crate) fn count_fault(failures: &mut u64, fault: Fault) -> Fault
     requires { IsKeeperFault fault }
     ensures same { result ≡ fault }

@@ -1,4 +1,4 @@
-//! The cells of rows in a database that may hold anything.
+//! Cells of rows in a database that may hold anything.
 ghost use Rattle.std.specs.Prelude.{◌≡◌, map, IfOk};
 ghost use Rattle.sqlite_value.specs.Value.{owned};
 ghost use Rattle.thes_sqlite.specs.ValueCells.{cell_of};
@@ -8,8 +8,8 @@ use sqlite::types::ValueRef;
 use std::alloc::{AllocError, Global};
 use thes_tables::cells::{Cell, CellText};
 
-// The cell of a value. A value that no row of a store has comes as a number that no column takes.
-fn cell_found(alloc: Global, value: ValueRef<'_>) -> Result<Cell, AllocError>
+// Returns a value as a cell. A value that no row of a store has becomes -1, which no column accepts.
+fn any_cell_of(alloc: Global, value: ValueRef<'_>) -> Result<Cell, AllocError>
     ensures { IfOk result (λ cell. cell ≡ cell_of (owned value.entry)) }
 {
     match value {
@@ -23,14 +23,14 @@ fn cell_found(alloc: Global, value: ValueRef<'_>) -> Result<Cell, AllocError>
     }
 }
 
-/// Reads the cells of a row, whatever its values are.
-pub(crate) fn cells_found(alloc: Global, row: &Row) -> Result<Vec<Cell>, AllocError>
+/// Reads the cells of a row with any values.
+pub(crate) fn any_cells_of(alloc: Global, row: &Row) -> Result<Vec<Cell>, AllocError>
     ensures { IfOk result (λ cells. cells.items ≡ map cell_of row.now) }
 {
     let mut cells = Vec::new(alloc);
     'columns: for at in 0..row.column_count() {
         if let Ok(value) = row.get_ref(at) {
-            cells.push(cell_found(alloc, value)?)?;
+            cells.push(any_cell_of(alloc, value)?)?;
         }
     }
     Ok(cells)

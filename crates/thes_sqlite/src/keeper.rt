@@ -1,22 +1,22 @@
-//! A keeper over the tables of a database.
+//! Storage in a database.
 ghost use Rattle.std.specs.Prelude.{◌≡◌, ◌⊎◌, ◌<◌, false, OnOk, OnErr, IfOk, IfErr};
-ghost use Rattle.thes_tables.specs.Tables.{Tables, no_rows};
-ghost use Rattle.thes_tables.specs.Rows.{FitAll};
-ghost use Rattle.thes_tables.specs.Cells.{listed};
+ghost use Rattle.thes_tables.specs.Tables.{Tables, empty_tables};
+ghost use Rattle.thes_tables.specs.Rows.{DeltaFits};
+ghost use Rattle.thes_tables.specs.Cells.{cells_of_tables};
 ghost use Rattle.thes_sql.specs.Schema.{schema_0};
-ghost use Rattle.thes_sql.specs.Does.{IsEmpty};
+ghost use Rattle.thes_sql.specs.TransactionEffects.{IsEmpty};
 ghost use Rattle.thes_base.specs.declared.fault.Table.{Table};
 ghost use Rattle.thes_store.specs.Causes.{HasCause};
-ghost use Rattle.thes_store.specs.Handing.{Hands, handed_of, handed};
-ghost use Rattle.thes_store.specs.Reading.{IsFound, IsTold, standing_rows};
-ghost use Rattle.thes_store.specs.Loading.{handed_tables};
-ghost use Rattle.thes_sqlite.specs.Kept.{IsUp, IsStore, IsServing, LeadsTo, LeavesEither, LeavesAfter};
-ghost use Rattle.thes_sqlite.specs.Kept.{raw_table, raw_of_keeper};
+ghost use Rattle.thes_store.specs.Sinks.{SinkOutcome, sink_rows_of_table, sink_rows};
+ghost use Rattle.thes_store.specs.Reading.{IsPostingOfKey, IsPostingOfNumber, standing_rows};
+ghost use Rattle.thes_store.specs.Loading.{sink_rows_of_tables};
+ghost use Rattle.thes_sqlite.specs.KeeperView.{IsUp, IsStore, IsServing, RawAfterChanges, LeavesEither, LeavesAfter};
+ghost use Rattle.thes_sqlite.specs.KeeperView.{raw_table, raw_of_keeper};
 ghost use Rattle.sqlite.specs.Held.{state};
 
 use crate::faults::{count_fault, fault_of};
-use crate::finding::{find_posting, find_told};
-use crate::handing::{hand_found, hand_postings};
+use crate::finding::{find_posting, find_with_moves};
+use crate::row_output::{yield_postings, yield_table_rows};
 use sqlite::{Alter, Connection};
 use std::alloc::Global;
 use std::marker::Model;
@@ -26,47 +26,47 @@ use thes_base::number::{PostNo, ResNo};
 use thes_base::text::{Base, Key};
 use thes_sql::commit::commit_all;
 use thes_sql::create::create_tables;
-use thes_sql::reads::rows_standing;
-use thes_store::handing::tables_in_order;
+use thes_sql::reads::posting_rows_at;
 use thes_store::keeper::{Keeper, Posting};
+use thes_store::row_output::tables_in_order;
 use thes_store::sink::{PostingSink, RowSink};
 use thes_tables::change::Change;
 use thes_tables::delta::Delta;
 use thes_tables::rows::PostingRow;
 
-/// Keeps the tables of a store in a database.
+/// A `Keeper` with its tables in a database.
 pub struct SqlKeeper<S: Alter> {
     conn: Connection<S>,
     failures: u64,
-    // the connection as it came
+    // The connection at the start.
     first: Snapshot<Connection<S>>,
     alloc: Global,
 }
 
 impl<S: Alter> Model for SqlKeeper<S> {
     ghost use Rattle.sqlite.specs.Held.{state};
-    ghost use Rattle.thes_sqlite.specs.Kept.{Kept, kept_code, IsKept};
+    ghost use Rattle.thes_sqlite.specs.KeeperView.{KeeperView, keeper_view_code, IsKeeperState};
 
-    ghost Value = { Kept S };
+    ghost Value = { KeeperView S };
 
-    ghost coded = { kept_code S.code };
+    ghost coded = { keeper_view_code S.code };
 
     ghost view = { λ k. record { conn = k.conn; failures = k.failures; first = k.first.value } };
 
-    ghost invariant = { λ k. IsKept (state S.Store k.first.value) (state S.Store k.conn) };
+    ghost invariant = { λ k. IsKeeperState (state S.Store k.first.value) (state S.Store k.conn) };
 }
 
 impl<S: Alter> SqlKeeper<S> {
-    /// Makes the tables of a new store in a database without tables, and serves them. After a fault the database is as it
-    /// was.
+    /// Creates the tables of a new store in a database without tables. After a fault the database is unchanged.
     pub fn create(
         alloc: Global,
         mut conn: Connection<S>,
         base: &Base,
     ) -> Result<SqlKeeper<S>, (Fault, Connection<S>)>
         requires idle { conn.in_transaction ≡ false }
-        ensures made { IsEmpty schema_0 (state S.Store conn).now → IfOk result (λ k. IsUp (state S.Store k.conn)
-            → raw_of_keeper S.Store k ≡ listed (no_rows base.now)) }
+        ensures made { IsEmpty schema_0 (state S.Store conn).now
+            → IfOk result (λ k. IsUp (state S.Store k.conn)
+            → raw_of_keeper S.Store k ≡ cells_of_tables (empty_tables base.now)) }
         ensures serves { IsEmpty schema_0 (state S.Store conn).now
             → IfOk result (λ k. (k.failures ≡ 0) × IsStore (state S.Store k.first)) }
         ensures back { IfErr result (λ e. IsUp (state S.Store e.1)
@@ -79,12 +79,13 @@ impl<S: Alter> SqlKeeper<S> {
         }
     }
 
-    /// Takes over a database that may hold anything, and reads nothing of it yet. Where it is that of a store, the keeper
-    /// serves its tables; else a load hands out what is found.
+    /// Takes over a database that may hold anything, without reading it. If it is that of a store, the `SqlKeeper`
+    /// serves its tables; if not, a load passes on what is there.
     pub fn adopt(alloc: Global, conn: Connection<S>) -> SqlKeeper<S>
         requires { conn.in_transaction ≡ false }
         ensures is { result ≡ record { conn = conn; failures = 0; first = conn } }
-        ensures serves { IsStore (state S.Store conn) → IsUp (state S.Store conn) → IsServing S.Store result }
+        ensures serves { IsStore (state S.Store conn) → IsUp (state S.Store conn)
+            → IsServing S.Store result }
     {
         let first = Snapshot::of(&conn);
         SqlKeeper {
@@ -95,7 +96,7 @@ impl<S: Alter> SqlKeeper<S> {
         }
     }
 
-    /// Hands the connection back.
+    /// Returns the connection.
     pub fn into_connection(self) -> Connection<S>
         ensures { result ≡ self.conn }
     {
@@ -108,19 +109,22 @@ impl<S: Alter> SqlKeeper<S> {
         conn
     }
 
-    /// Makes all of the changes, or none, also where a crash comes at any moment.
+    /// Makes the changes atomically, even if a crash interrupts the call.
     pub fn make(&mut self, changes: &[Change]) -> Result<(), Fault>
-        requires { IsServing S.Store self.old → (t : Tables) → raw_of_keeper S.Store self.old ≡ listed t
-            → FitAll changes.now t }
+        requires { IsServing S.Store self.old
+            → (t : Tables) → raw_of_keeper S.Store self.old ≡ cells_of_tables t
+            → DeltaFits changes.now t }
         ensures ok { OnOk result (IsServing S.Store self.new
-            → LeadsTo changes.now (raw_of_keeper S.Store self.old) (raw_of_keeper S.Store self.new)) }
+            → RawAfterChanges changes.now
+            (raw_of_keeper S.Store self.old) (raw_of_keeper S.Store self.new)) }
         ensures err { OnErr result (IsServing S.Store self.new
             → raw_of_keeper S.Store self.new ≡ raw_of_keeper S.Store self.old) }
         ensures was { IsServing S.Store self.new → IsServing S.Store self.old }
         ensures cause { HasCause self.old.failures self.new.failures result }
         ensures first { self.new.first ≡ self.old.first }
 
-        // At each exit a crash leaves the tables from before the changes or after them; once it is done, only these.
+        // A crash at any exit leaves the tables without the changes or with all of them; after success, only the
+        // latter.
         ensures crash { IsStore (state S.Store self.old.first)
             → LeavesEither changes.now (state S.Store self.old.conn) (state S.Store self.new.conn) }
         ensures durable { OnOk result (IsStore (state S.Store self.old.first)
@@ -132,34 +136,36 @@ impl<S: Alter> SqlKeeper<S> {
         }
     }
 
-    // Hands the rows of a table to a sink.
-    fn hand_table<R: RowSink>(&mut self, name: Table, sink: &mut R) -> Result<(), Fault>
-        ensures hands { IsServing S.Store self.new → Hands R.gives sink.old
-            (handed_of name (raw_table name (state S.Store self.old.conn).now.trees))
+    // Passes the rows of a table to a sink.
+    fn yield_table<R: RowSink>(&mut self, name: Table, sink: &mut R) -> Result<(), Fault>
+        ensures yields { IsServing S.Store self.new → SinkOutcome R.gives sink.old
+            (sink_rows_of_table name (raw_table name (state S.Store self.old.conn).now.trees))
             result sink.new }
-        ensures same { IsServing S.Store self.new → raw_of_keeper S.Store self.new ≡ raw_of_keeper S.Store self.old }
+        ensures same { IsServing S.Store self.new
+            → raw_of_keeper S.Store self.new ≡ raw_of_keeper S.Store self.old }
         ensures was { IsServing S.Store self.new → IsServing S.Store self.old }
         ensures cause { HasCause self.old.failures self.new.failures result }
         ensures first { self.new.first ≡ self.old.first }
     {
-        match hand_found(self.alloc, &mut self.conn, name, sink) {
+        match yield_table_rows(self.alloc, &mut self.conn, name, sink) {
             Ok(_) => Ok(()),
             Err(fault) => Err(count_fault(&mut self.failures, fault)),
         }
     }
 
-    // Hands the rows of some tables to a sink, table after table.
-    fn hand_tables<R: RowSink>(&mut self, names: &[Table], sink: &mut R) -> Result<(), Fault>
-        ensures hands { IsServing S.Store self.new → Hands R.gives sink.old
-            (handed_tables (raw_of_keeper S.Store self.old) names.now)
+    // Passes the rows of some tables to a sink, table after table.
+    fn yield_tables<R: RowSink>(&mut self, names: &[Table], sink: &mut R) -> Result<(), Fault>
+        ensures yields { IsServing S.Store self.new → SinkOutcome R.gives sink.old
+            (sink_rows_of_tables (raw_of_keeper S.Store self.old) names.now)
             result sink.new }
-        ensures same { IsServing S.Store self.new → raw_of_keeper S.Store self.new ≡ raw_of_keeper S.Store self.old }
+        ensures same { IsServing S.Store self.new
+            → raw_of_keeper S.Store self.new ≡ raw_of_keeper S.Store self.old }
         ensures was { IsServing S.Store self.new → IsServing S.Store self.old }
         ensures cause { HasCause self.old.failures self.new.failures result }
         ensures first { self.new.first ≡ self.old.first }
     {
         for name in names {
-            if let Err(fault) = self.hand_table(*name, sink) {
+            if let Err(fault) = self.yield_table(*name, sink) {
                 return Err(fault);
             }
         }
@@ -168,7 +174,7 @@ impl<S: Alter> SqlKeeper<S> {
 }
 
 impl<S: Alter> Keeper for SqlKeeper<S> {
-    ghost use Rattle.thes_sqlite.specs.Kept.{raw_of_keeper, IsServing};
+    ghost use Rattle.thes_sqlite.specs.KeeperView.{raw_of_keeper, IsServing};
 
     ghost rows = { λ k. raw_of_keeper S.Store k };
 
@@ -181,21 +187,25 @@ impl<S: Alter> Keeper for SqlKeeper<S> {
     }
 
     fn load<R: RowSink>(&mut self, sink: &mut R) -> Result<(), Fault>
-        ensures hands { IsServing S.Store self.new
-            → Hands R.gives sink.old (handed (raw_of_keeper S.Store self.old)) result sink.new }
-        ensures same { IsServing S.Store self.new → raw_of_keeper S.Store self.new ≡ raw_of_keeper S.Store self.old }
+        ensures yields { IsServing S.Store self.new
+            → SinkOutcome R.gives sink.old
+            (sink_rows (raw_of_keeper S.Store self.old)) result sink.new }
+        ensures same { IsServing S.Store self.new
+            → raw_of_keeper S.Store self.new ≡ raw_of_keeper S.Store self.old }
         ensures was { IsServing S.Store self.new → IsServing S.Store self.old }
         ensures cause { HasCause self.old.failures self.new.failures result }
         ensures first { self.new.first ≡ self.old.first }
     {
-        self.hand_tables(&tables_in_order(), sink)
+        self.yield_tables(&tables_in_order(), sink)
     }
 
     fn commit(&mut self, delta: Delta) -> Result<(), Fault>
-        requires fits { IsServing S.Store self.old → (t : Tables) → raw_of_keeper S.Store self.old ≡ listed t
-            → FitAll delta t }
+        requires fits { IsServing S.Store self.old
+            → (t : Tables) → raw_of_keeper S.Store self.old ≡ cells_of_tables t
+            → DeltaFits delta t }
         ensures ok { OnOk result (IsServing S.Store self.new
-            → LeadsTo delta (raw_of_keeper S.Store self.old) (raw_of_keeper S.Store self.new)) }
+            → RawAfterChanges delta
+            (raw_of_keeper S.Store self.old) (raw_of_keeper S.Store self.new)) }
         ensures err { OnErr result (IsServing S.Store self.new
             → raw_of_keeper S.Store self.new ≡ raw_of_keeper S.Store self.old) }
         ensures was { IsServing S.Store self.new → IsServing S.Store self.old }
@@ -207,8 +217,9 @@ impl<S: Alter> Keeper for SqlKeeper<S> {
 
     fn find(&mut self, key: &Key) -> Result<Option<PostingRow>, Fault>
         ensures ok { IfOk result (λ found. IsServing S.Store self.new → (t : Tables)
-            → raw_of_keeper S.Store self.old ≡ listed t → IsFound key.now t.posting found) }
-        ensures same { IsServing S.Store self.new → raw_of_keeper S.Store self.new ≡ raw_of_keeper S.Store self.old }
+            → raw_of_keeper S.Store self.old ≡ cells_of_tables t → IsPostingOfKey key.now t.posting found) }
+        ensures same { IsServing S.Store self.new
+            → raw_of_keeper S.Store self.new ≡ raw_of_keeper S.Store self.old }
         ensures was { IsServing S.Store self.new → IsServing S.Store self.old }
         ensures cause { HasCause self.old.failures self.new.failures result }
         ensures first { self.new.first ≡ self.old.first }
@@ -221,28 +232,31 @@ impl<S: Alter> Keeper for SqlKeeper<S> {
 
     fn posting(&mut self, number: PostNo) -> Result<Option<Posting>, Fault>
         ensures ok { IfOk result (λ told. IsServing S.Store self.new → (t : Tables)
-            → raw_of_keeper S.Store self.old ≡ listed t → IsTold number t told) }
-        ensures same { IsServing S.Store self.new → raw_of_keeper S.Store self.new ≡ raw_of_keeper S.Store self.old }
+            → raw_of_keeper S.Store self.old ≡ cells_of_tables t → IsPostingOfNumber number t told) }
+        ensures same { IsServing S.Store self.new
+            → raw_of_keeper S.Store self.new ≡ raw_of_keeper S.Store self.old }
         ensures was { IsServing S.Store self.new → IsServing S.Store self.old }
         ensures cause { HasCause self.old.failures self.new.failures result }
         ensures first { self.new.first ≡ self.old.first }
     {
-        match find_told(self.alloc, &mut self.conn, number) {
+        match find_with_moves(self.alloc, &mut self.conn, number) {
             Ok(told) => Ok(told),
             Err(error) => Err(count_fault(&mut self.failures, fault_of(error))),
         }
     }
 
     fn standing<P: PostingSink>(&mut self, concept: ResNo, sink: &mut P) -> Result<(), Fault>
-        ensures hands { IsServing S.Store self.new → (t : Tables) → raw_of_keeper S.Store self.old ≡ listed t
-            → Hands P.gives sink.old (standing_rows concept t.posting) result sink.new }
-        ensures same { IsServing S.Store self.new → raw_of_keeper S.Store self.new ≡ raw_of_keeper S.Store self.old }
+        ensures yields { IsServing S.Store self.new
+            → (t : Tables) → raw_of_keeper S.Store self.old ≡ cells_of_tables t
+            → SinkOutcome P.gives sink.old (standing_rows concept t.posting) result sink.new }
+        ensures same { IsServing S.Store self.new
+            → raw_of_keeper S.Store self.new ≡ raw_of_keeper S.Store self.old }
         ensures was { IsServing S.Store self.new → IsServing S.Store self.old }
         ensures cause { HasCause self.old.failures self.new.failures result }
         ensures first { self.new.first ≡ self.old.first }
     {
-        match rows_standing(&mut self.conn, concept) {
-            Ok(rows) => match hand_postings(self.alloc, rows.as_slice(), sink) {
+        match posting_rows_at(&mut self.conn, concept) {
+            Ok(rows) => match yield_postings(self.alloc, rows.as_slice(), sink) {
                 Ok(_) => Ok(()),
                 Err(fault) => Err(count_fault(&mut self.failures, fault)),
             },

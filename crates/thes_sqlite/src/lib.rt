@@ -1,11 +1,11 @@
-//! A keeper of the tables in a database.
+//! Storage for the tables in a database.
 #![tactic(auto)]
 
 pub mod faults;
 mod finding;
 mod found;
-mod handing;
 pub mod keeper;
 pub mod laws;
 pub mod migrating;
+mod row_output;
 mod rows;

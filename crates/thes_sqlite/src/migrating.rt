@@ -1,15 +1,15 @@
-//! From version 1 of the tables to version 2.
+//! Migrates a store from version 1 of the tables to version 2.
 ghost use Rattle.std.specs.Prelude.{◌≡◌, ◌∷◌, [], ℕ, List, cond, IfOk, IfErr, OnOk, false};
 ghost use Rattle.thes_tables.specs.Tables.{Tables};
-ghost use Rattle.thes_sql.specs.Older.{HasVersion, HasKnownSchema, version_row, old_schema, KeepsKnown, LeavesKnown};
+ghost use Rattle.thes_sql.specs.OldStore.{HasVersion, HasKnownSchema, version_row, old_schema, KeepsKnown, LeavesKnown};
 ghost use Rattle.thes_sqlite.specs.Faults.{IsKeeperFault};
-ghost use Rattle.thes_sqlite.specs.Migrated.{IsMigrateFault, IsMetaFault, IsTableFault, IsCause, IsWhole, Migrates};
+ghost use Rattle.thes_sqlite.specs.MigrationEffects.{IsMigrateFault, IsMetaFault, IsTableFault, IsMigrateCause, IsKnownStore, Migrates};
 ghost use Rattle.thes_sqlite.specs.Versions.{SpellsVersion};
 ghost use Rattle.sqlite.specs.State.{HasCleanDisk};
 ghost use Rattle.sqlite.specs.Held.{state};
 
 use crate::faults::fault_of;
-use crate::found::cells_found;
+use crate::found::any_cells_of;
 use sqlite::{Alter, Connection, Row};
 use std::alloc::Global;
 use thes_base::fault::{Fault, Table};
@@ -17,7 +17,7 @@ use thes_sql::migrate::migrate_tables;
 use thes_sql::versions::{has_hier, has_links, has_meta, version_rows};
 use thes_tables::cells::Cell;
 
-// A version of the tables: that before this one, this one, or a later one.
+// A version of the tables, relative to this one.
 #[derive(Clone, Copy)]
 enum Version {
     Older,
@@ -25,7 +25,7 @@ enum Version {
     Newer,
 }
 
-// The version in a row of meta, whatever its base is.
+// Returns the version in a row of meta, with any base.
 fn version_in(cells: &[Cell]) -> Option<Version>
     ensures { SpellsVersion cells.now result }
 {
@@ -47,9 +47,10 @@ fn version_in(cells: &[Cell]) -> Option<Version>
     Some(Version::Current)
 }
 
-// Tells whether the rows of meta are those of version 1: the answer is false where they are those of this version.
+// Returns whether the rows of meta are those of version 1 rather than version 2; any other version is a fault.
 fn is_version_1(alloc: Global, rows: &[Row]) -> Result<bool, Fault>
-    ensures tells { IfOk result (λ older. (version : ℕ) (base : List ℕ) → rows.now ≡ version_row version base ∷ []
+    ensures reports { IfOk result (λ older. (version : ℕ) (base : List ℕ)
+        → rows.now ≡ version_row version base ∷ []
         → version ≡ cond older 1 2) }
     ensures faults { IfErr result IsMigrateFault }
     ensures causes { IfErr result (IsMetaFault rows.now) }
@@ -57,7 +58,7 @@ fn is_version_1(alloc: Global, rows: &[Row]) -> Result<bool, Fault>
     let [row] = rows else {
         return Err(Fault::BadStore(Table::Meta));
     };
-    let cells = cells_found(alloc, row)?;
+    let cells = any_cells_of(alloc, row)?;
     match version_in(cells.as_slice()) {
         Some(Version::Older) => Ok(true),
         Some(Version::Current) => Ok(false),
@@ -66,15 +67,15 @@ fn is_version_1(alloc: Global, rows: &[Row]) -> Result<bool, Fault>
     }
 }
 
-// Makes sure that meta can be queried.
-fn find_meta<S: Alter>(conn: &mut Connection<S>) -> Result<(), Fault>
+// Checks that meta can be queried.
+fn check_meta<S: Alter>(conn: &mut Connection<S>) -> Result<(), Fault>
     ensures same { OnOk result (HasCleanDisk (state S.Store conn.new)
         → (state S.Store conn.new).now ≡ (state S.Store conn.old).now) }
     ensures kept { OnOk result (KeepsKnown S.Store conn.old conn.new) }
     ensures leaves { LeavesKnown S.Store conn.old conn.new }
     ensures faults { IfErr result IsMigrateFault }
     ensures causes { IfErr result (λ fault. HasCleanDisk (state S.Store conn.new)
-        → IsCause S.Store conn.old conn.new fault) }
+        → IsMigrateCause S.Store conn.old conn.new fault) }
     ensures whole { IfErr result (λ fault. HasCleanDisk (state S.Store conn.new)
         → HasKnownSchema (state S.Store conn.old).now → IsKeeperFault fault) }
 {
@@ -85,27 +86,28 @@ fn find_meta<S: Alter>(conn: &mut Connection<S>) -> Result<(), Fault>
     }
 }
 
-// Tells whether a database is a store of version 1: the answer is false where it is one of this version.
+// Returns whether a database is a store of version 1 rather than version 2; anything else is a fault.
 fn is_old<S: Alter>(alloc: Global, conn: &mut Connection<S>) -> Result<bool, Fault>
-    ensures tells { HasCleanDisk (state S.Store conn.new) → IfOk result (λ older. (version : ℕ) (base : List ℕ)
+    ensures reports { HasCleanDisk (state S.Store conn.new)
+        → IfOk result (λ older. (version : ℕ) (base : List ℕ)
         → HasVersion version base (state S.Store conn.old).now → version ≡ cond older 1 2) }
     ensures kept { OnOk result (KeepsKnown S.Store conn.old conn.new) }
     ensures leaves { LeavesKnown S.Store conn.old conn.new }
     ensures faults { IfErr result IsMigrateFault }
     ensures causes { IfErr result (λ fault. HasCleanDisk (state S.Store conn.new)
-        → IsCause S.Store conn.old conn.new fault) }
+        → IsMigrateCause S.Store conn.old conn.new fault) }
     ensures whole { IfErr result (λ fault. HasCleanDisk (state S.Store conn.new)
-        → (t : Tables) → IsWhole (state S.Store conn.old).now t → IsKeeperFault fault) }
+        → (t : Tables) → IsKnownStore (state S.Store conn.old).now t → IsKeeperFault fault) }
 {
-    find_meta(conn)?;
+    check_meta(conn)?;
     match version_rows(conn) {
         Ok(rows) => is_version_1(alloc, rows.as_slice()),
         Err(error) => Err(fault_of(error)),
     }
 }
 
-// Makes sure that the links can be queried.
-fn find_links<S: Alter>(conn: &mut Connection<S>) -> Result<(), Fault>
+// Checks that the links can be queried.
+fn check_links<S: Alter>(conn: &mut Connection<S>) -> Result<(), Fault>
     ensures kept { OnOk result (KeepsKnown S.Store conn.old conn.new) }
     ensures leaves { LeavesKnown S.Store conn.old conn.new }
     ensures faults { IfErr result IsMigrateFault }
@@ -121,8 +123,8 @@ fn find_links<S: Alter>(conn: &mut Connection<S>) -> Result<(), Fault>
     }
 }
 
-// Makes sure that there is no table hier yet.
-fn miss_hier<S: Alter>(conn: &mut Connection<S>) -> Result<(), Fault>
+// Checks that there is no table hier yet.
+fn check_no_hier<S: Alter>(conn: &mut Connection<S>) -> Result<(), Fault>
     ensures kept { OnOk result (KeepsKnown S.Store conn.old conn.new) }
     ensures leaves { LeavesKnown S.Store conn.old conn.new }
     ensures faults { IfErr result IsMigrateFault }
@@ -138,8 +140,8 @@ fn miss_hier<S: Alter>(conn: &mut Connection<S>) -> Result<(), Fault>
     }
 }
 
-/// Makes a store of version 1 one of version 2, in one transaction, and answers the version that it then has. A store of
-/// version 2 is left alone.
+/// Migrates a store of version 1 to version 2 in one transaction, and returns its version, 2. A store of version 2 is
+/// left unchanged.
 pub fn migrate<S: Alter>(alloc: Global, conn: &mut Connection<S>) -> Result<u32, Fault>
     requires { conn.old.in_transaction ≡ false }
     ensures { Migrates S.Store conn.old conn.new result }
@@ -147,8 +149,8 @@ pub fn migrate<S: Alter>(alloc: Global, conn: &mut Connection<S>) -> Result<u32,
     if !is_old(alloc, conn)? {
         return Ok(2);
     }
-    find_links(conn)?;
-    miss_hier(conn)?;
+    check_links(conn)?;
+    check_no_hier(conn)?;
     match migrate_tables(conn) {
         Ok(_) => Ok(2),
         Err(error) => Err(fault_of(error)),

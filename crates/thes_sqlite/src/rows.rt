@@ -2,8 +2,8 @@
 ghost use Rattle.std.specs.Prelude.{◌≡◌, List, map, IfOk, IfSome};
 ghost use Rattle.thes_tables.specs.declared.rows.MoveRow.{MoveRow};
 ghost use Rattle.thes_tables.specs.Cells.{posting_cells, move_cells};
-ghost use Rattle.thes_tables.specs.Tables.{step_of};
-ghost use Rattle.thes_sql.specs.Stored.{value_of, values};
+ghost use Rattle.thes_tables.specs.Tables.{recorded_move};
+ghost use Rattle.thes_sql.specs.StoredRows.{value_of, values};
 ghost use Rattle.sqlite_value.specs.Value.{owned};
 
 use sqlite::types::ValueRef;
@@ -14,7 +14,7 @@ use thes_load_rows::rows::{move_in, posting_in};
 use thes_tables::cells::{Cell, CellText};
 use thes_tables::rows::{MoveRow, PostingRow};
 
-// The cell of a value. None for what no table holds: a number with a point, bytes, and a text that isn't UTF-8.
+// Returns a value as a cell, or None for a value that no table holds: a real, a blob, or a text that isn't UTF-8.
 fn cell_of(alloc: Global, value: ValueRef<'_>) -> Result<Option<Cell>, AllocError>
     ensures { IfOk result (λ cell. IfSome cell (λ c. value_of c ≡ owned value.entry)) }
 {
@@ -29,7 +29,7 @@ fn cell_of(alloc: Global, value: ValueRef<'_>) -> Result<Option<Cell>, AllocErro
     }
 }
 
-// Reads the cells of a row, if each of its values is a cell.
+// Reads the cells of a row, or None if one of its values isn't a cell.
 fn cells_of(alloc: Global, row: &Row) -> Result<Option<Vec<Cell>>, AllocError>
     ensures { IfOk result (λ cells. IfSome cells (λ c. values c.items ≡ row.now)) }
 {
@@ -46,7 +46,7 @@ fn cells_of(alloc: Global, row: &Row) -> Result<Option<Vec<Cell>>, AllocError>
     Ok(Some(cells))
 }
 
-/// Reads a row of posting. A row of another form is an error, as where a file was changed by another program.
+/// Reads a row of posting. A row of another form is an error; another program may have written it.
 pub(crate) fn read_posting(alloc: Global, row: &Row) -> Result<PostingRow, Error>
     ensures { IfOk result (λ x. row.now ≡ values (posting_cells x)) }
 {
@@ -70,10 +70,10 @@ fn read_move(alloc: Global, row: &Row) -> Result<MoveRow, Error>
     Err(Error::SqliteFailure(ErrorCode::DatabaseCorrupt))
 }
 
-/// Reads rows of move, as steps of a posting.
+/// Reads rows of move, as the moves of a posting.
 pub(crate) fn read_moves(alloc: Global, rows: &[Row]) -> Result<Moves, Error>
     ensures { IfOk result (λ moves. (steps : List MoveRow)
-        → rows.now ≡ map values (map move_cells steps) → moves ≡ map step_of steps) }
+        → rows.now ≡ map values (map move_cells steps) → moves ≡ map recorded_move steps) }
 {
     let mut moves = Moves::new(alloc);
     for row in rows {

@@ -1,68 +1,70 @@
--- By what the rows of postings and of moves are found.
+-- Indexes that find each posting and each move of the tables.
 use Rattle.std.specs.Prelude.{◌≡◌, ◌≢◌, ◌-◌, ℕ, List, length, Some, slice_get, take, Result, OnOk}
 use Rattle.thes_tables.specs.declared.change.Change.{Change}
 use Rattle.thes_tables.specs.declared.change.Change.TheVariants as change
 use Rattle.thes_tables.specs.declared.rows.PostingRow.{PostingRow}
 use Rattle.thes_tables.specs.declared.rows.MoveRow.{MoveRow}
 use Rattle.thes_tables.specs.Tables.{Tables}
-use Rattle.thes_tables.specs.Rows.{all_changed}
+use Rattle.thes_tables.specs.Rows.{tables_after_delta}
 use Rattle.thes_store.specs.declared.indexes.Indexes.{Indexes}
 use Rattle.thes_store.specs.declared.index.Index.{Index}
-use Rattle.thes_store.specs.Index.{IsAt, KeepsPlaces}
-use Rattle.thes_store.specs.Keys.{LeadsTo}
+use Rattle.thes_store.specs.Index.{HasPlace, KeepsPlaces}
+use Rattle.thes_store.specs.Keys.{KeyHasPlace}
 
--- each posting is found by the concept where it stands
-abbrev pub AreStanding : Index → List PostingRow → Type 0
-AreStanding index rows = (i : ℕ) (row : PostingRow) → slice_get rows i ≡ Some row → IsAt index row.place i
+-- The index has the position of each posting under its place.
+abbrev pub IndexesByPlace : Index → List PostingRow → Type 0
+IndexesByPlace index rows = (i : ℕ) (row : PostingRow) → slice_get rows i ≡ Some row → HasPlace index row.place i
 
--- so it is after any first ones of these changes
-abbrev pub StandThroughout : Index → List Change → Tables → Type 0
-StandThroughout index changes t = (k : ℕ) → AreStanding index (all_changed (take k changes) t).posting
+-- The index has the position of each posting under its place after each prefix of the changes.
+abbrev pub IndexesByPlaceThroughout : Index → List Change → Tables → Type 0
+IndexesByPlaceThroughout index changes t =
+    (k : ℕ) → IndexesByPlace index (tables_after_delta (take k changes) t).posting
 
--- Each row is found: a posting by its key and by the concept where it stands, a move by its posting. There may be more places
--- in the indexes than rows that stand there.
+-- The indexes find each row: a posting by its key and by its place, a move by its posting. An index may have positions
+-- of other rows as well.
 pub record Covers (x : Indexes) (t : Tables) : Type 0 where
-  pub keys : (i : ℕ) (row : PostingRow) → slice_get t.posting i ≡ Some row → LeadsTo x.keys row.key i
-  pub standing : AreStanding x.standing t.posting
-  pub moves : (i : ℕ) (row : MoveRow) → slice_get t.move i ≡ Some row → IsAt x.moves row.posting i
+  pub keys : (i : ℕ) (row : PostingRow) → slice_get t.posting i ≡ Some row → KeyHasPlace x.keys row.key i
+  pub standing : IndexesByPlace x.standing t.posting
+  pub moves : (i : ℕ) (row : MoveRow) → slice_get t.move i ≡ Some row → HasPlace x.moves row.posting i
 
--- a key that the change doesn't bring
+-- The key isn't that of a posting that the change inserts.
 abbrev pub IsOtherKey : Change → List ℕ → Type 0
 IsOtherKey (change.AddPosting row) key = key ≢ row.key
 IsOtherKey _ key = Unit {0}
 
--- no place is lost, and these keys lead where they led
-pub record GrowsBy (IsKept : List ℕ → Type 0) (old new : Indexes) : Type 0 where
-  pub keys : (key : List ℕ) (i : ℕ) → IsKept key → LeadsTo old.keys key i → LeadsTo new.keys key i
+-- The new indexes have each position that the old ones have, with those of the keys for which `IsKept` holds.
+pub record IndexesGrowBy (IsKept : List ℕ → Type 0) (old new : Indexes) : Type 0 where
+  pub keys : (key : List ℕ) (i : ℕ) → IsKept key → KeyHasPlace old.keys key i → KeyHasPlace new.keys key i
   pub standing : KeepsPlaces old.standing new.standing
   pub moves : KeepsPlaces old.moves new.moves
 
--- so it is for the keys that the change doesn't bring
-abbrev pub Grows : Change → Indexes → Indexes → Type 0
-Grows c old new = GrowsBy (IsOtherKey c) old new
+-- The new indexes have each position that the old ones have, but perhaps that of the key that the change inserts.
+abbrev pub IndexesGrow : Change → Indexes → Indexes → Type 0
+IndexesGrow c old new = IndexesGrowBy (IsOtherKey c) old new
 
--- the posting is found at this place
-abbrev pub IsReached : Indexes → PostingRow → ℕ → Type 0
-IsReached x row i = LeadsTo x.keys row.key i × IsAt x.standing row.place i
+-- The indexes find the posting at this position, by its key and by its place.
+abbrev pub IsIndexedAt : Indexes → PostingRow → ℕ → Type 0
+IsIndexedAt x row i = KeyHasPlace x.keys row.key i × HasPlace x.standing row.place i
 
--- what the change makes of a row is found, where a move comes to this place
-abbrev pub Reaches : Indexes → Change → Tables → ℕ → Type 0
-Reaches x (change.AddPosting row) t step = IsReached x row (length t.posting)
-Reaches x (change.SetPlace n place) t step = IsAt x.standing place (n - 1)
-Reaches x (change.MoveAll source target) t step = (i : ℕ) (row : PostingRow) → slice_get t.posting i ≡ Some row → row.place ≡ source → IsAt x.standing target i
-Reaches x (change.AddMove row) t step = IsAt x.moves row.posting step
-Reaches x _ t step = Unit {0}
+-- The indexes find each row that the change inserts or moves, where the next move gets position `step`.
+abbrev pub CoversChange : Indexes → Change → Tables → ℕ → Type 0
+CoversChange x (change.AddPosting row) t step = IsIndexedAt x row (length t.posting)
+CoversChange x (change.SetPlace n place) t step = HasPlace x.standing place (n - 1)
+CoversChange x (change.MoveAll source target) t step = (i : ℕ) (row : PostingRow) → slice_get t.posting i ≡ Some row
+    → row.place ≡ source → HasPlace x.standing target i
+CoversChange x (change.AddMove row) t step = HasPlace x.moves row.posting step
+CoversChange x _ t step = Unit {0}
 
--- how many moves the change adds
-abbrev pub moves_more : Change → ℕ
-moves_more (change.AddMove row) = 1
-moves_more _ = 0
+-- The number of moves that a change inserts, 0 or 1.
+abbrev pub added_move_count : Change → ℕ
+added_move_count (change.AddMove row) = 1
+added_move_count _ = 0
 
--- the rows that the changes make of these tables are found, and in between each posting by the concept where it stands
+-- The indexes cover the tables after the changes, and have each posting by its place after each prefix of them.
 pub record CoversAll (x : Indexes) (changes : List Change) (t : Tables) : Type 0 where
-  pub last : Covers x (all_changed changes t)
-  pub standing : StandThroughout x.standing changes t
+  pub last : Covers x (tables_after_delta changes t)
+  pub standing : IndexesByPlaceThroughout x.standing changes t
 
--- the rows of these tables are found, and if all went well those that the changes make of them
+-- The indexes cover the tables, and on success also the tables after the changes.
 abbrev pub CoversBoth : {E : Type 0} → Indexes → List Change → Tables → Result (Unit {0}) E → Type 0
 CoversBoth x changes t result = Covers x t × OnOk result (CoversAll x changes t)

@@ -1,12 +1,12 @@
-pub mod Added
+pub mod AddedRow
 pub mod Causes
 pub mod Covers
-pub mod Handing
+pub mod Sinks
 pub mod Index
 pub mod Keys
 pub mod Loading
 pub mod Numbers
-pub mod Picked
+pub mod RowsAtPlaces
 pub mod Reading
 pub mod Room
 pub mod SameRows

@@ -1,4 +1,4 @@
--- By which number a row is found.
+-- The number under which a row is indexed.
 use Rattle.std.specs.Prelude.{ℕ, Bool}
 use Rattle.std.specs.Ordering.{eq_by_cmp}
 use Rattle.thes_base.specs.Labels.{Label, label_cmp}
@@ -9,26 +9,32 @@ use Rattle.thes_base.specs.declared.data.LinkKind.{LinkKind}
 use Rattle.thes_tables.specs.declared.rows.HierRow.{HierRow}
 use Rattle.thes_tables.specs.Tables.{hier_link}
 
+-- The number under which a label is indexed: its owner.
 abbrev pub owner_of : Label → ℕ
 owner_of l = l.owner
 
--- the end of a link that has fewer of its kind: of a membership the member, else the first
+-- The end under which a link is indexed, the one with fewer links of its kind: the member of a membership, and else the
+-- first.
 abbrev pub chosen_end : LinkKind → ℕ → ℕ → ℕ
 chosen_end kinds.Member a b = b
 chosen_end _ a b = a
 
-abbrev pub end_of : Link → ℕ
-end_of l = chosen_end l.kind l.a l.b
+-- The number under which a link is indexed.
+abbrev pub indexed_end_of : Link → ℕ
+indexed_end_of l = chosen_end l.kind l.a l.b
 
-abbrev pub narrower_of : HierRow → ℕ
-narrower_of row = row.a
+-- The number under which a hierarchical link is indexed: its narrower concept.
+abbrev pub narrower_end_of : HierRow → ℕ
+narrower_end_of row = row.a
 
-abbrev pub same_label : Label → Label → Bool
-same_label x y = eq_by_cmp label_cmp x y
+-- Two labels are equal.
+abbrev pub is_same_label : Label → Label → Bool
+is_same_label x y = eq_by_cmp label_cmp x y
 
-abbrev pub same_link : Link → Link → Bool
-same_link x y = eq_by_cmp link_cmp x y
+-- Two links are equal.
+abbrev pub is_same_link : Link → Link → Bool
+is_same_link x y = eq_by_cmp link_cmp x y
 
--- they tell the same link
-abbrev pub same_hier : HierRow → HierRow → Bool
-same_hier x y = eq_by_cmp link_cmp (hier_link x) (hier_link y)
+-- Two rows of hier encode the same link.
+abbrev pub is_same_hier : HierRow → HierRow → Bool
+is_same_hier x y = eq_by_cmp link_cmp (hier_link x) (hier_link y)

@@ -1,15 +1,17 @@
--- Tables in memory, and room for more rows.
+-- The tables in memory, and their room for more rows.
 use Rattle.std.specs.Prelude.{◌≤◌, ◌+◌, List, length, vec_len}
 use Rattle.std.specs.Vec.{vec_capacity}
 use Rattle.thes_tables.specs.declared.change.Change.{Change}
 use Rattle.thes_tables.specs.Tables.{Tables}
 use Rattle.thes_store.specs.declared.tables.MemTables.{MemTables}
-use Rattle.thes_store.specs.Added.{all_added, added_resource, added_outside, added_label, added_link, added_hier, added_posting, added_move}
-use Rattle.thes_store.specs.Numbers.{owner_of, end_of, narrower_of}
-use Rattle.thes_store.specs.Slots.{rows_in, AreFound, IsReady}
+use Rattle.thes_store.specs.AddedRow.{rows_added_by, added_resource, added_outside, added_label, added_link}
+use Rattle.thes_store.specs.AddedRow.{added_hier, added_posting, added_move}
+use Rattle.thes_store.specs.Numbers.{owner_of, indexed_end_of, narrower_end_of}
+use Rattle.thes_store.specs.Slots.{rows_in, AreIndexedBy, IsReady}
 
-abbrev pub tables_of : MemTables → Tables
-tables_of m =
+-- The tables that memory holds.
+abbrev pub tables_in_memory : MemTables → Tables
+tables_in_memory m =
     record {
       base = m.base;
       resource = m.resource.items;
@@ -21,18 +23,18 @@ tables_of m =
       move = m.steps.items;
     }
 
--- each label is found by its owner, each link by one of its ends
-pub record AllFound (m : MemTables) : Type 0 where
-  pub label : AreFound owner_of m.label
-  pub link : AreFound end_of m.link
-  pub hier : AreFound narrower_of m.hier
+-- Each label is indexed by its owner, and each link by one of its ends.
+pub record AllIndexed (m : MemTables) : Type 0 where
+  pub label : AreIndexedBy owner_of m.label
+  pub link : AreIndexedBy indexed_end_of m.link
+  pub hier : AreIndexedBy narrower_end_of m.hier
 
--- each table has room for the rows that the changes add to it
-pub record HasRoom (changes : List Change) (m : MemTables) : Type 0 where
-  pub resource : vec_len m.resource + length (all_added added_resource changes) ≤ vec_capacity m.resource
-  pub outside : vec_len m.outside + length (all_added added_outside changes) ≤ vec_capacity m.outside
-  pub label : IsReady owner_of m.label (all_added added_label changes)
-  pub link : IsReady end_of m.link (all_added added_link changes)
-  pub hier : IsReady narrower_of m.hier (all_added added_hier changes)
-  pub posting : vec_len m.posting + length (all_added added_posting changes) ≤ vec_capacity m.posting
-  pub steps : vec_len m.steps + length (all_added added_move changes) ≤ vec_capacity m.steps
+-- Each table has reserved memory for the rows that the changes insert into it.
+pub record HasRoomForRows (changes : List Change) (m : MemTables) : Type 0 where
+  pub resource : vec_len m.resource + length (rows_added_by added_resource changes) ≤ vec_capacity m.resource
+  pub outside : vec_len m.outside + length (rows_added_by added_outside changes) ≤ vec_capacity m.outside
+  pub label : IsReady owner_of m.label (rows_added_by added_label changes)
+  pub link : IsReady indexed_end_of m.link (rows_added_by added_link changes)
+  pub hier : IsReady narrower_end_of m.hier (rows_added_by added_hier changes)
+  pub posting : vec_len m.posting + length (rows_added_by added_posting changes) ≤ vec_capacity m.posting
+  pub steps : vec_len m.steps + length (rows_added_by added_move changes) ≤ vec_capacity m.steps

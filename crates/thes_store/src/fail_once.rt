@@ -1,4 +1,4 @@
-//! A keeper that fails when it is told to, for tests.
+//! A `Keeper` for tests, of which one call fails.
 ghost use Rattle.std.specs.Prelude.{◌≡◌};
 ghost use Rattle.thes_base.specs.declared.fault.Fault.{Fault};
 ghost use Rattle.thes_store.specs.Causes.{IsCounted};
@@ -23,7 +23,7 @@ pub enum Next {
     Standing,
 }
 
-/// A keeper in memory that fails at the next call of one kind, and then no more.
+/// A `MemKeeper` of which the next call of one kind fails, and no call after it.
 #[derive(Drop)]
 pub struct FailOnce {
     pub keeper: MemKeeper,
@@ -32,7 +32,7 @@ pub struct FailOnce {
 }
 
 impl FailOnce {
-    // Counts a failure, the last one that is wanted.
+    // Counts a failure, and lets no later call fail.
     fn fail(&mut self) -> Fault
         ensures fault { result ≡ Fault.Store }
         ensures same { self.new.keeper ≡ self.old.keeper }
@@ -45,9 +45,9 @@ impl FailOnce {
 }
 
 impl Keeper for FailOnce {
-    ghost use Rattle.thes_tables.specs.Cells.{listed};
+    ghost use Rattle.thes_tables.specs.Cells.{cells_of_tables};
 
-    ghost rows = { λ k. listed k.keeper };
+    ghost rows = { λ k. cells_of_tables k.keeper };
 
     ghost is_up = { λ k. Unit {0} };
 

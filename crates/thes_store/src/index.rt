@@ -1,17 +1,17 @@
-//! Where the rows of a number stand.
+//! An index from numbers to positions of rows.
 ghost use Rattle.std.specs.Prelude.{◌≡◌, ℕ, slice_get, IfOk, OnOk};
 ghost use Rattle.std.specs.List.Sorted.{IsStrictlySortedBy};
 ghost use Rattle.std.specs.Option.{option_copied};
 ghost use Rattle.std.specs.Ordering.{nat_cmp};
 ghost use Rattle.thes_tables.specs.Tables.{IsIn};
-ghost use Rattle.thes_store.specs.Index.{IsAt, HasSet, KeepsPlaces, KeepsOthers, ArePlaces};
+ghost use Rattle.thes_store.specs.Index.{HasPlace, HasSet, KeepsPlaces, KeepsOthers, ArePlaces};
 
 use std::alloc::{AllocError, Global};
 use std::collections::BTreeSet;
 
-/// For each number the places in a list at which rows of this number may stand. A place too many does no harm, since who
-/// looks there sees the row. All numbers of an index are of one sort. Their sets stand by the numbers, so they take memory
-/// for the greatest number that has places: resources and postings are numbered without gaps.
+/// For each number, the positions in a list at which rows of this number may be. Extra positions do no harm, since a
+/// look-up checks the row. The sets are in a vector by number, so an index takes memory for the greatest number that it
+/// has; resources and postings are numbered without gaps.
 #[derive(Drop)]
 pub struct Index {
     alloc: Global,
@@ -19,7 +19,7 @@ pub struct Index {
 }
 
 impl Index {
-    /// Makes an index without places.
+    /// Creates an empty index.
     pub fn new(alloc: Global) -> Index {
         Index {
             alloc,
@@ -27,16 +27,16 @@ impl Index {
         }
     }
 
-    /// Adds a place to those of a number.
+    /// Inserts a position under a number.
     pub fn insert(&mut self, n: u32, place: usize) -> Result<(), AllocError>
         ensures keeps { KeepsPlaces self.old self.new }
-        ensures ok { OnOk result (IsAt self.new n place) }
+        ensures ok { OnOk result (HasPlace self.new n place) }
     {
         self.open(n)?;
         self.insert_in(n, place)
     }
 
-    // Makes empty sets up to a number, where there are none.
+    // Grows the index to have a set for the number `n`.
     fn open(&mut self, n: u32) -> Result<(), AllocError>
         ensures keeps { KeepsPlaces self.old self.new }
         ensures set { OnOk result (HasSet self.new n) }
@@ -47,11 +47,11 @@ impl Index {
         Ok(())
     }
 
-    // Adds a place to the set of a number that has one.
+    // Inserts a position into the set of a number, which must exist.
     fn insert_in(&mut self, n: u32, place: usize) -> Result<(), AllocError>
         requires { HasSet self.old n }
         ensures keeps { KeepsPlaces self.old self.new }
-        ensures ok { OnOk result (IsAt self.new n place) }
+        ensures ok { OnOk result (HasPlace self.new n place) }
     {
         if let Some(set) = self.sets.get_mut(n as usize) {
             set.insert(place)?;
@@ -59,10 +59,10 @@ impl Index {
         Ok(())
     }
 
-    /// Adds places to those of a number.
+    /// Inserts positions under a number.
     pub fn insert_all(&mut self, n: u32, places: &[usize]) -> Result<(), AllocError>
         ensures keeps { KeepsPlaces self.old self.new }
-        ensures ok { OnOk result ((place : ℕ) → IsIn place places.now → IsAt self.new n place) }
+        ensures ok { OnOk result ((place : ℕ) → IsIn place places.now → HasPlace self.new n place) }
     {
         for place in places {
             self.insert(n, *place)?;
@@ -70,30 +70,30 @@ impl Index {
         Ok(())
     }
 
-    /// Takes a place away from those of a number.
+    /// Removes a position from those under a number.
     pub fn remove(&mut self, n: u32, place: usize)
         ensures keeps { KeepsOthers place self.old self.new }
-        ensures gone { ¬ IsAt self.new n place }
+        ensures gone { ¬ HasPlace self.new n place }
     {
         if let Some(set) = self.sets.get_mut(n as usize) {
             set.remove(&place);
         }
     }
 
-    /// Shows the places of a number, if it has some.
+    /// Returns the positions under a number, or None if it has no set.
     pub fn set(&self, n: u32) -> Option<&BTreeSet<usize>>
         ensures { option_copied result ≡ slice_get self.now.sets.items n }
     {
         self.sets.get(n as usize)
     }
 
-    /// Collects the places of a number.
+    /// Collects the positions under a number, in ascending order.
     pub fn places(&self, n: u32) -> Result<Vec<usize>, AllocError>
         ensures { IfOk result (λ places. ArePlaces self.now n places.items) }
     {
         match self.set(n) {
             Some(set) => {
-                let places = listed(self.alloc, set)?;
+                let places = collect_places(self.alloc, set)?;
                 Ok(places)
             }
             None => Ok(Vec::new(self.alloc)),
@@ -101,8 +101,8 @@ impl Index {
     }
 }
 
-// The places of a set.
-fn listed(alloc: Global, set: &BTreeSet<usize>) -> Result<Vec<usize>, AllocError>
+// Collects the elements of a set.
+fn collect_places(alloc: Global, set: &BTreeSet<usize>) -> Result<Vec<usize>, AllocError>
     ensures places { IfOk result (λ places. places.items ≡ set.now.keys) }
     ensures rises { IsStrictlySortedBy nat_cmp set.now.keys }
 {

@@ -1,8 +1,8 @@
 //! The indexes of the tables in memory.
 ghost use Rattle.std.specs.Prelude.{◌≡◌, ◌≢◌, ◌+◌, ◌<◌, ◌^◌, ℕ, length, IfOk, OnOk};
 ghost use Rattle.thes_tables.specs.Tables.{Tables};
-ghost use Rattle.thes_tables.specs.Rows.{Fits, FitAll};
-ghost use Rattle.thes_store.specs.Covers.{Covers, CoversBoth, Reaches, IsReached, Grows, GrowsBy, moves_more};
+ghost use Rattle.thes_tables.specs.Rows.{ChangeFits, DeltaFits};
+ghost use Rattle.thes_store.specs.Covers.{Covers, CoversBoth, CoversChange, IsIndexedAt, IndexesGrow, IndexesGrowBy, added_move_count};
 
 use crate::index::Index;
 use crate::keys::Keys;
@@ -10,8 +10,7 @@ use std::alloc::{AllocError, Global};
 use thes_tables::change::Change;
 use thes_tables::rows::PostingRow;
 
-/// Where rows are found: postings by their keys and by the concepts at which they stand, moves by their postings. Each is
-/// told by its place in its table.
+/// Positions of rows in their tables: postings by key and by place, moves by posting.
 #[derive(Drop)]
 pub struct Indexes {
     pub keys: Keys,
@@ -20,7 +19,7 @@ pub struct Indexes {
 }
 
 impl Indexes {
-    /// Makes the indexes of tables without rows.
+    /// Creates the indexes of empty tables.
     pub fn new(alloc: Global) -> Indexes {
         Indexes {
             keys: Keys::new(alloc),
@@ -29,8 +28,8 @@ impl Indexes {
         }
     }
 
-    /// Adds what a change will make a row be found by, where the next move comes to the place `step`. Returns the place of
-    /// the move after this change.
+    /// Inserts the positions of the rows that a change will insert or move, where the next move gets position `step`.
+    /// Returns the position of the move after this change.
     pub fn cover(
         &mut self,
         alloc: Global,
@@ -38,10 +37,10 @@ impl Indexes {
         step: usize,
     ) -> Result<usize, AllocError>
         requires { step + 1 < 2 ^ 64 }
-        ensures grows { Grows change.now self.old self.new }
-        ensures reaches { OnOk result ((t : Tables) → Fits change.now t → Covers self.old t
-            → Reaches self.new change.now t step) }
-        ensures next { IfOk result (λ next. next ≡ step + moves_more change.now) }
+        ensures grows { IndexesGrow change.now self.old self.new }
+        ensures reaches { OnOk result ((t : Tables) → ChangeFits change.now t → Covers self.old t
+            → CoversChange self.new change.now t step) }
+        ensures next { IfOk result (λ next. next ≡ step + added_move_count change.now) }
     {
         match change {
             Change::AddPosting(row) => self.cover_posting(alloc, row)?,
@@ -61,11 +60,11 @@ impl Indexes {
         Ok(step)
     }
 
-    // Adds the key and the place of a posting that comes.
+    // Inserts the position of a new posting, by its key and by its place.
     fn cover_posting(&mut self, alloc: Global, row: &PostingRow) -> Result<(), AllocError>
-        ensures grows { GrowsBy (λ key. key ≢ row.now.key) self.old self.new }
+        ensures grows { IndexesGrowBy (λ key. key ≢ row.now.key) self.old self.new }
         ensures reaches { OnOk result ((i : ℕ) → row.now.number ≡ i + 1
-            → IsReached self.new row.now i) }
+            → IsIndexedAt self.new row.now i) }
     {
         let place = row.number.get() as usize - 1;
         self.standing.insert(row.place.get(), place)?;
@@ -73,8 +72,8 @@ impl Indexes {
     }
 }
 
-/// Adds what changes will make rows be found by, where so many moves are there. Running out of memory leaves places too many
-/// at most.
+/// Inserts the positions of the rows that changes will insert or move, where `moves` is the number of moves in the
+/// table. Running out of memory leaves at most extra positions.
 pub fn cover_all(
     indexes: &mut Indexes,
     alloc: Global,
@@ -82,7 +81,7 @@ pub fn cover_all(
     moves: usize,
 ) -> Result<(), AllocError>
     requires { moves + length changes.now + 1 < 2 ^ 64 }
-    ensures { (t : Tables) → FitAll changes.now t → length t.move ≡ moves → Covers indexes.old t
+    ensures { (t : Tables) → DeltaFits changes.now t → length t.move ≡ moves → Covers indexes.old t
         → CoversBoth indexes.new changes.now t result }
 {
     let mut step = moves;

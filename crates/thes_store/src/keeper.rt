@@ -1,11 +1,11 @@
-//! What a keeper of the tables promises.
+//! The storage interface: what each `Keeper` guarantees.
 ghost use Rattle.std.specs.Prelude.{◌≡◌, ℕ, OnOk, OnErr, IfOk};
 ghost use Rattle.thes_tables.specs.Tables.{Tables};
-ghost use Rattle.thes_tables.specs.Rows.{all_changed, FitAll};
-ghost use Rattle.thes_tables.specs.Cells.{Raw, listed};
+ghost use Rattle.thes_tables.specs.Rows.{tables_after_delta, DeltaFits};
+ghost use Rattle.thes_tables.specs.Cells.{Raw, cells_of_tables};
 ghost use Rattle.thes_store.specs.Causes.{HasCause};
-ghost use Rattle.thes_store.specs.Handing.{Hands, handed};
-ghost use Rattle.thes_store.specs.Reading.{IsFound, IsTold, standing_rows};
+ghost use Rattle.thes_store.specs.Sinks.{SinkOutcome, sink_rows};
+ghost use Rattle.thes_store.specs.Reading.{IsPostingOfKey, IsPostingOfNumber, standing_rows};
 
 use crate::sink::{PostingSink, RowSink};
 use std::marker::Model;
@@ -24,64 +24,65 @@ pub struct Posting {
 }
 
 impl Model for Posting {
-    ghost use Rattle.thes_store.specs.Reading.{Told};
+    ghost use Rattle.thes_store.specs.Reading.{PostingWithMoves};
 
-    ghost Value = { Told };
+    ghost Value = { PostingWithMoves };
 
     ghost view = { λ a. record { row = a.row; moves = a.moves } };
 }
 
-/// Keeps the tables of a store. Each call says what it found or did if the keeper is up as the call ends.
+/// Storage for the tables. The contract of each call holds if `is_up` holds when it returns.
 pub trait Keeper {
-    // what the tables hold
+    // The rows that the tables hold.
     ghost rows: { Self → Raw };
 
-    // what it shows is what it holds, and it goes on
+    // The storage works, and its reads are true.
     ghost is_up: { Self → Type 0 };
 
-    // how often it failed, for another cause than memory
+    // The number of failures, except by running out of memory.
     ghost failed: { Self → ℕ };
 
-    /// Returns how often it failed for another cause than memory. At its greatest value the count stays.
+    /// Returns the number of failures, except by running out of memory. The count saturates.
     fn failures(&self) -> u64
         ensures { result ≡ failed self.now };
 
-    /// Hands all rows to a sink, table after table, and in each table in the order of its rows.
+    /// Passes all rows to a sink, table after table, and in each table in the order of its rows.
     fn load<S: RowSink>(&mut self, sink: &mut S) -> Result<(), Fault>
-        ensures hands { is_up self.new → Hands S.gives sink.old (handed (rows self.old)) result sink.new }
+        ensures yields { is_up self.new
+            → SinkOutcome S.gives sink.old (sink_rows (rows self.old)) result sink.new }
         ensures same { is_up self.new → rows self.new ≡ rows self.old }
         ensures was { is_up self.new → is_up self.old }
         ensures cause { HasCause (failed self.old) (failed self.new) result };
 
-    /// Makes all of the changes, or none.
+    /// Makes the changes atomically.
     fn commit(&mut self, delta: Delta) -> Result<(), Fault>
-        requires fits { is_up self.old → (t : Tables) → rows self.old ≡ listed t → FitAll delta t }
-        ensures ok { OnOk result (is_up self.new → (t : Tables) → rows self.old ≡ listed t
-            → rows self.new ≡ listed (all_changed delta t)) }
+        requires fits { is_up self.old → (t : Tables) → rows self.old ≡ cells_of_tables t → DeltaFits delta t }
+        ensures ok { OnOk result (is_up self.new → (t : Tables) → rows self.old ≡ cells_of_tables t
+            → rows self.new ≡ cells_of_tables (tables_after_delta delta t)) }
         ensures err { OnErr result (is_up self.new → rows self.new ≡ rows self.old) }
         ensures was { is_up self.new → is_up self.old }
         ensures cause { HasCause (failed self.old) (failed self.new) result };
 
-    /// Finds the posting of a key.
+    /// Looks up a posting by its key.
     fn find(&mut self, key: &Key) -> Result<Option<PostingRow>, Fault>
-        ensures ok { IfOk result (λ found. is_up self.new → (t : Tables) → rows self.old ≡ listed t
-            → IsFound key.now t.posting found) }
+        ensures ok { IfOk result (λ found. is_up self.new → (t : Tables) → rows self.old ≡ cells_of_tables t
+            → IsPostingOfKey key.now t.posting found) }
         ensures same { is_up self.new → rows self.new ≡ rows self.old }
         ensures was { is_up self.new → is_up self.old }
         ensures cause { HasCause (failed self.old) (failed self.new) result };
 
-    /// Finds the posting of a number, with its moves.
+    /// Looks up a posting by its number, with its moves.
     fn posting(&mut self, number: PostNo) -> Result<Option<Posting>, Fault>
-        ensures ok { IfOk result (λ told. is_up self.new → (t : Tables) → rows self.old ≡ listed t
-            → IsTold number t told) }
+        ensures ok { IfOk result (λ told. is_up self.new → (t : Tables) → rows self.old ≡ cells_of_tables t
+            → IsPostingOfNumber number t told) }
         ensures same { is_up self.new → rows self.new ≡ rows self.old }
         ensures was { is_up self.new → is_up self.old }
         ensures cause { HasCause (failed self.old) (failed self.new) result };
 
-    /// Hands the postings that stand at a concept to a sink, in the order of their numbers.
+    /// Passes the postings assigned to a concept that aren't withdrawn to a sink, in the order of their numbers.
     fn standing<S: PostingSink>(&mut self, concept: ResNo, sink: &mut S) -> Result<(), Fault>
-        ensures hands { is_up self.new → (t : Tables) → rows self.old ≡ listed t
-            → Hands S.gives sink.old (standing_rows concept t.posting) result sink.new }
+        ensures yields { is_up self.new → (t : Tables) → rows self.old ≡ cells_of_tables t
+            → SinkOutcome S.gives sink.old (standing_rows concept t.posting) result sink.new }
         ensures same { is_up self.new → rows self.new ≡ rows self.old }
         ensures was { is_up self.new → is_up self.old }
         ensures cause { HasCause (failed self.old) (failed self.new) result };

@@ -1,9 +1,9 @@
-//! Where the row of a key stands.
+//! An index from keys to positions of rows.
 ghost use Rattle.std.specs.Prelude.{◌≡◌, Some, true, IfOk, OnOk};
 ghost use Rattle.std.specs.BTreeMap.{get};
 ghost use Rattle.std.specs.Cmp.Lexicographic.{slice_cmp};
 ghost use Rattle.std.specs.Ordering.{nat_cmp};
-ghost use Rattle.thes_store.specs.Keys.{digest_of, LeadsTo, KeepsNumbers, KeepsOtherKeys};
+ghost use Rattle.thes_store.specs.Keys.{digest_of, KeyHasPlace, KeepsNumbers, KeepsOtherKeys};
 
 use std::alloc::{AllocError, Global};
 use std::collections::BTreeMap;
@@ -11,9 +11,9 @@ use std::collections::btree_map::Entry;
 use std::hash::{FoldHasher, Hasher};
 use thes_base::text::Key;
 
-/// For each key a place in a list at which the row of this key may stand. A place too many does no harm, since who looks
-/// there sees the row. A key is found by a number that is made of it, since texts lie apart in memory; by its text, where
-/// another key came first with this number.
+/// For each key, a position in a list at which the row of this key may be. Extra positions do no harm, since a look-up
+/// checks the row. A key is entered by its digest, since comparing texts costs cache misses, and by its text if another
+/// key has the digest already.
 #[derive(Drop)]
 pub struct Keys {
     numbers: BTreeMap<u64, usize>,
@@ -21,7 +21,7 @@ pub struct Keys {
 }
 
 impl Keys {
-    /// Makes an index without places.
+    /// Creates an empty index.
     pub fn new(alloc: Global) -> Keys {
         Keys {
             numbers: BTreeMap::new(alloc),
@@ -29,10 +29,10 @@ impl Keys {
         }
     }
 
-    /// Makes a key lead to a place.
+    /// Enters a position under a key.
     pub fn insert(&mut self, alloc: Global, key: &Key, place: usize) -> Result<(), AllocError>
         ensures keeps { KeepsOtherKeys key.now self.old self.new }
-        ensures ok { OnOk result (LeadsTo self.new key.now place) }
+        ensures ok { OnOk result (KeyHasPlace self.new key.now place) }
     {
         if !insert_number(&mut self.numbers, digest(key), place)? {
             self.rest.insert(key.try_clone(alloc)?, place)?;
@@ -40,22 +40,22 @@ impl Keys {
         Ok(())
     }
 
-    /// Returns the place to which the number of the key leads.
-    pub fn by_number(&self, key: &Key) -> Option<usize>
+    /// Returns the position under the key's digest.
+    pub fn place_by_number(&self, key: &Key) -> Option<usize>
         ensures { result ≡ get nat_cmp self.now.numbers (digest_of key.now) }
     {
         self.numbers.get(&digest(key)).copied()
     }
 
-    /// Returns the place to which the text of the key leads.
-    pub fn by_text(&self, key: &Key) -> Option<usize>
+    /// Returns the position under the key's text.
+    pub fn place_by_text(&self, key: &Key) -> Option<usize>
         ensures { result ≡ get (slice_cmp nat_cmp) self.now.rest key.now }
     {
         self.rest.get(key).copied()
     }
 }
 
-// Makes a number lead to a place, unless it leads to one. Tells whether it leads to this one now.
+// Enters a position under a digest, unless it has one. Returns whether it was entered.
 fn insert_number(
     numbers: &mut BTreeMap<u64, usize>,
     number: u64,
@@ -73,7 +73,7 @@ fn insert_number(
     }
 }
 
-// A number that is made of a key. Some keys have the same.
+// Returns a 64-bit digest of a key; different keys may have the same one.
 #[tactic(auto, unfolding(crate::specs::Keys::digest_of))]
 fn digest(key: &Key) -> u64
     ensures { result ≡ digest_of key.now }

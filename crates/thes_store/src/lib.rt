@@ -1,15 +1,15 @@
-//! Keepers of the tables: what each promises, and one in memory.
+//! Storage for the tables: the interface, and an implementation in memory.
 #![tactic(auto)]
 
-mod added;
+mod added_row;
 pub mod fail_once;
-mod found;
-pub mod handing;
 mod index;
+mod indexed_rows;
 mod indexes;
 pub mod keeper;
 mod keys;
 pub mod mem;
+pub mod row_output;
 pub mod sink;
 mod slots;
 mod tables;

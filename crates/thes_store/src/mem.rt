@@ -1,17 +1,17 @@
-//! A keeper in memory.
+//! Storage in memory.
 ghost use Rattle.std.specs.Prelude.{◌≡◌, ◌≢◌, ◌++◌, ℕ, map, slice_get, option_copied, Some, IfSome, IfNone, IfOk, IfErr, OnOk};
 ghost use Rattle.thes_base.specs.declared.fault.Fault.{Fault};
 ghost use Rattle.thes_tables.specs.declared.rows.PostingRow.{PostingRow};
-ghost use Rattle.thes_tables.specs.Tables.{IsIn, is_standing, no_rows, step_of};
-ghost use Rattle.thes_store.specs.Keys.{LeadsTo};
-ghost use Rattle.thes_store.specs.Picked.{is_move_of, passing, picked};
-ghost use Rattle.thes_store.specs.Reading.{IsFound};
-ghost use Rattle.thes_store.specs.Handing.{Hands};
+ghost use Rattle.thes_tables.specs.Tables.{IsIn, is_assigned_row, empty_tables, recorded_move};
+ghost use Rattle.thes_store.specs.Keys.{KeyHasPlace};
+ghost use Rattle.thes_store.specs.RowsAtPlaces.{is_move_of, filtered_option, rows_at_places};
+ghost use Rattle.thes_store.specs.Reading.{IsPostingOfKey};
+ghost use Rattle.thes_store.specs.Sinks.{SinkOutcome};
 
-use crate::handing::hand_all;
 use crate::indexes::{Indexes, cover_all};
 use crate::keeper::{Keeper, Posting};
 use crate::keys::Keys;
+use crate::row_output::yield_all;
 use crate::sink::{PostingSink, RowSink};
 use crate::tables::MemTables;
 use std::alloc::{AllocError, Global};
@@ -23,7 +23,7 @@ use thes_base::text::{Base, Key};
 use thes_tables::delta::Delta;
 use thes_tables::rows::{MoveRow, PostingRow};
 
-/// Keeps its tables in memory. It fails only where memory runs out.
+/// A `Keeper` with its tables in memory. Running out of memory is its only fault.
 #[derive(Drop)]
 pub struct MemKeeper {
     alloc: Global,
@@ -35,21 +35,21 @@ impl Model for MemKeeper {
     ghost use Rattle.std.specs.Coded.{codes};
     ghost use Rattle.thes_tables.specs.Tables.{Tables};
     ghost use Rattle.thes_store.specs.Covers.{Covers};
-    ghost use Rattle.thes_store.specs.Room.{tables_of, AllFound};
+    ghost use Rattle.thes_store.specs.Room.{tables_in_memory, AllIndexed};
 
     ghost Value = { Tables };
 
     ghost coded = { Prim.hlevel codes };
 
-    ghost view = { λ a. tables_of a.tables };
+    ghost view = { λ a. tables_in_memory a.tables };
 
-    ghost invariant = { λ a. Covers a.indexes (tables_of a.tables) × AllFound a.tables };
+    ghost invariant = { λ a. Covers a.indexes (tables_in_memory a.tables) × AllIndexed a.tables };
 }
 
 impl MemKeeper {
-    /// Makes a keeper of the tables of a new store.
+    /// Creates the tables of a new store.
     pub fn new(alloc: Global, base: Base) -> MemKeeper
-        ensures { result ≡ no_rows base }
+        ensures { result ≡ empty_tables base }
     {
         MemKeeper {
             alloc,
@@ -59,15 +59,19 @@ impl MemKeeper {
     }
 }
 
-// The posting at a place.
+// Returns the posting at a position.
 fn posting_at(rows: &[PostingRow], place: usize) -> Option<&PostingRow>
     ensures { option_copied result ≡ slice_get rows.now place }
 {
     rows.get(place)
 }
 
-// The row at a place, if there is one and it has the key.
-fn row_with<'a>(rows: &'a [PostingRow], place: Option<usize>, key: &Key) -> Option<&'a PostingRow>
+// Returns the posting at a position if it has the key.
+fn row_with_key<'a>(
+    rows: &'a [PostingRow],
+    place: Option<usize>,
+    key: &Key,
+) -> Option<&'a PostingRow>
     ensures some { IfSome result (λ row. IsIn row.now rows.now × (row.now.key ≡ key.now)) }
     ensures none { IfNone result ((i : ℕ) (row : PostingRow) → place ≡ Some i
         → slice_get rows.now i ≡ Some row → row.key ≢ key.now) }
@@ -76,19 +80,19 @@ fn row_with<'a>(rows: &'a [PostingRow], place: Option<usize>, key: &Key) -> Opti
     if row.key == *key { Some(row) } else { None }
 }
 
-// The row of a key, if there is one, among rows to which their keys lead.
-fn row_found<'a>(rows: &'a [PostingRow], keys: &Keys, key: &Key) -> Option<&'a PostingRow>
+// Returns the posting of a key, if the index has the keys of all rows.
+fn row_of_key<'a>(rows: &'a [PostingRow], keys: &Keys, key: &Key) -> Option<&'a PostingRow>
     ensures { ((i : ℕ) (row : PostingRow) → slice_get rows.now i ≡ Some row
-        → LeadsTo keys.now row.key i) → IsFound key.now rows.now (option_copied result) }
+        → KeyHasPlace keys.now row.key i) → IsPostingOfKey key.now rows.now (option_copied result) }
 {
-    match row_with(rows, keys.by_number(key), key) {
+    match row_with_key(rows, keys.place_by_number(key), key) {
         Some(row) => Some(row),
-        None => row_with(rows, keys.by_text(key), key),
+        None => row_with_key(rows, keys.place_by_text(key), key),
     }
 }
 
-// Copies a row, if there is one.
-fn copied(alloc: Global, row: Option<&PostingRow>) -> Result<Option<PostingRow>, AllocError>
+// Copies a posting, if there is one.
+fn copy_row(alloc: Global, row: Option<&PostingRow>) -> Result<Option<PostingRow>, AllocError>
     ensures { IfOk result (λ copy. copy ≡ option_copied row.entry) }
 {
     match row {
@@ -97,14 +101,14 @@ fn copied(alloc: Global, row: Option<&PostingRow>) -> Result<Option<PostingRow>,
     }
 }
 
-// The move at a place.
+// Returns the move at a position.
 fn move_at(rows: &[MoveRow], place: usize) -> Option<&MoveRow>
     ensures { option_copied result ≡ slice_get rows.now place }
 {
     rows.get(place)
 }
 
-// Collects the moves of a posting at some places among all moves.
+// Collects those of the moves at some positions that belong to a posting.
 fn moves_at(
     alloc: Global,
     rows: &[MoveRow],
@@ -112,7 +116,7 @@ fn moves_at(
     posting: PostNo,
 ) -> Result<Moves, AllocError>
     ensures { IfOk result (λ moves. moves
-        ≡ map step_of (picked (is_move_of posting) rows.now places.now)) }
+        ≡ map recorded_move (rows_at_places (is_move_of posting) rows.now places.now)) }
 {
     let mut moves = Moves::new(alloc);
     for place in places {
@@ -121,10 +125,11 @@ fn moves_at(
     Ok(moves)
 }
 
-// Adds a move, if it is one of the posting.
+// Appends a move if it belongs to the posting.
 fn push_move(moves: &mut Moves, row: Option<&MoveRow>, posting: PostNo) -> Result<(), AllocError>
     ensures { OnOk result (moves.new
-        ≡ moves.old ++ map step_of (passing (is_move_of posting) (option_copied row.entry))) }
+        ≡ moves.old
+        ++ map recorded_move (filtered_option (is_move_of posting) (option_copied row.entry))) }
 {
     match row {
         Some(row) if row.posting == posting => moves.push(Move {
@@ -136,14 +141,14 @@ fn push_move(moves: &mut Moves, row: Option<&MoveRow>, posting: PostNo) -> Resul
     }
 }
 
-// Hands a row to a sink, if it is of a posting that stands at the concept.
-fn hand_standing<S: PostingSink>(
+// Passes a posting to a sink if it is assigned to the concept and not withdrawn.
+fn yield_standing<S: PostingSink>(
     row: Option<&PostingRow>,
     concept: ResNo,
     sink: &mut S,
 ) -> Result<(), Fault>
-    ensures hands { Hands S.gives sink.old
-        (passing (is_standing concept) (option_copied row.entry))
+    ensures yields { SinkOutcome S.gives sink.old
+        (filtered_option (is_assigned_row concept) (option_copied row.entry))
         result sink.new }
     ensures err { IfErr result (λ fault. fault ≡ Fault.OutOfMemory) }
 {
@@ -153,20 +158,20 @@ fn hand_standing<S: PostingSink>(
     }
 }
 
-// Hands those of the rows at some places to a sink whose postings stand at the concept.
-fn hand_postings<S: PostingSink>(
+// Passes those of the postings at some positions to a sink that are assigned to the concept.
+fn yield_postings<S: PostingSink>(
     rows: &[PostingRow],
     places: &[usize],
     concept: ResNo,
     sink: &mut S,
 ) -> Result<(), Fault>
-    ensures hands { Hands S.gives sink.old
-        (picked (is_standing concept) rows.now places.now)
+    ensures yields { SinkOutcome S.gives sink.old
+        (rows_at_places (is_assigned_row concept) rows.now places.now)
         result sink.new }
     ensures err { IfErr result (λ fault. fault ≡ Fault.OutOfMemory) }
 {
     for place in places {
-        if let Err(fault) = hand_standing(posting_at(rows, *place), concept, sink) {
+        if let Err(fault) = yield_standing(posting_at(rows, *place), concept, sink) {
             return Err(fault);
         }
     }
@@ -174,9 +179,9 @@ fn hand_postings<S: PostingSink>(
 }
 
 impl Keeper for MemKeeper {
-    ghost use Rattle.thes_tables.specs.Cells.{listed};
+    ghost use Rattle.thes_tables.specs.Cells.{cells_of_tables};
 
-    ghost rows = { λ k. listed k };
+    ghost rows = { λ k. cells_of_tables k };
 
     ghost is_up = { λ k. Unit {0} };
 
@@ -187,7 +192,7 @@ impl Keeper for MemKeeper {
     }
 
     fn load<S: RowSink>(&mut self, sink: &mut S) -> Result<(), Fault> {
-        hand_all(self.alloc, &self.tables, sink)
+        yield_all(self.alloc, &self.tables, sink)
     }
 
     fn commit(&mut self, delta: Delta) -> Result<(), Fault> {
@@ -202,7 +207,7 @@ impl Keeper for MemKeeper {
 
     fn find(&mut self, key: &Key) -> Result<Option<PostingRow>, Fault> {
         let rows = self.tables.posting.as_slice();
-        Ok(copied(self.alloc, row_found(rows, &self.indexes.keys, key))?)
+        Ok(copy_row(self.alloc, row_of_key(rows, &self.indexes.keys, key))?)
     }
 
     fn posting(&mut self, number: PostNo) -> Result<Option<Posting>, Fault> {
@@ -223,7 +228,7 @@ impl Keeper for MemKeeper {
 
     fn standing<S: PostingSink>(&mut self, concept: ResNo, sink: &mut S) -> Result<(), Fault> {
         let places = self.indexes.standing.places(concept.get())?;
-        hand_postings(
+        yield_postings(
             self.tables.posting.as_slice(),
             places.as_slice(),
             concept,

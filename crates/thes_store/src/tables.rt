@@ -1,15 +1,15 @@
 //! The tables in memory.
 ghost use Rattle.std.specs.Prelude.{◌≡◌, ◌∷◌, [], List, map, vec_len, OnOk};
 ghost use Rattle.std.specs.Vec.{vec_capacity};
-ghost use Rattle.thes_base.specs.Changes.{marked_dead};
+ghost use Rattle.thes_base.specs.Changes.{resources_after_death};
 ghost use Rattle.thes_tables.specs.declared.change.Change.{Change};
-ghost use Rattle.thes_tables.specs.Tables.{no_rows};
-ghost use Rattle.thes_tables.specs.Rows.{changed, all_changed, with_posting, withdrawn_row, placed_row, moved_row};
-ghost use Rattle.thes_store.specs.Covers.{AreStanding, StandThroughout};
-ghost use Rattle.thes_store.specs.Picked.{with_row, changed_at};
-ghost use Rattle.thes_store.specs.Room.{tables_of, AllFound, HasRoom};
+ghost use Rattle.thes_tables.specs.Tables.{empty_tables};
+ghost use Rattle.thes_tables.specs.Rows.{tables_after_change, tables_after_delta, with_posting, row_after_withdrawal, row_at_place, row_after_move_all};
+ghost use Rattle.thes_store.specs.Covers.{IndexesByPlace, IndexesByPlaceThroughout};
+ghost use Rattle.thes_store.specs.RowsAtPlaces.{rows_after_change_at, rows_after_changes_at};
+ghost use Rattle.thes_store.specs.Room.{tables_in_memory, AllIndexed, HasRoomForRows};
 
-use crate::added::make_room;
+use crate::added_row::make_room;
 use crate::index::Index;
 use crate::slots::Slots;
 use std::alloc::{AllocError, Global};
@@ -34,10 +34,10 @@ pub struct MemTables {
 }
 
 impl MemTables {
-    /// Makes the tables of a new store.
+    /// Creates the tables of a new store.
     pub fn new(alloc: Global, base: Base) -> MemTables
-        ensures tables { tables_of result ≡ no_rows base }
-        ensures found { AllFound result }
+        ensures tables { tables_in_memory result ≡ empty_tables base }
+        ensures found { AllIndexed result }
     {
         MemTables {
             base,
@@ -51,11 +51,11 @@ impl MemTables {
         }
     }
 
-    /// Makes room for the rows that changes add.
+    /// Reserves memory for the rows that changes insert.
     pub fn make_room(&mut self, changes: &[Change]) -> Result<(), AllocError>
-        ensures same { tables_of self.new ≡ tables_of self.old }
-        ensures found { AllFound self.old → AllFound self.new }
-        ensures room { OnOk result (HasRoom changes.now self.new) }
+        ensures same { tables_in_memory self.new ≡ tables_in_memory self.old }
+        ensures found { AllIndexed self.old → AllIndexed self.new }
+        ensures room { OnOk result (HasRoomForRows changes.now self.new) }
     {
         make_room(&mut self.resource, changes)?;
         make_room(&mut self.outside, changes)?;
@@ -66,15 +66,15 @@ impl MemTables {
         make_room(&mut self.steps, changes)
     }
 
-    /// Makes a change, where an index tells at which concept each posting stands.
+    /// Makes a change. The index has each posting by its place.
     pub fn make(&mut self, change: Change, standing: &Index)
-        requires room { HasRoom (change ∷ []) self.old }
-        requires found { AllFound self.old }
-        requires standing { AreStanding standing.now self.old.posting.items }
-        ensures tables { tables_of self.new ≡ changed change (tables_of self.old) }
-        ensures found { AllFound self.new }
-        ensures room { (rest : List Change) → HasRoom (change ∷ rest) self.old
-            → HasRoom rest self.new }
+        requires room { HasRoomForRows (change ∷ []) self.old }
+        requires found { AllIndexed self.old }
+        requires standing { IndexesByPlace standing.now self.old.posting.items }
+        ensures tables { tables_in_memory self.new ≡ tables_after_change change (tables_in_memory self.old) }
+        ensures found { AllIndexed self.new }
+        ensures room { (rest : List Change) → HasRoomForRows (change ∷ rest) self.old
+            → HasRoomForRows rest self.new }
     {
         match change {
             Change::AddResource(_, resource) => self.resource.push_reserved(resource),
@@ -99,13 +99,15 @@ impl MemTables {
         }
     }
 
-    /// Makes changes in their order, where an index tells before each where each posting stands.
+    /// Makes changes in order. Before each, the index has each posting by its place.
     pub fn make_all(&mut self, changes: Vec<Change>, standing: &Index)
-        requires room { HasRoom changes.items self.old }
-        requires found { AllFound self.old }
-        requires standing { StandThroughout standing.now changes.items (tables_of self.old) }
-        ensures tables { tables_of self.new ≡ all_changed changes.items (tables_of self.old) }
-        ensures found { AllFound self.new }
+        requires room { HasRoomForRows changes.items self.old }
+        requires found { AllIndexed self.old }
+        requires standing { IndexesByPlaceThroughout
+            standing.now changes.items (tables_in_memory self.old) }
+        ensures tables { tables_in_memory self.new
+            ≡ tables_after_delta changes.items (tables_in_memory self.old) }
+        ensures found { AllIndexed self.new }
     {
         for change in changes {
             self.make(change, standing);
@@ -113,9 +115,9 @@ impl MemTables {
     }
 }
 
-// Marks a resource dead.
+// Marks a resource as not live, with its replacement if it has one.
 fn mark_dead(resources: &mut Vec<Resource>, n: ResNo, replaced: Option<ResNo>)
-    ensures items { resources.new.items ≡ marked_dead n replaced resources.old.items }
+    ensures items { resources.new.items ≡ resources_after_death n replaced resources.old.items }
     ensures len { vec_len resources.new ≡ vec_len resources.old }
     ensures capacity { vec_capacity resources.new ≡ vec_capacity resources.old }
 {
@@ -125,9 +127,9 @@ fn mark_dead(resources: &mut Vec<Resource>, n: ResNo, replaced: Option<ResNo>)
     }
 }
 
-// Marks a posting withdrawn.
+// Marks a posting as withdrawn.
 fn withdraw(postings: &mut Vec<PostingRow>, n: PostNo)
-    ensures items { postings.new.items ≡ with_posting withdrawn_row n postings.old.items }
+    ensures items { postings.new.items ≡ with_posting row_after_withdrawal n postings.old.items }
     ensures len { vec_len postings.new ≡ vec_len postings.old }
     ensures capacity { vec_capacity postings.new ≡ vec_capacity postings.old }
 {
@@ -138,7 +140,7 @@ fn withdraw(postings: &mut Vec<PostingRow>, n: PostNo)
 
 // Sets the place of a posting.
 fn set_place(postings: &mut Vec<PostingRow>, n: PostNo, place: ResNo)
-    ensures items { postings.new.items ≡ with_posting (placed_row place) n postings.old.items }
+    ensures items { postings.new.items ≡ with_posting (row_at_place place) n postings.old.items }
     ensures len { vec_len postings.new ≡ vec_len postings.old }
     ensures capacity { vec_capacity postings.new ≡ vec_capacity postings.old }
 {
@@ -147,18 +149,19 @@ fn set_place(postings: &mut Vec<PostingRow>, n: PostNo, place: ResNo)
     }
 }
 
-// Moves a posting that stands at the source.
+// Moves a posting to the target if it is assigned to the source and not withdrawn.
 fn move_row(row: &mut PostingRow, source: ResNo, target: ResNo)
-    ensures { row.new ≡ moved_row source target row.old }
+    ensures { row.new ≡ row_after_move_all source target row.old }
 {
     if !row.withdrawn && row.place == source {
         row.place = target;
     }
 }
 
-// Moves the posting at a place, if it stands at the source.
-fn move_at(postings: &mut Vec<PostingRow>, place: usize, source: ResNo, target: ResNo)
-    ensures items { postings.new.items ≡ with_row (moved_row source target) place postings.old.items }
+// Moves the posting at a position to the target if it is assigned to the source.
+fn move_posting_at(postings: &mut Vec<PostingRow>, place: usize, source: ResNo, target: ResNo)
+    ensures items { postings.new.items
+        ≡ rows_after_change_at (row_after_move_all source target) place postings.old.items }
     ensures len { vec_len postings.new ≡ vec_len postings.old }
     ensures capacity { vec_capacity postings.new ≡ vec_capacity postings.old }
 {
@@ -167,31 +170,31 @@ fn move_at(postings: &mut Vec<PostingRow>, place: usize, source: ResNo, target: 
     }
 }
 
-// Moves those of the postings at some places that stand at the source.
-fn move_those(
+// Moves those of the postings at some positions to the target that are assigned to the source.
+fn move_at_places(
     postings: &mut Vec<PostingRow>,
     places: &BTreeSet<usize>,
     source: ResNo,
     target: ResNo,
 )
     ensures items { postings.new.items
-        ≡ changed_at (moved_row source target) places.now.keys postings.old.items }
+        ≡ rows_after_changes_at (row_after_move_all source target) places.now.keys postings.old.items }
     ensures len { vec_len postings.new ≡ vec_len postings.old }
     ensures capacity { vec_capacity postings.new ≡ vec_capacity postings.old }
 {
     for place in places.iter() {
-        move_at(postings, *place, source, target);
+        move_posting_at(postings, *place, source, target);
     }
 }
 
-// Moves all postings that stand at the source.
+// Moves all postings assigned to the source to the target.
 fn move_all(postings: &mut Vec<PostingRow>, standing: &Index, source: ResNo, target: ResNo)
-    requires { AreStanding standing.now postings.old.items }
-    ensures items { postings.new.items ≡ map (moved_row source target) postings.old.items }
+    requires { IndexesByPlace standing.now postings.old.items }
+    ensures items { postings.new.items ≡ map (row_after_move_all source target) postings.old.items }
     ensures len { vec_len postings.new ≡ vec_len postings.old }
     ensures capacity { vec_capacity postings.new ≡ vec_capacity postings.old }
 {
     if let Some(places) = standing.set(source.get()) {
-        move_those(postings, places, source, target);
+        move_at_places(postings, places, source, target);
     }
 }

@@ -1,7 +1,7 @@
-pub mod Sets
-pub mod Steps
-pub mod LinkRows
-pub mod MoveRows
-pub mod Leading
-pub mod Listing
+pub mod RowSetLemmas
+pub mod DeltaAppendLemmas
+pub mod LinkRowLemmas
+pub mod MoveRowLemmas
+pub mod ChangeLawLemmas
+pub mod CellLemmas
 pub mod OldRowLemmas

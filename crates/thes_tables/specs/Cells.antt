@@ -1,4 +1,4 @@
--- The tables as a database holds them: rows of cells.
+-- The tables as a database stores them: rows of cells.
 use Rattle.std.specs.Prelude.{ℕ, pos, List, [], ◌∷◌, ◌+◌, map, Bool, cond, Option, None, Some}
 use Rattle.thes_base.specs.declared.data.Resource.{Resource}
 use Rattle.thes_base.specs.declared.data.ResourceKind.{ResourceKind}
@@ -15,11 +15,11 @@ use Rattle.thes_tables.specs.declared.rows.PostingRow.{PostingRow}
 use Rattle.thes_tables.specs.declared.rows.MoveRow.{MoveRow}
 use Rattle.thes_tables.specs.Tables.{Tables}
 
--- a table's rows; None where it can't be queried
+-- The rows of a table, or None if it can't be queried.
 abbrev pub RawTable : Type 0
 RawTable = Option (List (List Cell))
 
--- the eight tables, whatever they hold
+-- The eight tables as rows of cells, which needn't encode a state.
 pub record Raw : Type 0 where
   pub meta : RawTable
   pub resource : RawTable
@@ -46,7 +46,7 @@ resource_kind_no Concept = 2
 resource_kind_no Collection = 3
 resource_kind_no Outside = 4
 
--- the version of the schema is 2
+-- The row of table meta: its number 1, version 2 of the schema, and the base.
 abbrev pub meta_cells : List ℕ → List Cell
 meta_cells base = number_cell 1 ∷ number_cell 2 ∷ Text base ∷ []
 
@@ -55,7 +55,7 @@ resource_cells n r =
     number_cell n ∷ number_cell (resource_kind_no r.kind) ∷ optional_cell r.scheme ∷ flag_cell r.live
     ∷ optional_cell r.replaced ∷ []
 
--- the resources, numbered from this number on
+-- The rows of resources that are numbered consecutively from `n`.
 abbrev pub resource_rows : ℕ → List Resource → List (List Cell)
 resource_rows n [] = []
 resource_rows n (r ∷ rs) = resource_cells n r ∷ resource_rows (n + 1) rs
@@ -86,9 +86,9 @@ posting_cells row =
 abbrev pub move_cells : MoveRow → List Cell
 move_cells row = number_cell row.number ∷ number_cell row.posting ∷ number_cell row.source ∷ number_cell row.target ∷ []
 
--- what the tables hold, row by row
-abbrev pub listed : Tables → Raw
-listed t =
+-- The rows of cells that encode the tables.
+abbrev pub cells_of_tables : Tables → Raw
+cells_of_tables t =
     record {
       meta = Some (meta_cells t.base ∷ []);
       resource = Some (resource_rows 1 t.resource);

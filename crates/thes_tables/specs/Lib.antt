@@ -2,5 +2,5 @@ pub mod Tables
 pub mod Rows
 pub mod Cells
 pub mod Changes
-pub mod Leads
+pub mod ChangeLaw
 pub mod OldRows

@@ -1,12 +1,12 @@
 //! Changes of rows.
-ghost use Rattle.thes_tables.specs.Leads.{ChangesLead};
+ghost use Rattle.thes_tables.specs.ChangeLaw.{ChangesLead};
 
 use crate::rows::{HierRow, LabelRow, MoveRow, PostingRow};
 use thes_base::data::{Link, Resource};
 use thes_base::number::{PostNo, ResNo};
 use thes_base::text::Iri;
 
-/// A change of one row of a table; or, as `MoveAll`, of the places of all postings not withdrawn that stand at a concept.
+/// A change of one row of a table, but for `MoveAll`, which assigns all live postings of one concept to another.
 #[derive(Debug, Drop)]
 pub enum Change {
     AddResource(ResNo, Resource),
@@ -26,7 +26,8 @@ pub enum Change {
     AddMove(MoveRow),
 }
 
-/// States that the changes of an accepted request fit the rows of its state, and make those of the next.
+/// No effect; states for the proof that the changes of an accepted request turn the rows of its state into those of
+/// the next.
 pub fn changes_lead()
     ensures { ChangesLead }
 {}

@@ -1,11 +1,11 @@
-//! Changes that are made together.
+//! The changes of one request, which are committed atomically.
 ghost use Rattle.std.specs.Prelude.{◌≡◌, [], ◌∷◌, ◌++◌, OnOk, OnErr};
 
 use crate::change::Change;
 use std::alloc::{AllocError, Global};
 use std::marker::Model;
 
-/// The changes of one request, in order.
+/// A list of changes, in the order in which they are applied.
 #[derive(Debug, Drop)]
 pub struct Delta {
     changes: Vec<Change>,
@@ -21,7 +21,7 @@ impl Model for Delta {
 }
 
 impl Delta {
-    /// Makes a list without changes.
+    /// Returns an empty list.
     pub fn new(alloc: Global) -> Delta
         ensures { result ≡ [] }
     {
@@ -30,14 +30,14 @@ impl Delta {
         }
     }
 
-    /// Shows the changes, in their order.
+    /// Returns the changes as a slice.
     pub fn as_slice(&self) -> &[Change]
         ensures { result.now ≡ self.now }
     {
         self.changes.as_slice()
     }
 
-    /// Gives up the changes, in their order.
+    /// Unwraps the changes.
     pub fn into_changes(self) -> Vec<Change>
         ensures { result.items ≡ self }
     {
@@ -45,7 +45,7 @@ impl Delta {
         changes
     }
 
-    /// Adds a change at the end. When memory runs out, nothing changes.
+    /// Appends a change. On failure the list is unchanged.
     pub fn push(&mut self, change: Change) -> Result<(), AllocError>
         ensures ok { OnOk result (self.new ≡ self.old ++ change ∷ []) }
         ensures err { OnErr result (self.new ≡ self.old) }

@@ -1,8 +1,8 @@
-//! What holds of the rows that a migration makes.
-ghost use Rattle.thes_tables.specs.OldRows.{RenewsRows};
+//! The law of the migration from version 1 of the schema to version 2.
+ghost use Rattle.thes_tables.specs.OldRows.{MigrationKeepsState};
 
-/// States that where the rows were version 1's rows of a state, what version 2 has of them are its rows of the same
-/// state; and that of no other rows it has those.
-pub fn renews_rows()
-    ensures { RenewsRows }
+/// No effect; states for the proof that tables are version 1's rows of a state exactly when the migrated tables are
+/// version 2's rows of it.
+pub fn migration_keeps_state()
+    ensures { MigrationKeepsState }
 {}

@@ -1,18 +1,18 @@
-//! The numbers by which cells tell kinds, types and flags.
+//! The numbers that encode kinds, types and flags in cells.
 ghost use Rattle.std.specs.Prelude.{◌≡◌, cond};
 ghost use Rattle.thes_tables.specs.Cells.{resource_kind_no, hier_type_no};
 
 use crate::rows::HierType;
 use thes_base::data::ResourceKind;
 
-/// Returns 1 for a flag that is set, and else 0.
+/// Returns 1 if the flag is set, and 0 otherwise.
 pub fn flag_number(is_set: bool) -> u32
     ensures { result ≡ cond is_set 1 0 }
 {
     if is_set { 1 } else { 0 }
 }
 
-/// Returns the number of a kind of resource.
+/// Returns the number that encodes a kind of resource.
 pub fn resource_number(kind: ResourceKind) -> u32
     ensures { result ≡ resource_kind_no kind }
 {
@@ -24,7 +24,7 @@ pub fn resource_number(kind: ResourceKind) -> u32
     }
 }
 
-/// Returns the number of a type of hierarchical relationship.
+/// Returns the number that encodes a type of hierarchical relationship.
 pub fn type_number(typ: HierType) -> u32
     ensures { result ≡ hier_type_no typ }
 {

@@ -1,4 +1,4 @@
-//! Rows of the tables.
+//! Typed rows of the tables.
 ghost use Rattle.std.specs.Prelude.{◌≡◌, ◌↔◌, IfOk, IsTrue};
 
 use std::alloc::{AllocError, Global};
@@ -7,7 +7,7 @@ use thes_base::data::Label;
 use thes_base::number::{MoveNo, PostNo, ResNo};
 use thes_base::text::{Iri, Key, RecordName};
 
-/// A row of label.
+/// A row of table label.
 #[derive(Debug, Drop)]
 pub struct LabelRow {
     pub owner: ResNo,
@@ -16,14 +16,14 @@ pub struct LabelRow {
 
 impl Model for LabelRow {
     ghost use Rattle.thes_base.specs.Labels.{Label};
-    ghost use Rattle.thes_base.specs.Machine.{owned};
+    ghost use Rattle.thes_base.specs.Machine.{owned_label};
 
     ghost Value = { Label };
 
-    ghost view = { λ a. owned a.owner a.label };
+    ghost view = { λ a. owned_label a.owner a.label };
 }
 
-/// A row of posting: where the posting stands now, and what was accepted.
+/// A row of table posting: the posting as accepted, with its present place.
 #[derive(Debug, Drop)]
 pub struct PostingRow {
     pub number: PostNo,
@@ -34,7 +34,7 @@ pub struct PostingRow {
     pub withdrawn: bool,
 }
 
-/// A row of move.
+/// A row of table move: one change of a posting's place.
 #[derive(Clone, Copy, Debug, PartialEq, Eq)]
 pub struct MoveRow {
     pub number: MoveNo,
@@ -43,7 +43,7 @@ pub struct MoveRow {
     pub target: ResNo,
 }
 
-/// The type of a hierarchical relationship, as table hier has it.
+/// The type of a hierarchical relationship (ISO 25964-1, 10.2); untyped is plain broader.
 #[derive(Clone, Copy, Debug, PartialEq, Eq)]
 pub enum HierType {
     Untyped,
@@ -52,7 +52,7 @@ pub enum HierType {
     Instantial,
 }
 
-/// A row of hier: that `b` is broader than `a`, and by which type of relationship.
+/// A row of table hier: `b` is broader than `a`, by this type of relationship.
 #[derive(Clone, Copy, Debug, PartialEq, Eq)]
 pub struct HierRow {
     pub a: ResNo,
@@ -60,7 +60,7 @@ pub struct HierRow {
     pub typ: HierType,
 }
 
-/// A row of outside.
+/// A row of table outside: the IRI of an outside concept.
 #[derive(Debug, Drop)]
 pub struct OutsideRow {
     pub number: ResNo,
@@ -76,7 +76,7 @@ impl Model for OutsideRow {
 }
 
 impl LabelRow {
-    /// Tells whether the rows have the same owner and label.
+    /// Returns whether the rows have the same owner and label.
     pub fn is_same(&self, other: &LabelRow) -> bool
         ensures { IsTrue result ↔ (self.now ≡ other.now) }
     {

@@ -1,4 +1,4 @@
--- IRIs by number, and numbers by IRI.
+-- The two maps of IRIs and numbers are inverse to each other at each change.
 use Rattle.std.proofs.Common.{◌≡◌, ◌≢◌, ◌⊎◌, inl, inr, ℕ, List, [], ◌∷◌, refl, sym, ap, ◌∙◌, Bool, true, false, cond}
 use Rattle.std.specs.Prelude.{Option, None, Some}
 use Rattle.std.specs.Option.{MatchOption}
@@ -12,9 +12,9 @@ use Rattle.std.specs.FinMap as dict
 use Rattle.std.proofs.lemmas.Cmp.{nat_list_cmp_total}
 use Rattle.std.proofs.lemmas.Map.Lookups.{exact_unsigned, exact_bytes}
 use Rattle.thes_base.specs.Resources.{Iris}
-use Rattle.thes_base.proofs.ResourcesKept.{iri_cases}
+use Rattle.thes_base.proofs.LegalResourceLemmas.{iri_cases}
 use Rattle.std.proofs.lemmas.Option.{none-some, same_Some}
-use Rattle.thes_vocab.specs.Numbered.{iris_in, AreInverse}
+use Rattle.thes_vocab.specs.IriIndex.{iris_in, AreInverse}
 use Rattle.thes_vocab.proofs.NameLemmas.{IsSet, same_or_not}
 
 abbrev Numbers : Type 0
@@ -27,36 +27,43 @@ find_is : (es : List (ℕ × List ℕ)) (n : ℕ) → dict.find nat_cmp n es ≡
 find_is [] n = refl
 find_is (e ∷ es) n = ap (cond (is_at (nat_cmp n) e.0) (Some e.1)) (find_is es n)
 
--- what the map has, the value has
-pub got : (m : BTreeMap ℕ (List ℕ)) (n : ℕ) → dict.get (iris_in m.entries) n ≡ get nat_cmp m n
-got m n = dict.get-from_entries nat_cmp_total m.entries n ∙ find_is m.entries n
+-- A look-up in the map is one in its model.
+pub get_iri_at : (m : BTreeMap ℕ (List ℕ)) (n : ℕ) → dict.get (iris_in m.entries) n ≡ get nat_cmp m n
+get_iri_at m n = dict.get-from_entries nat_cmp_total m.entries n ∙ find_is m.entries n
 
-pub number_found : (iris : Iris) (numbers : Numbers) (iri : List ℕ) (o : Option ℕ) → AreInverse iris numbers → o ≡ get iri_cmp numbers iri → MatchOption o ((n : ℕ) → dict.get iris n ≢ Some iri) (λ n. dict.get iris n ≡ Some iri)
+pub number_found : (iris : Iris) (numbers : Numbers) (iri : List ℕ) (o : Option ℕ) → AreInverse iris numbers → o
+    ≡ get iri_cmp numbers iri → MatchOption o ((n : ℕ) → dict.get iris n ≢ Some iri) (λ n. dict.get iris n ≡ Some iri)
 number_found iris numbers iri None tied e = λ n has. let at = tied.number n iri has in none-some _ (e ∙ at)
 number_found iris numbers iri (Some n) tied e = tied.iri n iri (sym e)
 
-pub inserted : (old new : BTreeMap ℕ (List ℕ)) (n : ℕ) (iri : List ℕ) → Updates nat_cmp old new n (Some iri) → iris_in new.entries ≡ dict.insert (iris_in old.entries) n iri
-inserted old new n iri u = dict.same_map nat_cmp_total dict.nat_cmp-IsAntisymmetric _ _ (λ q.
-    got new q ∙ u.0 q ∙ ap (λ b. cond b (Some iri) (get nat_cmp old q)) ((eq_by_cmp_equiv nat_cmp_total).symm n q)
-    ∙ sym (dict.get-insert nat_cmp_total (iris_in old.entries) n iri q ∙ ap (cond (eq_by_cmp nat_cmp q n) (Some iri)) (got old q)))
+pub iris_after_insert : (old new : BTreeMap ℕ (List ℕ)) (n : ℕ) (iri : List ℕ) → Updates nat_cmp old new n (Some iri)
+    → iris_in new.entries ≡ dict.insert (iris_in old.entries) n iri
+iris_after_insert old new n iri u = dict.same_map nat_cmp_total dict.nat_cmp-IsAntisymmetric _ _ (λ q.
+    get_iri_at new q ∙ u.0 q ∙ ap (λ b. cond b (Some iri) (get nat_cmp old q))
+    ((eq_by_cmp_equiv nat_cmp_total).symm n q)
+    ∙ sym (dict.get-insert nat_cmp_total (iris_in old.entries) n iri q ∙ ap (cond (eq_by_cmp nat_cmp q n) (Some iri))
+    (get_iri_at old q)))
 
-module _ (iris : Iris) (numbers more : Numbers) (n : ℕ) (iri : List ℕ) (tied : AreInverse iris numbers) (set : IsSet iri_cmp numbers more iri (Some n)) (free : (m : ℕ) → dict.get iris m ≢ Some iri) where
+module _ (iris : Iris) (numbers more : Numbers) (n : ℕ) (iri : List ℕ) (tied : AreInverse iris numbers)
+    (set : IsSet iri_cmp numbers more iri (Some n)) (free : (m : ℕ) → dict.get iris m ≢ Some iri) where
   other_iri : (m : ℕ) (i : List ℕ) → dict.get iris m ≡ Some i → i ≡ iri → ⊥
   other_iri m i has same = free m (has ∙ ap Some same)
 
-  -- a new number and its IRI
-  pub tied_more : dict.get iris n ≡ None → AreInverse (dict.insert iris n iri) more
-  tied_more none = record {
+  -- Inserting a new number and its IRI keeps the maps inverse.
+  pub inverse_after_insert : dict.get iris n ≡ None → AreInverse (dict.insert iris n iri) more
+  inverse_after_insert none = record {
     number = λ m i e. number_at m i (iri_cases iris n iri m i e);
     iri = λ m i e. iri_at m i e (same_or_not iri_cmp nat_list_cmp_total exact_bytes i iri);
   }
     where
-      number_at : (m : ℕ) (i : List ℕ) → ((m ≡ n) × (i ≡ iri)) ⊎ (dict.get iris m ≡ Some i) → get iri_cmp more i ≡ Some m
+      number_at : (m : ℕ) (i : List ℕ) → ((m ≡ n) × (i ≡ iri)) ⊎ (dict.get iris m ≡ Some i) → get iri_cmp more i
+          ≡ Some m
       number_at m i (inl (here, same)) = ap (get iri_cmp more) same ∙ set.at ∙ ap Some (sym here)
       number_at m i (inr has) = set.others i (other_iri m i has) ∙ tied.number m i has
 
       put_at : dict.get (dict.insert iris n iri) n ≡ Some iri
-      put_at = dict.get-insert nat_cmp_total iris n iri n ∙ ap (λ b. cond b (Some iri) (dict.get iris n)) (ap is_eq (tied_itself nat_cmp_total n))
+      put_at = dict.get-insert nat_cmp_total iris n iri n ∙ ap (λ b. cond b (Some iri) (dict.get iris n))
+          (ap is_eq (tied_itself nat_cmp_total n))
 
       kept : (m : ℕ) (i : List ℕ) → dict.get iris m ≡ Some i → dict.get (dict.insert iris n iri) m ≡ Some i
       kept m i has = go (eq_by_cmp nat_cmp m n) refl
@@ -66,17 +73,19 @@ module _ (iris : Iris) (numbers more : Numbers) (n : ℕ) (iri : List ℕ) (tied
 
           go : (b : Bool) → eq_by_cmp nat_cmp m n ≡ b → dict.get (dict.insert iris n iri) m ≡ Some i
           go true tie = absurd (absent (exact_unsigned m n ((Equal-is (nat_cmp m n)).0 tie)))
-          go false tie = dict.get-insert nat_cmp_total iris n iri m ∙ ap (λ b. cond b (Some iri) (dict.get iris m)) tie ∙ has
+          go false tie = dict.get-insert nat_cmp_total iris n iri m ∙ ap (λ b. cond b (Some iri) (dict.get iris m))
+              tie ∙ has
 
-      iri_at : (m : ℕ) (i : List ℕ) → get iri_cmp more i ≡ Some m → (i ≡ iri) ⊎ (i ≡ iri → ⊥) → dict.get (dict.insert iris n iri) m ≡ Some i
+      iri_at : (m : ℕ) (i : List ℕ) → get iri_cmp more i ≡ Some m → (i ≡ iri) ⊎ (i ≡ iri → ⊥)
+          → dict.get (dict.insert iris n iri) m ≡ Some i
       iri_at m i e (inl same) =
           let here = same_Some _ _ (sym set.at ∙ ap (get iri_cmp more) (sym same) ∙ e) in
           ap (dict.get (dict.insert iris n iri)) (sym here) ∙ put_at ∙ ap Some (sym same)
       iri_at m i e (inr apart) = kept m i (tied.iri m i (sym (set.others i apart) ∙ e))
 
-  -- the number is taken back
-  pub tied_back : (back : Numbers) → IsSet iri_cmp more back iri None → AreInverse iris back
-  tied_back back unset = record {
+  -- Removing the IRI from the second map again restores the old maps.
+  pub inverse_after_undo : (back : Numbers) → IsSet iri_cmp more back iri None → AreInverse iris back
+  inverse_after_undo back unset = record {
     number = λ m i has. unset.others i (other_iri m i has) ∙ set.others i (other_iri m i has) ∙ tied.number m i has;
     iri = λ m i e. iri_at m i e (same_or_not iri_cmp nat_list_cmp_total exact_bytes i iri);
   }
@@ -85,11 +94,15 @@ module _ (iris : Iris) (numbers more : Numbers) (n : ℕ) (iri : List ℕ) (tied
       iri_at m i e (inl same) = absurd (none-some _ (sym unset.at ∙ ap (get iri_cmp back) (sym same) ∙ e))
       iri_at m i e (inr apart) = tied.iri m i (sym (set.others i apart) ∙ sym (unset.others i apart) ∙ e)
 
-pub none_tied : (iris : Iris) (numbers : Numbers) → ((n : ℕ) → dict.get iris n ≡ None) → ((i : List ℕ) → get iri_cmp numbers i ≡ None) → AreInverse iris numbers
-none_tied iris numbers none no_number = record { number = λ n i e. absurd (none-some _ (sym (none n) ∙ e)); iri = λ n i e. absurd (none-some _ (sym (no_number i) ∙ e)) }
+pub inverse_of_empty : (iris : Iris) (numbers : Numbers) → ((n : ℕ) → dict.get iris n ≡ None)
+    → ((i : List ℕ) → get iri_cmp numbers i ≡ None) → AreInverse iris numbers
+inverse_of_empty iris numbers none no_number = record {
+  number = λ n i e. absurd (none-some _ (sym (none n) ∙ e));
+  iri = λ n i e. absurd (none-some _ (sym (no_number i) ∙ e));
+}
 
 pub empty_get : (m : BTreeMap ℕ (List ℕ)) → m.entries ≡ [] → (n : ℕ) → dict.get (iris_in m.entries) n ≡ None
-empty_get m e n = got m n ∙ ap (lookup (is_at (nat_cmp n))) e
+empty_get m e n = get_iri_at m n ∙ ap (lookup (is_at (nat_cmp n))) e
 
 pub empty_numbers : (m : Numbers) → m.entries ≡ [] → (i : List ℕ) → get iri_cmp m i ≡ None
 empty_numbers m e i = ap (lookup (is_at (iri_cmp i))) e

@@ -1,11 +1,11 @@
-pub mod OwnLemmas
-mod TableLemmas
+pub mod OwnLabelLemmas
+mod LabelTableLemmas
 mod AnswerLemmas
 mod NameLemmas
-mod ListedLemmas
+mod ConceptListLemmas
 mod IriLemmas
-mod JudgingLemmas
-mod KeptLemmas
-mod TakenLemmas
+mod LabelCheckLemmas
+mod ConsistencyLemmas
+mod MergedRowLemmas
 mod ForwardingLemmas
 mod LoadingLemmas

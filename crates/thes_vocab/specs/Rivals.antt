@@ -1,4 +1,4 @@
--- What a preferred label may clash with, and what is left of an owner's preferred labels.
+-- Conflicts of a preferred label with other labels.
 use Rattle.std.specs.Prelude.{◌≡◌, ◌≢◌, ◌⊎◌, ℕ, List, Bool, true, Some}
 use Rattle.thes_base.specs.declared.data.Resource.{Resource}
 use Rattle.thes_base.specs.declared.data.LabelKind.TheVariants.{Pref, Alt, Hidden}
@@ -16,7 +16,7 @@ pub record HasRival (resources : List Resource) (labels : Labels) (owner : ℕ) 
   pub holder : IsHolder resources labels scheme tag text rival
   pub other : rival ≢ owner
 
--- The owner has two preferred labels.
+-- The owner has two different preferred labels.
 pub record HasTwoPreferred (labels : Labels) (owner : ℕ) : Type 0 where
   pub first_tag : List ℕ
   pub first_text : List ℕ
@@ -26,8 +26,8 @@ pub record HasTwoPreferred (labels : Labels) (owner : ℕ) : Type 0 where
   pub second : HasLabel labels owner Pref second_tag second_text
   pub apart : label owner Pref first_tag first_text ≢ label owner Pref second_tag second_text
 
--- In place of the owner's preferred label in the language, the text would stand under two kinds: it is an alternative or
--- a hidden label, or it is the old one, which is to be kept.
-abbrev pub Clashes : Labels → ℕ → List ℕ → List ℕ → List ℕ → Bool → Type 0
-Clashes labels owner tag text old keep =
+-- As the owner's new preferred label in the language, the text would break SKOS S13: it is an alternative or hidden
+-- label, or the old preferred label, which is to be kept.
+abbrev pub HasClash : Labels → ℕ → List ℕ → List ℕ → List ℕ → Bool → Type 0
+HasClash labels owner tag text old keep =
     HasLabel labels owner Alt tag text ⊎ HasLabel labels owner Hidden tag text ⊎ ((keep ≡ true) × (old ≡ text))

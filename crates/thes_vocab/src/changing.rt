@@ -1,15 +1,16 @@
-//! Changes of resources and labels. Each allocates before it changes anything, so running out of memory changes nothing.
+//! Changes of resources and labels. Each call allocates before it changes anything, so running out
+//! of memory changes nothing.
 ghost use Rattle.std.specs.Prelude.{◌≡◌, ◌≢◌, ◌<◌, ◌+◌, ◌^◌, ℕ, length, IfOk, OnOk, OnErr, None, Some};
 ghost use Rattle.std.specs.FinMap as dict;
 ghost use Rattle.std.specs.FinSet as set;
-ghost use Rattle.thes_base.specs.Rows.{accepted};
-ghost use Rattle.thes_base.specs.Machine.{owned};
+ghost use Rattle.thes_base.specs.RefusalRules.{accepted};
+ghost use Rattle.thes_base.specs.Machine.{owned_label};
 ghost use Rattle.thes_base.specs.Resources.{IsLiveConcept, BeginsWith};
-ghost use Rattle.thes_base.specs.Changes.{made, outside_made, labels_relabelled, taken_labels};
-ghost use Rattle.thes_base.specs.Refusals.{unless_label, unless_dropped, unless_relabelled};
-ghost use Rattle.thes_vocab.specs.Vocabulary.{bare_state, vocabulary_of, with_labels, with_dead, IsLiveOwner, IsReplacement};
-ghost use Rattle.thes_vocab.specs.Taken.{takes};
-ghost use Rattle.thes_vocab.specs.Requests.{unless_new, with_new, IsNamed, IsFree};
+ghost use Rattle.thes_base.specs.Changes.{state_after_creation, state_after_outside, labels_after_relabel, copied_labels};
+ghost use Rattle.thes_base.specs.Refusals.{unless_label, unless_droppable, unless_relabel};
+ghost use Rattle.thes_vocab.specs.Vocabulary.{bare_state, vocabulary_of, with_labels, vocabulary_after_death, IsLiveOwner, IsReplacement};
+ghost use Rattle.thes_vocab.specs.CopiedLabels.{lacks_name};
+ghost use Rattle.thes_vocab.specs.NewResources.{unless_new, vocabulary_after_add, IsNewOwner, IsFreeName};
 
 use crate::concepts;
 use crate::vocab::{Vocab, concept_scheme, scheme_if_concept};
@@ -19,12 +20,12 @@ use thes_base::number::ResNo;
 use thes_base::text::{Iri, Tag, Text};
 
 impl Vocab {
-    /// Makes a resource that nothing refuses, and answers its number. An `Err` changes nothing.
+    /// Adds a resource that passes `check_new`, and returns its number. An `Err` changes nothing.
     pub fn add_resource(&mut self, new: NewResource) -> Result<ResNo, AllocError>
         requires allowed { unless_new self.old new accepted None }
         requires room { length self.old.resources + 1 < 2 ^ 32 }
         ensures number { IfOk result (λ n. n ≡ length self.old.resources + 1) }
-        ensures ok { OnOk result (self.new ≡ with_new new self.old) }
+        ensures ok { OnOk result (self.new ≡ vocabulary_after_add new self.old) }
         ensures err { OnErr result (self.new ≡ self.old) }
     {
         match new {
@@ -51,14 +52,14 @@ impl Vocab {
         }
     }
 
-    /// Adds a label that nothing refuses. An `Err` changes nothing.
+    /// Adds a label that passes `check_label`. An `Err` changes nothing.
     pub fn add_label(&mut self, owner: ResNo, label: &Label) -> Result<(), AllocError>
         requires owner { IsLiveOwner self.old.resources owner }
-        requires allowed { let l = owned owner label.now in
+        requires allowed { let l = owned_label owner label.now in
             unless_label self.old.labels self.old.resources (set.insert self.old.labels l) l
             accepted None }
         ensures ok { OnOk result (self.new ≡
-            with_labels self.old (set.insert self.old.labels (owned owner label.now))) }
+            with_labels self.old (set.insert self.old.labels (owned_label owner label.now))) }
         ensures err { OnErr result (self.new ≡ self.old) }
     {
         let copy = label.try_clone(self.alloc)?;
@@ -68,12 +69,13 @@ impl Vocab {
         Ok(())
     }
 
-    /// Drops a label where nothing refuses it.
+    /// Removes a label that passes `check_drop`.
     pub fn drop_label(&mut self, owner: ResNo, label: &Label)
         requires owner { IsLiveOwner self.old.resources owner }
-        requires allowed { unless_dropped self.old.labels (owned owner label.now) accepted None }
+        requires allowed { unless_droppable self.old.labels
+            (owned_label owner label.now) accepted None }
         ensures { self.new ≡
-            with_labels self.old (set.remove self.old.labels (owned owner label.now)) }
+            with_labels self.old (set.remove self.old.labels (owned_label owner label.now)) }
     {
         let scheme = concept_scheme(self.resources.as_slice(), owner);
         self.names.forget_label(scheme, label);
@@ -81,8 +83,8 @@ impl Vocab {
             .remove(owner, label.kind(), &label.tag, label.text());
     }
 
-    /// Gives an owner another preferred label in the language where nothing refuses it, and keeps the old one as an
-    /// alternative label if asked to. An `Err` changes nothing.
+    /// Replaces a preferred label by one that passes `check_relabel`, and keeps the old one as an
+    /// alternative label if `keep` is true. An `Err` changes nothing.
     pub fn relabel(
         &mut self,
         owner: ResNo,
@@ -91,9 +93,10 @@ impl Vocab {
         keep: bool,
     ) -> Result<(), AllocError>
         requires owner { IsLiveOwner self.old.resources owner }
-        requires allowed { let after = labels_relabelled owner tag.now text.now keep self.old.labels in
-            unless_relabelled self.old.labels self.old.resources after owner tag.now accepted None }
-        ensures ok { let after = labels_relabelled owner tag.now text.now keep self.old.labels in
+        requires allowed { let after =
+            labels_after_relabel owner tag.now text.now keep self.old.labels in
+            unless_relabel self.old.labels self.old.resources after owner tag.now accepted None }
+        ensures ok { let after = labels_after_relabel owner tag.now text.now keep self.old.labels in
             OnOk result (self.new ≡ with_labels self.old after) }
         ensures err { OnErr result (self.new ≡ self.old) }
     {
@@ -112,26 +115,26 @@ impl Vocab {
         Ok(())
     }
 
-    /// Counts the labels that the target would take from the source in a merge.
+    /// Returns the number of labels that a merge would copy from the source to the target.
     pub fn taken_count(&self, source: ResNo, target: ResNo) -> u64
-        ensures { let taken = taken_labels source target self.now.labels in
+        ensures { let taken = copied_labels source target self.now.labels in
             set.len self.now.labels + result ≡ set.len (set.union self.now.labels taken) }
     {
         let mut count = 0u64;
         for label in self.labels.of_owner(source) {
-            if self.takes(target, label) {
+            if self.lacks_name(target, label) {
                 count += 1;
             }
         }
         count
     }
 
-    /// Gives the target the names of the source that it lacks, preferred ones as alternative ones, and answers how many
-    /// those are. An `Err` changes nothing.
+    /// Copies the missing names of the source to the target, preferred ones as alternative ones,
+    /// and returns their number. An `Err` changes nothing.
     pub fn take_labels(&mut self, source: ResNo, target: ResNo) -> Result<u64, AllocError>
         requires { IsLiveConcept self.old.resources target }
         ensures gained { IfOk result (λ k. set.len self.old.labels + k ≡ set.len self.new.labels) }
-        ensures ok { let taken = taken_labels source target self.old.labels in
+        ensures ok { let taken = copied_labels source target self.old.labels in
             OnOk result (self.new ≡ with_labels self.old (set.union self.old.labels taken)) }
         ensures err { OnErr result (self.new ≡ self.old) }
     {
@@ -140,11 +143,12 @@ impl Vocab {
         Ok(gained)
     }
 
-    /// Makes a live concept dead, replaced by another live concept of its scheme or by none.
+    /// Marks a live concept as dead; its replacement is another live concept of its scheme, or
+    /// none.
     pub fn mark_dead(&mut self, n: ResNo, replaced: Option<ResNo>)
         requires concept { IsLiveConcept self.old.resources n }
         requires replacement { IsReplacement self.old.resources n replaced }
-        ensures { self.new ≡ with_dead self.old n replaced }
+        ensures { self.new ≡ vocabulary_after_death self.old n replaced }
     {
         let place = n.get() as usize - 1;
         let resource = self.resources[place];
@@ -157,21 +161,25 @@ impl Vocab {
         };
     }
 
-    /// Tells whether the target takes the label of another in a merge: a name that it lacks.
-    pub fn takes(&self, target: ResNo, label: &Label) -> bool
-        ensures { result ≡ takes self.now.labels target label.now }
+    /// Checks whether the label is a name (preferred, alternative or hidden) that the target lacks.
+    pub fn lacks_name(&self, target: ResNo, label: &Label) -> bool
+        ensures { result ≡ lacks_name self.now.labels target label.now }
     {
-        label.kind() != LabelKind::Scope && !self.labels.has_name(target, &label.tag, label.text())
+        label.kind() != LabelKind::Scope
+            && !self
+                .labels
+                .has_lexical_label(target, &label.tag, label.text())
     }
 
-    // Makes a resource with a preferred label that no live concept of its scheme has.
+    // Adds a resource with a preferred label that no live concept of its scheme has.
     fn add_named(&mut self, resource: Resource, tag: Tag, text: Text) -> Result<ResNo, AllocError>
-        requires named { IsNamed self.old.resources resource }
-        requires free { IsFree self.old.resources self.old.labels resource tag text }
+        requires named { IsNewOwner self.old.resources resource }
+        requires free { IsFreeName self.old.resources self.old.labels resource tag text }
         requires room { length self.old.resources + 1 < 2 ^ 32 }
         ensures number { IfOk result (λ n. n ≡ length self.old.resources + 1) }
         ensures ok { OnOk result (self.new ≡
-            vocabulary_of self.old.base (made resource tag text (bare_state self.old))) }
+            vocabulary_of self.old.base
+            (state_after_creation resource tag text (bare_state self.old))) }
         ensures err { OnErr result (self.new ≡ self.old) }
     {
         let n = ResNo::new(self.resources.len() as u32 + 1);
@@ -186,14 +194,14 @@ impl Vocab {
         Ok(n)
     }
 
-    // Makes an outside concept with an IRI that no other has.
+    // Adds an outside concept with an IRI that no other has.
     fn add_outside(&mut self, iri: Iri) -> Result<ResNo, AllocError>
         requires foreign { BeginsWith iri self.old.base → ⊥ }
         requires free { (n : ℕ) → dict.get self.old.iris n ≢ Some iri }
         requires room { length self.old.resources + 1 < 2 ^ 32 }
         ensures number { IfOk result (λ n. n ≡ length self.old.resources + 1) }
         ensures ok { OnOk result (self.new ≡
-            vocabulary_of self.old.base (outside_made iri (bare_state self.old))) }
+            vocabulary_of self.old.base (state_after_outside iri (bare_state self.old))) }
         ensures err { OnErr result (self.new ≡ self.old) }
     {
         let n = ResNo::new(self.resources.len() as u32 + 1);

@@ -1,9 +1,9 @@
-// The live concepts of each scheme, by their numbers.
+// The index of live concepts by scheme.
 ghost use Rattle.std.specs.Prelude.{OnOk};
 ghost use Rattle.std.specs.Ordering.{nat_cmp};
-ghost use Rattle.thes_lists.specs.Lists.{AreSame, AllRise};
+ghost use Rattle.thes_lists.specs.Lists.{HaveSameValues, AreAllRising};
 ghost use Rattle.thes_vocab.specs.Vocabulary.{concept_scheme};
-ghost use Rattle.thes_vocab.specs.Listed.{HasRoomIn, IsAdded, IsRemoved};
+ghost use Rattle.thes_vocab.specs.ConceptLists.{HasRoomIn, ConceptListsAfterInsert, ConceptListsAfterRemove};
 
 use crate::vocab::scheme_if_concept;
 use std::alloc::AllocError;
@@ -11,9 +11,9 @@ use thes_base::data::Resource;
 use thes_base::number::ResNo;
 use thes_lists::Lists;
 
-// Makes room for the resource, if it is a live concept.
+// Reserves memory for the resource in its scheme's list, if it is a live concept.
 pub(crate) fn make_room(concepts: &mut Lists<ResNo>, resource: &Resource) -> Result<(), AllocError>
-    ensures same { AreSame concepts.old concepts.new }
+    ensures same { HaveSameValues concepts.old concepts.new }
     ensures room { OnOk result (HasRoomIn concepts.new (concept_scheme resource.now)) }
 {
     match scheme_if_concept(resource) {
@@ -22,11 +22,11 @@ pub(crate) fn make_room(concepts: &mut Lists<ResNo>, resource: &Resource) -> Res
     }
 }
 
-// Adds the resource with this number to its scheme, if it is a live concept.
+// Adds the resource to its scheme's list, if it is a live concept.
 pub(crate) fn insert(concepts: &mut Lists<ResNo>, resource: &Resource, n: ResNo)
     requires room { HasRoomIn concepts.old (concept_scheme resource.now) }
-    requires rise { AllRise nat_cmp concepts.old }
-    ensures { IsAdded concepts.old concepts.new (concept_scheme resource.now) n }
+    requires rise { AreAllRising nat_cmp concepts.old }
+    ensures { ConceptListsAfterInsert concepts.old concepts.new (concept_scheme resource.now) n }
 {
     match scheme_if_concept(resource) {
         Some(scheme) => concepts.insert(scheme, n),
@@ -34,10 +34,10 @@ pub(crate) fn insert(concepts: &mut Lists<ResNo>, resource: &Resource, n: ResNo)
     }
 }
 
-// Removes a concept from its scheme, if it has one.
+// Removes a concept from its scheme's list, if it has a scheme.
 pub(crate) fn remove(concepts: &mut Lists<ResNo>, scheme: Option<ResNo>, n: ResNo)
-    requires { AllRise nat_cmp concepts.old }
-    ensures { IsRemoved concepts.old concepts.new scheme n }
+    requires { AreAllRising nat_cmp concepts.old }
+    ensures { ConceptListsAfterRemove concepts.old concepts.new scheme n }
 {
     match scheme {
         Some(scheme) => concepts.remove(scheme, &n),

@@ -1,25 +1,25 @@
-//! Where the replacements of a concept lead.
+//! Chains of replacements of concepts.
 ghost use Rattle.std.specs.Prelude.{◌≡◌, length, IfOk};
 ghost use Rattle.thes_base.specs.Resources.{replacement_of, replacements};
-ghost use Rattle.thes_base.specs.Postings.{end_of};
+ghost use Rattle.thes_base.specs.Postings.{path_end};
 
 use crate::vocab::Vocab;
 use std::alloc::{AllocError, Global};
 use thes_base::number::ResNo;
 
-/// Where the replacements of a concept lead.
+/// The end of a concept's chain of replacements.
 #[derive(Clone, Copy)]
 pub struct Forwarding {
-    /// The last of them, or the concept itself where it has none.
+    /// The last replacement, or the concept itself if it has none.
     pub place: ResNo,
-    /// The number of replacements on the way.
+    /// The number of replacements in the chain.
     pub steps: u64,
 }
 
 impl Vocab {
-    /// Finds where the replacements of a concept lead.
+    /// Follows the replacements of a concept to the end of the chain.
     pub fn forwarding(&self, concept: ResNo) -> Forwarding
-        ensures place { result.place ≡ end_of concept (replacements self.now.resources concept) }
+        ensures place { result.place ≡ path_end concept (replacements self.now.resources concept) }
         ensures steps { result.steps ≡ length (replacements self.now.resources concept) }
     {
         let count = self.resource_count();
@@ -36,7 +36,8 @@ impl Vocab {
         }
     }
 
-    /// Lists the replacements of a concept: its replacement, the replacement of that, and so on.
+    /// Returns the chain of replacements of a concept: its replacement, the replacement of that,
+    /// and so on.
     pub fn replacements(&self, alloc: Global, concept: ResNo) -> Result<Vec<ResNo>, AllocError>
         ensures { IfOk result (λ way. way.items ≡ replacements self.now.resources concept) }
     {
@@ -54,7 +55,7 @@ impl Vocab {
         Ok(way)
     }
 
-    // The replacement of a resource.
+    // Returns the replacement of a resource.
     fn replacement(&self, n: ResNo) -> Option<ResNo>
         ensures { result ≡ replacement_of self.now.resources n }
     {

@@ -1,4 +1,4 @@
-// The IRIs of outside concepts.
+// The IRIs of outside concepts, indexed in both directions.
 ghost use Rattle.std.specs.Prelude.{◌≡◌, ◌≢◌, ℕ, OnOk, OnErr, None, Some, MatchOption, option_copied};
 ghost use Rattle.std.specs.FinMap as dict;
 
@@ -8,7 +8,7 @@ use std::marker::Model;
 use thes_base::number::ResNo;
 use thes_base::text::Iri;
 
-// The IRI of each outside concept by its number, and the number by its IRI. No two have one IRI.
+// A one-to-one map between the numbers of outside concepts and their IRIs.
 #[derive(Drop)]
 pub(crate) struct IriTable {
     alloc: Global,
@@ -25,7 +25,7 @@ impl Model for IriTable {
 
     ghost coded = { Prim.hlevel (codes, dict.code) };
 
-    ghost use Rattle.thes_vocab.specs.Numbered.{iris_in, AreInverse};
+    ghost use Rattle.thes_vocab.specs.IriIndex.{iris_in, AreInverse};
 
     ghost view = { λ a. iris_in a.iris.entries };
 
@@ -33,7 +33,7 @@ impl Model for IriTable {
 }
 
 impl IriTable {
-    // No IRIs.
+    // Creates an empty table.
     pub(crate) fn new(alloc: Global) -> IriTable
         ensures { result ≡ dict.empty }
     {
@@ -44,14 +44,14 @@ impl IriTable {
         }
     }
 
-    // The IRI with this number.
+    // Returns the IRI of an outside concept.
     pub(crate) fn iri(&self, n: ResNo) -> Option<&Iri>
         ensures { option_copied result ≡ dict.get self.now n }
     {
         self.iris.get(&n)
     }
 
-    // The number of the IRI.
+    // Returns the number of the outside concept with this IRI.
     pub(crate) fn number(&self, iri: &Iri) -> Option<ResNo>
         ensures { MatchOption result ((n : ℕ) → dict.get self.now n ≢ Some iri.now)
             (λ n. dict.get self.now n ≡ Some iri.now) }
@@ -59,7 +59,7 @@ impl IriTable {
         self.numbers.get(iri).copied()
     }
 
-    // Gives a new number an IRI that no other has. An `Err` changes nothing.
+    // Inserts an IRI under a number; both must be new. An `Err` changes nothing.
     pub(crate) fn insert(&mut self, n: ResNo, iri: Iri) -> Result<(), AllocError>
         requires number { dict.get self.old n ≡ None }
         requires iri { (m : ℕ) → dict.get self.old m ≢ Some iri }

@@ -2,17 +2,17 @@
 ghost use Rattle.std.specs.Prelude.{◌≡◌, ◌≢◌, ◌↔◌, ◌+◌, false, IsTrue, ℕ, List, IfOk, OnOk, OnErr, not, MatchOption};
 ghost use Rattle.std.specs.FinSet as set;
 ghost use Rattle.thes_base.specs.declared.data.LabelKind.TheVariants.{Pref, Alt};
-ghost use Rattle.thes_base.specs.Data.{kind_of, text_of};
-ghost use Rattle.thes_base.specs.Changes.{label, has_name, renamed, taken_labels};
+ghost use Rattle.thes_base.specs.Data.{label_value_kind, label_value_text};
+ghost use Rattle.thes_base.specs.Changes.{label, has_lexical_label, replace_preferred, copied_labels};
 ghost use Rattle.thes_base.specs.Labels.{HasLabel};
-ghost use Rattle.thes_base.specs.Machine.{owned};
-ghost use Rattle.thes_vocab.specs.Rivals.{HasTwoPreferred, Clashes};
-ghost use Rattle.thes_vocab.specs.LabelData.{own_label, has_own, AreLabelsOf};
-ghost use Rattle.thes_vocab.specs.LabelRows.{Owns, OwnsNone, owner_row, IsLabelPut, IsLabelDropped, IsMerged, AreSameRows};
+ghost use Rattle.thes_base.specs.Machine.{owned_label};
+ghost use Rattle.thes_vocab.specs.Rivals.{HasTwoPreferred, HasClash};
+ghost use Rattle.thes_vocab.specs.OwnLabels.{own_label, has_own, AreLabelsOf};
+ghost use Rattle.thes_vocab.specs.LabelRows.{IsRowOfOwner, HasNoLabels, owner_row, RowsAfterInsert, RowsAfterRemove, IsMergedRow, AreSameLabelRows};
 ghost use Rattle.std.specs.Ordering.{nat_cmp};
 ghost use Rattle.std.specs.BTreeMap.{IsOrdered};
 
-use crate::row::{Row, merged};
+use crate::row::{OwnerRow, merge_rows};
 use std::alloc::{AllocError, Global};
 use std::collections::BTreeMap;
 use std::marker::Model;
@@ -20,11 +20,11 @@ use thes_base::data::{Label, LabelKind, LabelValue};
 use thes_base::number::ResNo;
 use thes_base::text::{Tag, Text};
 
-// A set of labels, kept as a row for each owner.
+// A set of labels, stored by owner.
 #[derive(Drop)]
 pub(crate) struct LabelTable {
     alloc: Global,
-    rows: BTreeMap<ResNo, Row>,
+    rows: BTreeMap<ResNo, OwnerRow>,
     count: u64,
 }
 
@@ -37,15 +37,15 @@ impl Model for LabelTable {
 
     ghost coded = { Prim.hlevel (codes, set.code) };
 
-    ghost use Rattle.thes_vocab.specs.LabelRows.{labels_in, AreRows};
+    ghost use Rattle.thes_vocab.specs.LabelRows.{labels_in, AreLabelRows};
 
     ghost view = { λ a. labels_in a.rows.entries };
 
-    ghost invariant = { λ a. AreRows a.rows a.count };
+    ghost invariant = { λ a. AreLabelRows a.rows a.count };
 }
 
 impl LabelTable {
-    // No labels.
+    // Creates an empty table.
     pub(crate) fn new(alloc: Global) -> LabelTable
         ensures { result ≡ set.empty }
     {
@@ -56,22 +56,22 @@ impl LabelTable {
         }
     }
 
-    // How many labels there are.
+    // Returns the number of labels.
     pub(crate) fn len(&self) -> u64
         ensures { result ≡ set.len self.now }
     {
         self.count
     }
 
-    // The owner's row, if there is one.
-    fn row(&self, owner: ResNo) -> Option<&Row>
-        ensures { MatchOption result (OwnsNone self.now owner)
-            (λ row. Owns self.now owner row.now) }
+    // Returns the owner's row, if there is one.
+    fn row(&self, owner: ResNo) -> Option<&OwnerRow>
+        ensures { MatchOption result (HasNoLabels self.now owner)
+            (λ row. IsRowOfOwner self.now owner row.now) }
     {
         self.rows.get(&owner)
     }
 
-    // The owner's labels, in their order.
+    // Returns the owner's labels, sorted by kind, language and text.
     pub(crate) fn of_owner(&self, owner: ResNo) -> &[Label]
         ensures { AreLabelsOf self.now owner result.now }
     {
@@ -90,17 +90,18 @@ impl LabelTable {
         }
     }
 
-    // Whether the owner has the text in the language as a preferred, an alternative or a hidden label.
-    pub(crate) fn has_name(&self, owner: ResNo, tag: &Tag, text: &str) -> bool
-        ensures { result ≡ has_name self.now owner tag.now text.now }
+    // Checks whether the owner has the text in the language as a preferred, alternative or hidden
+    // label.
+    pub(crate) fn has_lexical_label(&self, owner: ResNo, tag: &Tag, text: &str) -> bool
+        ensures { result ≡ has_lexical_label self.now owner tag.now text.now }
     {
         match self.row(owner) {
-            Some(row) => row.has_name(tag, text),
+            Some(row) => row.has_lexical_label(tag, text),
             None => false,
         }
     }
 
-    // The owner's preferred label in the language, or one of them.
+    // Returns a preferred label of the owner in the language.
     pub(crate) fn preferred(&self, owner: ResNo, tag: &Tag) -> Option<&Text>
         ensures { MatchOption result
             ((text : List ℕ) → HasLabel self.now owner Pref tag.now text → ⊥)
@@ -112,8 +113,9 @@ impl LabelTable {
         }
     }
 
-    // Whether a text would stand under two kinds in place of the old preferred label.
-    pub(crate) fn clashes(
+    // Checks whether the text, as the new preferred label, would repeat an alternative or hidden
+    // label, or the old preferred label if that is to be kept.
+    pub(crate) fn has_clash(
         &self,
         owner: ResNo,
         tag: &Tag,
@@ -121,14 +123,14 @@ impl LabelTable {
         text: &Text,
         keep: bool,
     ) -> bool
-        ensures { IsTrue result ↔ Clashes self.now owner tag.now text.now old.now keep }
+        ensures { IsTrue result ↔ HasClash self.now owner tag.now text.now old.now keep }
     {
         self.contains(owner, LabelKind::Alt, tag, text.as_str())
             || self.contains(owner, LabelKind::Hidden, tag, text.as_str())
             || keep && old == text
     }
 
-    // Whether the owner has two preferred labels.
+    // Checks whether the owner has two preferred labels.
     pub(crate) fn has_two_preferred(&self, owner: ResNo) -> bool
         ensures { IsTrue result ↔ HasTwoPreferred self.now owner }
     {
@@ -138,9 +140,9 @@ impl LabelTable {
         }
     }
 
-    // Adds a label. An `Err` changes nothing.
+    // Inserts a label. An `Err` changes nothing.
     pub(crate) fn insert(&mut self, owner: ResNo, label: Label) -> Result<(), AllocError>
-        ensures ok { OnOk result (self.new ≡ set.insert self.old (owned owner label)) }
+        ensures ok { OnOk result (self.new ≡ set.insert self.old (owned_label owner label)) }
         ensures err { OnErr result (self.new ≡ self.old) }
     {
         let count = self.count.checked_add(1).ok_or(AllocError)?;
@@ -150,7 +152,7 @@ impl LabelTable {
         Ok(())
     }
 
-    // Takes a label out.
+    // Removes a label.
     pub(crate) fn remove(&mut self, owner: ResNo, kind: LabelKind, tag: &Tag, text: &str)
         ensures { self.new ≡ set.remove self.old (label owner kind tag.now text.now) }
     {
@@ -159,8 +161,8 @@ impl LabelTable {
         }
     }
 
-    // Gives the owner another preferred label in the language, and keeps the old one as an alternative label if asked
-    // to. An `Err` changes nothing.
+    // Replaces a preferred label, and keeps the old one as an alternative label if `keep` is true.
+    // An `Err` changes nothing.
     pub(crate) fn rename(
         &mut self,
         owner: ResNo,
@@ -171,7 +173,8 @@ impl LabelTable {
     ) -> Result<(), AllocError>
         requires apart { old.now ≢ text.now }
         requires new { set.contains self.old (label owner Pref tag.now text.now) ≡ false }
-        ensures ok { OnOk result (self.new ≡ renamed owner tag.now text.now keep old.now self.old) }
+        ensures ok { OnOk result (self.new
+            ≡ replace_preferred owner tag.now text.now keep old.now self.old) }
         ensures err { OnErr result (self.new ≡ self.old) }
     {
         let value = LabelValue::Pref(text.try_clone(self.alloc)?);
@@ -197,24 +200,26 @@ impl LabelTable {
 
     fn insert_value(&mut self, owner: ResNo, tag: &Tag, value: LabelValue) -> Result<(), AllocError>
         ensures ok { OnOk result (self.new ≡
-            set.insert self.old (label owner (kind_of value) tag.now (text_of value))) }
+            set.insert self.old
+            (label owner (label_value_kind value) tag.now (label_value_text value))) }
         ensures err { OnErr result (self.new ≡ self.old) }
     {
         let tag = tag.try_clone(self.alloc)?;
         self.insert(owner, Label { tag, value })
     }
 
-    // Gives the target the names of the source that it lacks: so many. An `Err` changes nothing.
+    // Copies the missing names of the source to the target; `gained` is their number. An `Err`
+    // changes nothing.
     pub(crate) fn take_names(
         &mut self,
         source: ResNo,
         target: ResNo,
         gained: u64,
     ) -> Result<(), AllocError>
-        requires { let taken = taken_labels source target self.old in
+        requires { let taken = copied_labels source target self.old in
             set.len self.old + gained ≡ set.len (set.union self.old taken) }
         ensures ok { OnOk result (self.new ≡
-            set.union self.old (taken_labels source target self.old)) }
+            set.union self.old (copied_labels source target self.old)) }
         ensures err { OnErr result (self.new ≡ self.old) }
     {
         let count = self.count.checked_add(gained).ok_or(AllocError)?;
@@ -225,37 +230,37 @@ impl LabelTable {
     }
 }
 
-// Adds a label to its owner's row, and answers whether it is new. An `Err` changes no row.
+// Inserts a label into its owner's row, and returns whether it is new. An `Err` changes no row.
 fn put(
-    rows: &mut BTreeMap<ResNo, Row>,
+    rows: &mut BTreeMap<ResNo, OwnerRow>,
     alloc: Global,
     owner: ResNo,
     label: Label,
 ) -> Result<bool, AllocError>
     ensures added { IfOk result (λ added. added ≡ not (has_own (owner_row rows.old owner) label)) }
-    ensures ok { OnOk result (IsLabelPut rows.old rows.new owner label) }
-    ensures err { OnErr result (AreSameRows rows.old rows.new) }
+    ensures ok { OnOk result (RowsAfterInsert rows.old rows.new owner label) }
+    ensures err { OnErr result (AreSameLabelRows rows.old rows.new) }
     ensures ordered { IsOrdered nat_cmp rows.new }
 {
     if let Some(row) = rows.get_mut(&owner) {
         return row.insert(label);
     }
-    let mut row = Row::new(alloc);
+    let mut row = OwnerRow::new(alloc);
     row.insert(label)?;
     rows.insert(owner, row)?;
     Ok(true)
 }
 
-// Takes a label out of its owner's row, and answers whether it was there.
+// Removes a label from its owner's row, and returns whether it was there.
 fn take(
-    rows: &mut BTreeMap<ResNo, Row>,
+    rows: &mut BTreeMap<ResNo, OwnerRow>,
     owner: ResNo,
     kind: LabelKind,
     tag: &Tag,
     text: &str,
 ) -> bool
     ensures taken { result ≡ has_own (owner_row rows.old owner) (own_label kind tag.now text.now) }
-    ensures after { IsLabelDropped rows.old rows.new owner (own_label kind tag.now text.now) }
+    ensures after { RowsAfterRemove rows.old rows.new owner (own_label kind tag.now text.now) }
     ensures ordered { IsOrdered nat_cmp rows.new }
 {
     match rows.get_mut(&owner) {
@@ -264,17 +269,17 @@ fn take(
     }
 }
 
-// The target's row with the names that it takes from the source.
+// Returns the target's row with the missing names of the source.
 fn merged_row(
-    rows: &BTreeMap<ResNo, Row>,
+    rows: &BTreeMap<ResNo, OwnerRow>,
     alloc: Global,
     source: ResNo,
     target: ResNo,
-) -> Result<Row, AllocError>
-    ensures { IfOk result (IsMerged rows.now source target) }
+) -> Result<OwnerRow, AllocError>
+    ensures { IfOk result (IsMergedRow rows.now source target) }
 {
-    let none = Row::new(alloc);
+    let none = OwnerRow::new(alloc);
     let from = rows.get(&source).unwrap_or(&none);
     let to = rows.get(&target).unwrap_or(&none);
-    merged(alloc, from, to)
+    merge_rows(alloc, from, to)
 }

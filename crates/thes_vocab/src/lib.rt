@@ -1,11 +1,12 @@
-//! Resources and labels: who has which name, in which language, and whether a new one may be given.
+//! Resources and labels: which resource has which name in which language, and whether a new name is
+//! allowed.
 #![tactic(auto)]
 
 mod changing;
+mod checking;
 mod concepts;
 mod forwarding;
 mod iris;
-mod judging;
 mod labels;
 mod load;
 mod names;

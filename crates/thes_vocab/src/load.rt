@@ -1,15 +1,15 @@
-//! A vocabulary that is taken from rows, one by one.
+//! Loads a vocabulary row by row.
 ghost use Rattle.std.specs.Prelude.{◌≡◌, ◌<◌, ◌^◌, ◌↔◌, ℕ, List, [], IsTrue, IfOk, OnOk, true, MatchOption, length};
 ghost use Rattle.std.specs.Ordering.{nat_cmp};
 ghost use Rattle.thes_base.specs.declared.data.LabelKind.TheVariants.{Pref};
 ghost use Rattle.thes_base.specs.Resources.{CanOwn, IsOutside};
-ghost use Rattle.thes_base.specs.Labels.{HasLabel, HasPreferred, EachHasPreferred, UniquePreferred, IsTaken, is_name};
-ghost use Rattle.thes_base.specs.Changes.{has_name};
-ghost use Rattle.thes_base.specs.Machine.{owned};
+ghost use Rattle.thes_base.specs.Labels.{HasLabel, HasPreferred, EachHasPreferred, UniquePreferred, IsPreferredTaken, is_lexical_kind};
+ghost use Rattle.thes_base.specs.Changes.{has_lexical_label};
+ghost use Rattle.thes_base.specs.Machine.{owned_label};
 ghost use Rattle.thes_lists.specs.Lists.{listed_at, AreListings};
 ghost use Rattle.thes_vocab.specs.Vocabulary.{IsConceptOf, IsHolder};
 ghost use Rattle.thes_vocab.specs.Rivals.{HasRival};
-ghost use Rattle.thes_vocab.specs.Loading.{AreSound, AreIrisSoFar, AreLabelsSoFar, AreFound, HasIri, HaveIris, IsFreeIri, TakesIri, TakesLabel, IsFreeLabel, bare_vocabulary};
+ghost use Rattle.thes_vocab.specs.Loading.{AreSound, AreIrisSoFar, AreLabelsSoFar, AreHoldersIndexed, HasIri, HaveIris, IsFreeIri, LoadIriResult, LoadLabelResult, IsFreeLabel, bare_vocabulary};
 
 use crate::concepts;
 use crate::iris::IriTable;
@@ -23,7 +23,7 @@ use thes_base::number::ResNo;
 use thes_base::text::{Base, Iri, Tag, Text};
 use thes_lists::Lists;
 
-/// A vocabulary in the making: its resources stand, and IRIs and labels come one by one.
+/// A vocabulary that is being loaded: it has all resources, and gets IRIs and labels one by one.
 #[derive(Drop)]
 pub struct VocabLoad {
     alloc: Global,
@@ -46,13 +46,19 @@ impl Model for VocabLoad {
 
     ghost coded = { Prim.hlevel (codes, set.code, dict.code) };
 
-    ghost view = { λ a. record { base = a.base; resources = a.resources.items; iris = a.iris; labels = a.labels } };
+    ghost view = { λ a. record {
+      base = a.base;
+      resources = a.resources.items;
+      iris = a.iris;
+      labels = a.labels;
+    } };
 
-    ghost invariant = { λ a. IsLoading a.base a.resources.items a.iris a.labels a.names a.concepts };
+    ghost invariant = { λ a.
+        IsLoading a.base a.resources.items a.iris a.labels a.names a.concepts };
 }
 
 impl VocabLoad {
-    /// Starts with all resources, and no IRI and no label.
+    /// Creates a vocabulary with all resources, without IRIs and labels.
     pub fn new(alloc: Global, base: Base, resources: Vec<Resource>) -> Result<VocabLoad, AllocError>
         requires { AreSound resources.items }
         ensures { IfOk result (λ load. load ≡ bare_vocabulary base resources.items) }
@@ -78,9 +84,9 @@ impl VocabLoad {
         self.resources.as_slice()
     }
 
-    /// Takes the IRI of an outside concept, or answers false if it can't be its IRI.
+    /// Adds the IRI of an outside concept, or returns false if the IRI isn't allowed.
     pub fn take_iri(&mut self, n: ResNo, iri: Iri) -> Result<bool, AllocError>
-        ensures { IfOk result (TakesIri self.old self.new n iri) }
+        ensures { IfOk result (LoadIriResult self.old self.new n iri) }
     {
         if is_free_iri(&self.base, self.resources.as_slice(), &self.iris, n, &iri) {
             self.iris.insert(n, iri)?;
@@ -97,7 +103,7 @@ impl VocabLoad {
         have_iris(self.resources.as_slice(), &self.iris)
     }
 
-    /// Says what holds already.
+    /// No effect; states what holds of the rows loaded so far for the proof.
     pub fn so_far(&self)
         ensures sound { AreSound self.now.resources }
         ensures iris { AreIrisSoFar self.now.base self.now.resources self.now.iris }
@@ -106,9 +112,9 @@ impl VocabLoad {
         let _ = &self.alloc;
     }
 
-    /// Takes a label, or answers false if its owner can't have it.
+    /// Adds a label, or returns false if its owner can't have it.
     pub fn take_label(&mut self, owner: ResNo, label: Label) -> Result<bool, AllocError>
-        ensures { IfOk result (TakesLabel self.old self.new (owned owner label)) }
+        ensures { IfOk result (LoadLabelResult self.old self.new (owned_label owner label)) }
     {
         if is_free_label(
             self.resources.as_slice(),
@@ -126,7 +132,7 @@ impl VocabLoad {
         }
     }
 
-    /// Answers the vocabulary if each scheme, concept and collection has a preferred label.
+    /// Returns the vocabulary, if each scheme, concept and collection has a preferred label.
     pub fn close(self) -> Option<Vocab>
         requires { HaveIris self }
         ensures { MatchOption result (EachHasPreferred self.resources self.labels → ⊥)
@@ -149,7 +155,7 @@ impl VocabLoad {
 }
 
 impl Vocab {
-    /// Returns the resources.
+    /// Returns the resources; number `n` is at index `n - 1`.
     pub fn resources(&self) -> &[Resource]
         ensures value { result.now ≡ self.now.resources }
         ensures few { length result.now < 2 ^ 32 }
@@ -158,7 +164,7 @@ impl Vocab {
     }
 }
 
-// Lists the live concepts of each scheme.
+// Adds each live concept to the list of its scheme.
 fn list_all(concepts: &mut Lists<ResNo>, resources: &[Resource]) -> Result<(), AllocError>
     requires few { AreSound resources.now }
     requires none { (n : ℕ) → listed_at concepts.old n ≡ [] }
@@ -189,7 +195,7 @@ fn can_own(resources: &[Resource], n: ResNo) -> bool
     }
 }
 
-// Whether the outside concept may have the IRI.
+// Checks whether the outside concept may have the IRI.
 fn is_free_iri(base: &Base, resources: &[Resource], iris: &IriTable, n: ResNo, iri: &Iri) -> bool
     ensures { IsTrue result ↔ IsFreeIri base.now resources.now iris.now n iri.now }
 {
@@ -205,7 +211,7 @@ fn is_free_iri(base: &Base, resources: &[Resource], iris: &IriTable, n: ResNo, i
     }
 }
 
-// Whether each outside concept has an IRI.
+// Checks whether each outside concept has an IRI.
 fn have_iris(resources: &[Resource], iris: &IriTable) -> bool
     requires { AreSound resources.now }
     ensures { IsTrue result ↔ ((n : ℕ) → IsOutside resources.now n → HasIri iris.now n) }
@@ -222,7 +228,7 @@ fn have_iris(resources: &[Resource], iris: &IriTable) -> bool
     true
 }
 
-// Whether the owner may have the label.
+// Checks whether the owner may have the label.
 fn is_free_label(
     resources: &[Resource],
     labels: &LabelTable,
@@ -230,9 +236,9 @@ fn is_free_label(
     owner: ResNo,
     label: &Label,
 ) -> bool
-    requires found { AreFound resources.now labels.now names.now }
+    requires found { AreHoldersIndexed resources.now labels.now names.now }
     requires unique { UniquePreferred resources.now labels.now }
-    ensures { IsTrue result ↔ IsFreeLabel resources.now labels.now (owned owner label.now) }
+    ensures { IsTrue result ↔ IsFreeLabel resources.now labels.now (owned_label owner label.now) }
 {
     if !can_own(resources, owner) {
         return false;
@@ -249,15 +255,16 @@ fn is_free_label(
     !repeats_holder(resources, labels, names, owner, label)
 }
 
-// Whether the owner has the text in the language under one of three kinds, and the label is of one of them.
+// Checks whether the label is a name (preferred, alternative or hidden) that its owner already has
+// under one of these kinds.
 fn repeats_name(labels: &LabelTable, owner: ResNo, label: &Label) -> bool
-    ensures { IsTrue result ↔ ((is_name label.now.kind ≡ true)
-        × (has_name labels.now owner label.now.tag label.now.text ≡ true)) }
+    ensures { IsTrue result ↔ ((is_lexical_kind label.now.kind ≡ true)
+        × (has_lexical_label labels.now owner label.now.tag label.now.text ≡ true)) }
 {
-    label.kind() != LabelKind::Scope && labels.has_name(owner, &label.tag, label.text())
+    label.kind() != LabelKind::Scope && labels.has_lexical_label(owner, &label.tag, label.text())
 }
 
-// Whether the owner has a preferred label in the language, and the label is one.
+// Checks whether the label would be a second preferred label of its owner in the language.
 fn repeats_preferred(labels: &LabelTable, owner: ResNo, label: &Label) -> bool
     ensures { IsTrue result ↔ ((label.now.kind ≡ Pref)
         × ((text : List ℕ) × HasLabel labels.now owner Pref label.now.tag text)) }
@@ -265,7 +272,7 @@ fn repeats_preferred(labels: &LabelTable, owner: ResNo, label: &Label) -> bool
     label.kind() == LabelKind::Pref && labels.preferred(owner, &label.tag).is_some()
 }
 
-// Whether another live concept of the owner's scheme has the preferred label that the label is.
+// Checks whether the label is a preferred one that another live concept of its owner's scheme has.
 fn repeats_holder(
     resources: &[Resource],
     labels: &LabelTable,
@@ -273,7 +280,7 @@ fn repeats_holder(
     owner: ResNo,
     label: &Label,
 ) -> bool
-    requires found { AreFound resources.now labels.now names.now }
+    requires found { AreHoldersIndexed resources.now labels.now names.now }
     requires unique { UniquePreferred resources.now labels.now }
     ensures { IsTrue result ↔ ((label.now.kind ≡ Pref)
         × HasRival resources.now labels.now owner label.now.tag label.now.text) }
@@ -284,7 +291,7 @@ fn repeats_holder(
     }
 }
 
-// Whether the owner is a live concept, and another one of its scheme has the preferred label.
+// Checks whether the owner is a live concept and another one of its scheme has the preferred label.
 fn has_rival(
     resources: &[Resource],
     labels: &LabelTable,
@@ -293,7 +300,7 @@ fn has_rival(
     tag: &Tag,
     text: &Text,
 ) -> bool
-    requires found { AreFound resources.now labels.now names.now }
+    requires found { AreHoldersIndexed resources.now labels.now names.now }
     requires unique { UniquePreferred resources.now labels.now }
     ensures { IsTrue result ↔ HasRival resources.now labels.now owner tag.now text.now }
 {
@@ -306,7 +313,7 @@ fn has_rival(
     }
 }
 
-// The live concept of the scheme that has this preferred label.
+// Returns the live concept of the scheme that has this preferred label.
 fn holder(
     resources: &[Resource],
     labels: &LabelTable,
@@ -315,9 +322,9 @@ fn holder(
     tag: &Tag,
     text: &Text,
 ) -> Option<ResNo>
-    requires { AreFound resources.now labels.now names.now }
+    requires { AreHoldersIndexed resources.now labels.now names.now }
     ensures { MatchOption result
-        (¬ IsTaken resources.now labels.now scheme tag.now text.now)
+        (¬ IsPreferredTaken resources.now labels.now scheme tag.now text.now)
         (IsHolder resources.now labels.now scheme tag.now text.now) }
 {
     let n = names.holder(scheme, tag, text)?;
@@ -327,7 +334,7 @@ fn holder(
     None
 }
 
-// Whether a live concept of the scheme with this number has the preferred label.
+// Checks whether the number is a live concept of the scheme that has the preferred label.
 fn is_held(
     resources: &[Resource],
     labels: &LabelTable,
@@ -342,7 +349,7 @@ fn is_held(
         && labels.contains(n, LabelKind::Pref, tag, text.as_str())
 }
 
-// Whether each scheme, concept and collection has a preferred label.
+// Checks whether each scheme, concept and collection has a preferred label.
 fn are_named(resources: &[Resource], labels: &LabelTable) -> bool
     requires { AreSound resources.now }
     ensures { IsTrue result ↔ EachHasPreferred resources.now labels.now }
@@ -358,7 +365,7 @@ fn are_named(resources: &[Resource], labels: &LabelTable) -> bool
     true
 }
 
-// Whether the owner has a preferred label.
+// Checks whether the owner has a preferred label.
 fn has_preferred(labels: &LabelTable, owner: ResNo) -> bool
     ensures { IsTrue result ↔ HasPreferred labels.now owner }
 {

@@ -1,6 +1,6 @@
-// Where the holder of a preferred label is found.
+// The index of preferred labels by scheme, language and text.
 ghost use Rattle.std.specs.Prelude.{◌≡◌, ℕ, List, OnOk, OnErr, None, Some};
-ghost use Rattle.thes_vocab.specs.Named.{holder_in, IsNoted, IsLabelNoted, IsPut, AreSameNames, IsTagPut, AreSameTags};
+ghost use Rattle.thes_vocab.specs.NameIndex.{holder_in, IsSchemeNameUpdate, IsLabelNameUpdate, IsNameUpdate, AreSameNames, IsTagIndexUpdate, AreSameTags};
 
 use std::alloc::{AllocError, Global};
 use std::collections::BTreeMap;
@@ -8,20 +8,20 @@ use thes_base::data::{Label, LabelValue};
 use thes_base::number::ResNo;
 use thes_base::text::{Tag, Text};
 
-type ByText = BTreeMap<Text, ResNo>;
+type TextIndex = BTreeMap<Text, ResNo>;
 
-type ByTag = BTreeMap<Tag, ByText>;
+type TagIndex = BTreeMap<Tag, TextIndex>;
 
-// For each scheme, language and text the concept that was last given that preferred label. It may be dead by now, or
-// have lost the label: who looks up a name has to see whether the concept still has it.
+// The concept that last got a preferred label, for each scheme, language and text. A look-up checks
+// that the concept is live and still has the label.
 #[derive(Drop)]
 pub(crate) struct Names {
     alloc: Global,
-    schemes: BTreeMap<ResNo, ByTag>,
+    schemes: BTreeMap<ResNo, TagIndex>,
 }
 
 impl Names {
-    // No names.
+    // Creates an empty index.
     pub(crate) fn new(alloc: Global) -> Names
         ensures { (scheme : ℕ) (tag text : List ℕ) → holder_in result scheme tag text ≡ None }
     {
@@ -31,21 +31,23 @@ impl Names {
         }
     }
 
-    // The concept that was last given the preferred label.
+    // Returns the concept that last got the preferred label.
     pub(crate) fn holder(&self, scheme: ResNo, tag: &Tag, text: &Text) -> Option<ResNo>
         ensures { result ≡ holder_in self.now scheme tag.now text.now }
     {
         self.schemes.get(&scheme)?.get(tag)?.get(text).copied()
     }
 
-    // Notes that the concept is given the label, if it is a preferred one and there is a scheme. An `Err` changes nothing.
+    // Records that the concept gets the label, if that is a preferred one and there is a scheme. An
+    // `Err` changes nothing.
     pub(crate) fn put_label(
         &mut self,
         scheme: Option<ResNo>,
         label: &Label,
         concept: ResNo,
     ) -> Result<(), AllocError>
-        ensures ok { OnOk result (IsLabelNoted self.old self.new scheme label.now (Some concept)) }
+        ensures ok { OnOk result
+            (IsLabelNameUpdate self.old self.new scheme label.now (Some concept)) }
         ensures err { OnErr result (AreSameNames self.old self.new) }
     {
         match &label.value {
@@ -54,7 +56,8 @@ impl Names {
         }
     }
 
-    // Notes that the concept is given the preferred label, if there is a scheme. An `Err` changes nothing.
+    // Records that the concept gets the preferred label, if there is a scheme. An `Err` changes
+    // nothing.
     pub(crate) fn put(
         &mut self,
         scheme: Option<ResNo>,
@@ -63,7 +66,7 @@ impl Names {
         concept: ResNo,
     ) -> Result<(), AllocError>
         ensures ok { OnOk result
-            (IsNoted self.old self.new scheme tag.now text.now (Some concept)) }
+            (IsSchemeNameUpdate self.old self.new scheme tag.now text.now (Some concept)) }
         ensures err { OnErr result (AreSameNames self.old self.new) }
     {
         match scheme {
@@ -72,9 +75,9 @@ impl Names {
         }
     }
 
-    // Forgets the label, if it is a preferred one and there is a scheme.
+    // Removes the entry of the label, if that is a preferred one and there is a scheme.
     pub(crate) fn forget_label(&mut self, scheme: Option<ResNo>, label: &Label)
-        ensures { IsLabelNoted self.old self.new scheme label.now None }
+        ensures { IsLabelNameUpdate self.old self.new scheme label.now None }
     {
         match &label.value {
             LabelValue::Pref(text) => self.forget(scheme, &label.tag, text),
@@ -82,9 +85,9 @@ impl Names {
         }
     }
 
-    // Forgets the preferred label, if there is a scheme.
+    // Removes the entry of the preferred label, if there is a scheme.
     pub(crate) fn forget(&mut self, scheme: Option<ResNo>, tag: &Tag, text: &Text)
-        ensures { IsNoted self.old self.new scheme tag.now text.now None }
+        ensures { IsSchemeNameUpdate self.old self.new scheme tag.now text.now None }
     {
         match scheme {
             Some(scheme) => self.forget_in(scheme, tag, text),
@@ -99,7 +102,8 @@ impl Names {
         text: &Text,
         concept: ResNo,
     ) -> Result<(), AllocError>
-        ensures ok { OnOk result (IsPut self.old self.new scheme tag.now text.now (Some concept)) }
+        ensures ok { OnOk result
+            (IsNameUpdate self.old self.new scheme tag.now text.now (Some concept)) }
         ensures err { OnErr result (AreSameNames self.old self.new) }
     {
         let tag = tag.try_clone(self.alloc)?;
@@ -114,7 +118,7 @@ impl Names {
     }
 
     fn forget_in(&mut self, scheme: ResNo, tag: &Tag, text: &Text)
-        ensures { IsPut self.old self.new scheme tag.now text.now None }
+        ensures { IsNameUpdate self.old self.new scheme tag.now text.now None }
     {
         if let Some(tags) = self.schemes.get_mut(&scheme) {
             forget_tag(tags, tag, text);
@@ -123,13 +127,13 @@ impl Names {
 }
 
 fn put_tag(
-    tags: &mut ByTag,
+    tags: &mut TagIndex,
     alloc: Global,
     tag: Tag,
     text: Text,
     concept: ResNo,
 ) -> Result<(), AllocError>
-    ensures ok { OnOk result (IsTagPut tags.old tags.new tag text (Some concept)) }
+    ensures ok { OnOk result (IsTagIndexUpdate tags.old tags.new tag text (Some concept)) }
     ensures err { OnErr result (AreSameTags tags.old tags.new) }
 {
     if let Some(texts) = tags.get_mut(&tag) {
@@ -142,8 +146,8 @@ fn put_tag(
     Ok(())
 }
 
-fn forget_tag(tags: &mut ByTag, tag: &Tag, text: &Text)
-    ensures { IsTagPut tags.old tags.new tag.now text.now None }
+fn forget_tag(tags: &mut TagIndex, tag: &Tag, text: &Text)
+    ensures { IsTagIndexUpdate tags.old tags.new tag.now text.now None }
 {
     if let Some(texts) = tags.get_mut(tag) {
         let _was = texts.remove(text);

@@ -3,9 +3,9 @@ ghost use Rattle.std.specs.Prelude.{◌≡◌, ◌↔◌, ◌&&◌, ◌||◌, Is
 ghost use Rattle.std.specs.List.Sorted.{IsStrictlySortedBy};
 ghost use Rattle.std.specs.Ordering.{eq_by_cmp};
 ghost use Rattle.thes_base.specs.Data.{LabelData};
-ghost use Rattle.thes_vocab.specs.Places.{IsLabelPlace, IsPreferredAt};
-ghost use Rattle.thes_vocab.specs.Taken.{has_own_name, takes_own, taken, gives};
-ghost use Rattle.thes_vocab.specs.LabelData.{data_cmp, language_cmp, own_label, has_own, HasPreferred, HasNoPreferred, HasTwo};
+ghost use Rattle.thes_vocab.specs.LabelPlaces.{IsLabelPlace, IsPreferredAt};
+ghost use Rattle.thes_vocab.specs.CopiedLabels.{has_own_name, lacks_own_name, merged_label, copies_label};
+ghost use Rattle.thes_vocab.specs.OwnLabels.{data_cmp, language_cmp, own_label, has_own, HasOwnPreferred, HasNoOwnPreferred, HasTwoOwnPreferred};
 
 use std::alloc::{AllocError, Global};
 use std::cmp::Ordering;
@@ -13,19 +13,19 @@ use std::marker::Model;
 use thes_base::data::{Label, LabelKind, LabelValue};
 use thes_base::text::{Tag, Text};
 
-// The labels of one owner, by kind, language and text.
+// The labels of one owner, sorted by kind, language and text.
 #[derive(Drop)]
-pub(crate) struct Row {
+pub(crate) struct OwnerRow {
     labels: Vec<Label>,
 }
 
-impl Model for Row {
+impl Model for OwnerRow {
     ghost use Rattle.std.specs.Prelude.{List};
     ghost use Rattle.std.specs.List.Sorted.{IsStrictlySortedBy};
     ghost use Rattle.thes_base.specs.Data.{LabelData};
-    ghost use Rattle.thes_vocab.specs.Places.{IsLabelPlace, IsPreferredAt};
-    ghost use Rattle.thes_vocab.specs.Taken.{takes_own, taken, gives};
-    ghost use Rattle.thes_vocab.specs.LabelData.{data_cmp};
+    ghost use Rattle.thes_vocab.specs.LabelPlaces.{IsLabelPlace, IsPreferredAt};
+    ghost use Rattle.thes_vocab.specs.CopiedLabels.{lacks_own_name, merged_label, copies_label};
+    ghost use Rattle.thes_vocab.specs.OwnLabels.{data_cmp};
 
     ghost Value = { List LabelData };
 
@@ -34,17 +34,17 @@ impl Model for Row {
     ghost invariant = { λ a. IsStrictlySortedBy data_cmp a.labels.items };
 }
 
-impl Row {
-    // No labels.
-    pub(crate) fn new(alloc: Global) -> Row
+impl OwnerRow {
+    // Creates an empty row.
+    pub(crate) fn new(alloc: Global) -> OwnerRow
         ensures { result ≡ [] }
     {
-        Row {
+        OwnerRow {
             labels: Vec::new(alloc),
         }
     }
 
-    // The labels in their order.
+    // Returns the labels in order.
     pub(crate) fn as_slice(&self) -> &[Label]
         ensures labels { result.now ≡ self.now }
         ensures ordered { IsStrictlySortedBy data_cmp self.now }
@@ -58,10 +58,10 @@ impl Row {
         search(self.labels.as_slice(), kind, tag, text).is_ok()
     }
 
-    // The preferred label in the language, or one of them.
+    // Returns a preferred label in the language.
     pub(crate) fn preferred(&self, tag: &Tag) -> Option<&Text>
-        ensures { MatchOption result (HasNoPreferred self.now tag.now)
-            (λ text. HasPreferred self.now tag.now text.now) }
+        ensures { MatchOption result (HasNoOwnPreferred self.now tag.now)
+            (λ text. HasOwnPreferred self.now tag.now text.now) }
     {
         let place = preferred_place(self.labels.as_slice(), tag)?;
         match &self.labels[place].value {
@@ -70,8 +70,8 @@ impl Row {
         }
     }
 
-    // Whether the text is a preferred, an alternative or a hidden label in the language.
-    pub(crate) fn has_name(&self, tag: &Tag, text: &str) -> bool
+    // Checks whether the text is a preferred, alternative or hidden label in the language.
+    pub(crate) fn has_lexical_label(&self, tag: &Tag, text: &str) -> bool
         ensures { result ≡ has_own_name self.now tag.now text.now }
     {
         self.contains(LabelKind::Pref, tag, text)
@@ -79,25 +79,25 @@ impl Row {
             || self.contains(LabelKind::Hidden, tag, text)
     }
 
-    // Whether the label is a name that is not among these.
-    fn takes(&self, label: &Label) -> bool
-        ensures { result ≡ takes_own self.now label.now }
+    // Checks whether the label is a name that the row lacks.
+    fn lacks_name(&self, label: &Label) -> bool
+        ensures { result ≡ lacks_own_name self.now label.now }
     {
-        label.kind() != LabelKind::Scope && !self.has_name(&label.tag, label.text())
+        label.kind() != LabelKind::Scope && !self.has_lexical_label(&label.tag, label.text())
     }
 
-    // The same labels.
-    fn try_clone(&self, alloc: Global) -> Result<Row, AllocError>
+    // Copies the row.
+    fn try_clone(&self, alloc: Global) -> Result<OwnerRow, AllocError>
         ensures { IfOk result (λ row. row ≡ self.now) }
     {
         let mut labels = Vec::new(alloc);
         for label in &self.labels {
             labels.push(label.try_clone(alloc)?)?;
         }
-        Ok(Row { labels })
+        Ok(OwnerRow { labels })
     }
 
-    // Adds a label, and answers whether it is new. An `Err` changes nothing.
+    // Inserts a label, and returns whether it is new. An `Err` changes nothing.
     pub(crate) fn insert(&mut self, label: Label) -> Result<bool, AllocError>
         ensures added { IfOk result (λ added. added ≡ not (has_own self.old label)) }
         ensures ok { OnOk result ((l : LabelData) →
@@ -113,7 +113,7 @@ impl Row {
         }
     }
 
-    // Takes a label out, and answers whether it was there.
+    // Removes a label, and returns whether it was there.
     pub(crate) fn remove(&mut self, kind: LabelKind, tag: &Tag, text: &str) -> bool
         ensures removed { result ≡ has_own self.old (own_label kind tag.now text.now) }
         ensures after { let dropped = own_label kind tag.now text.now in
@@ -129,9 +129,9 @@ impl Row {
         }
     }
 
-    // Whether there are two preferred labels: they stand first.
+    // Checks whether there are two preferred labels, which come first in the order.
     pub(crate) fn has_two_preferred(&self) -> bool
-        ensures { IsTrue result ↔ HasTwo self.now }
+        ensures { IsTrue result ↔ HasTwoOwnPreferred self.now }
     {
         let Some(second) = self.labels.get(1) else {
             return false;
@@ -140,23 +140,27 @@ impl Row {
     }
 }
 
-// The target's labels with those that it takes from the source in a merge.
-pub(crate) fn merged(alloc: Global, source: &Row, target: &Row) -> Result<Row, AllocError>
+// Returns the target's labels with the missing names of the source.
+pub(crate) fn merge_rows(
+    alloc: Global,
+    source: &OwnerRow,
+    target: &OwnerRow,
+) -> Result<OwnerRow, AllocError>
     ensures { IfOk result (λ row. (l : LabelData) →
-        has_own row l ≡ (has_own target.now l || gives source.now target.now l)) }
+        has_own row l ≡ (has_own target.now l || copies_label source.now target.now l)) }
 {
     let mut row = target.try_clone(alloc)?;
     for label in source.as_slice() {
-        if target.takes(label) {
-            row.insert(taken(alloc, label)?)?;
+        if target.lacks_name(label) {
+            row.insert(merged_label(alloc, label)?)?;
         }
     }
     Ok(row)
 }
 
-// What a label becomes that the target of a merge takes.
-fn taken(alloc: Global, label: &Label) -> Result<Label, AllocError>
-    ensures { IfOk result (λ l. l ≡ taken label.now) }
+// Copies a label for the target of a merge: a preferred label becomes an alternative one.
+fn merged_label(alloc: Global, label: &Label) -> Result<Label, AllocError>
+    ensures { IfOk result (λ l. l ≡ merged_label label.now) }
 {
     let tag = label.tag.try_clone(alloc)?;
     let value = match &label.value {
@@ -167,7 +171,7 @@ fn taken(alloc: Global, label: &Label) -> Result<Label, AllocError>
     Ok(Label { tag, value })
 }
 
-// Where the label stands in the order, or where it would.
+// Returns the index of the label, or the index at which it would be inserted.
 fn search(labels: &[Label], kind: LabelKind, tag: &Tag, text: &str) -> Result<usize, usize>
     requires { IsStrictlySortedBy data_cmp labels.now }
     ensures { IsLabelPlace labels.now (own_label kind tag.now text.now) result }
@@ -182,10 +186,10 @@ fn search_label(labels: &[Label], label: &Label) -> Result<usize, usize>
     search(labels, label.kind(), &label.tag, label.text())
 }
 
-// A place of a preferred label in the language.
+// Returns the index of a preferred label in the language.
 fn preferred_place(labels: &[Label], tag: &Tag) -> Option<usize>
     requires { IsStrictlySortedBy data_cmp labels.now }
-    ensures { MatchOption result (HasNoPreferred labels.now tag.now)
+    ensures { MatchOption result (HasNoOwnPreferred labels.now tag.now)
         (IsPreferredAt labels.now tag.now) }
 {
     labels
@@ -193,7 +197,7 @@ fn preferred_place(labels: &[Label], tag: &Tag) -> Option<usize>
         .ok()
 }
 
-// How the label stands to one of this kind, language and text.
+// Compares the label with one of this kind, language and text.
 fn order(label: &Label, kind: LabelKind, tag: &Tag, text: &str) -> Ordering
     ensures { result ≡ data_cmp label.now (own_label kind tag.now text.now) }
 {
@@ -203,7 +207,7 @@ fn order(label: &Label, kind: LabelKind, tag: &Tag, text: &str) -> Ordering
     }
 }
 
-// How the label stands to those of this kind and language.
+// Compares the kind and language of the label with these.
 fn language_order(label: &Label, kind: LabelKind, tag: &Tag) -> Ordering
     ensures { result ≡ language_cmp label.now (own_label kind tag.now []) }
 {

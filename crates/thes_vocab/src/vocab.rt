@@ -1,12 +1,12 @@
-//! A vocabulary: what it holds, and what can be looked up in it.
+//! A vocabulary and its look-ups.
 ghost use Rattle.std.specs.Prelude.{◌≡◌, ◌<◌, ◌^◌, ◌↔◌, IsTrue, ℕ, length, None, Some, option_copied, MatchOption};
 ghost use Rattle.std.specs.FinMap as dict;
 ghost use Rattle.std.specs.FinSet as set;
 ghost use Rattle.std.specs.Ordering.{nat_cmp};
 ghost use Rattle.thes_base.specs.Listing.{IsListing};
-ghost use Rattle.thes_base.specs.Resources.{numbered, IsLive};
-ghost use Rattle.thes_base.specs.Labels.{preferred_in, IsTaken};
-ghost use Rattle.thes_vocab.specs.LabelData.{AreLabelsOf};
+ghost use Rattle.thes_base.specs.Resources.{entry_at, IsLive};
+ghost use Rattle.thes_base.specs.Labels.{preferred_label_in, IsPreferredTaken};
+ghost use Rattle.thes_vocab.specs.OwnLabels.{AreLabelsOf};
 ghost use Rattle.thes_vocab.specs.Vocabulary.{empty_vocabulary, concept_scheme, IsConceptOf, IsConceptIn, IsHolder};
 
 use crate::iris::IriTable;
@@ -21,8 +21,9 @@ use thes_lists::Lists;
 
 /// The resources of a thesaurus, with the IRIs of outside concepts and the labels of all others.
 ///
-/// No two of its labels clash: an owner has no text of a language under two kinds and no two preferred labels in a
-/// language, two live concepts of a scheme share no preferred label, and each scheme, concept and collection has one.
+/// An owner has no text of a language under two kinds (SKOS S13) and no two preferred labels in a
+/// language (S14), two live concepts of a scheme share no preferred label, and each scheme, concept
+/// and collection has a preferred label.
 #[derive(Drop)]
 pub struct Vocab {
     pub(crate) alloc: Global,
@@ -30,9 +31,9 @@ pub struct Vocab {
     pub(crate) resources: Vec<Resource>,
     pub(crate) iris: IriTable,
     pub(crate) labels: LabelTable,
-    // Where the holder of a preferred label is found.
+    // The index of preferred labels.
     pub(crate) names: Names,
-    // The live concepts of each scheme, by their numbers.
+    // The live concepts of each scheme, in ascending order.
     pub(crate) concepts: Lists<ResNo>,
 }
 
@@ -40,14 +41,14 @@ impl Model for Vocab {
     ghost use Rattle.std.specs.Coded.{codes};
     ghost use Rattle.std.specs.FinMap as dict;
     ghost use Rattle.std.specs.FinSet as set;
-    ghost use Rattle.thes_vocab.specs.LabelData.{AreLabelsOf};
+    ghost use Rattle.thes_vocab.specs.OwnLabels.{AreLabelsOf};
     ghost use Rattle.thes_vocab.specs.Vocabulary.{Vocabulary};
 
     ghost Value = { Vocabulary };
 
     ghost coded = { Prim.hlevel (codes, set.code, dict.code) };
 
-    ghost use Rattle.thes_vocab.specs.Kept.{IsConsistent};
+    ghost use Rattle.thes_vocab.specs.Consistency.{IsConsistentVocabulary};
 
     ghost view = { λ a. record {
       base = a.base;
@@ -56,11 +57,12 @@ impl Model for Vocab {
       labels = a.labels;
     } };
 
-    ghost invariant = { λ a. IsConsistent a.base a.resources.items a.iris a.labels a.names a.concepts };
+    ghost invariant = { λ a.
+        IsConsistentVocabulary a.base a.resources.items a.iris a.labels a.names a.concepts };
 }
 
 impl Vocab {
-    /// Makes a vocabulary without resources.
+    /// Creates a vocabulary without resources.
     pub fn new(alloc: Global, base: Base) -> Vocab
         ensures { result ≡ empty_vocabulary base }
     {
@@ -75,35 +77,36 @@ impl Vocab {
         }
     }
 
-    /// Returns the base, which the IRIs of schemes, concepts and collections begin with.
+    /// Returns the base: the prefix of the IRIs of schemes, concepts and collections.
     pub fn base(&self) -> &Base
         ensures { result.now ≡ self.now.base }
     {
         &self.base
     }
 
-    /// Finds the resource with this number.
+    /// Returns the resource with this number.
     pub fn resource(&self, n: ResNo) -> Option<&Resource>
-        ensures { option_copied result ≡ numbered self.now.resources n }
+        ensures { option_copied result ≡ entry_at self.now.resources n }
     {
         resource_at(self.resources.as_slice(), n)
     }
 
-    /// Tells whether the number is a live resource's.
+    /// Checks whether the number is a live resource's.
     pub fn is_live(&self, n: ResNo) -> bool
         ensures { IsTrue result ↔ IsLive self.now.resources n }
     {
         self.resource(n).is_some_and(|r| r.live)
     }
 
-    /// Lists the numbers of the scheme's live concepts, rising. Where the number is no scheme's there are none.
+    /// Returns the live concepts of the scheme in ascending order, or none if the number is no
+    /// scheme's.
     pub fn live_of(&self, scheme: ResNo) -> &[ResNo]
         ensures { IsListing nat_cmp (IsConceptOf self.now.resources scheme) result.now }
     {
         self.concepts.at(scheme)
     }
 
-    /// Counts the resources.
+    /// Returns the number of resources.
     pub fn resource_count(&self) -> u64
         ensures count { result ≡ length self.now.resources }
         ensures few { result < 2 ^ 32 }
@@ -111,31 +114,31 @@ impl Vocab {
         self.resources.len() as u64
     }
 
-    /// Counts the labels.
+    /// Returns the number of labels.
     pub fn label_count(&self) -> u64
         ensures { result ≡ set.len self.now.labels }
     {
         self.labels.len()
     }
 
-    /// Finds the owner's preferred label in the language.
+    /// Returns the owner's preferred label in the language.
     pub fn preferred(&self, owner: ResNo, tag: &Tag) -> Option<&Text>
-        ensures { option_copied result ≡ preferred_in self.now.labels owner tag.now }
+        ensures { option_copied result ≡ preferred_label_in self.now.labels owner tag.now }
     {
         self.labels.preferred(owner, tag)
     }
 
-    /// Lists the owner's labels, by kind, language and text.
+    /// Returns the owner's labels, sorted by kind, language and text.
     pub fn labels_of(&self, owner: ResNo) -> &[Label]
         ensures { AreLabelsOf self.now.labels owner result.now }
     {
         self.labels.of_owner(owner)
     }
 
-    /// Finds the live concept of the scheme that has this preferred label.
+    /// Returns the live concept of the scheme that has this preferred label.
     pub fn holder(&self, scheme: ResNo, tag: &Tag, text: &Text) -> Option<ResNo>
         ensures { MatchOption result
-            (¬ IsTaken self.now.resources self.now.labels scheme tag.now text.now)
+            (¬ IsPreferredTaken self.now.resources self.now.labels scheme tag.now text.now)
             (IsHolder self.now.resources self.now.labels scheme tag.now text.now) }
     {
         let n = self.names.holder(scheme, tag, text)?;
@@ -145,7 +148,7 @@ impl Vocab {
         None
     }
 
-    // Whether a live concept of the scheme with this number has the preferred label.
+    // Checks whether the number is a live concept of the scheme that has the preferred label.
     fn is_held(&self, n: ResNo, scheme: ResNo, tag: &Tag, text: &Text) -> bool
         ensures { IsTrue result ↔
             IsHolder self.now.resources self.now.labels scheme tag.now text.now n }
@@ -154,7 +157,7 @@ impl Vocab {
             && self.labels.contains(n, LabelKind::Pref, tag, text.as_str())
     }
 
-    /// Finds the number of the outside concept with this IRI.
+    /// Returns the number of the outside concept with this IRI.
     pub fn outside(&self, iri: &Iri) -> Option<ResNo>
         ensures { MatchOption result
             ((n : ℕ) → ¬ (dict.get self.now.iris n ≡ Some iri.now))
@@ -163,7 +166,7 @@ impl Vocab {
         self.iris.number(iri)
     }
 
-    /// Finds the IRI of an outside concept.
+    /// Returns the IRI of an outside concept.
     pub fn outside_iri(&self, n: ResNo) -> Option<&Iri>
         ensures { option_copied result ≡ dict.get self.now.iris n }
     {
@@ -171,14 +174,14 @@ impl Vocab {
     }
 }
 
-// The resource with this number.
+// Returns the resource with this number.
 pub(crate) fn resource_at(resources: &[Resource], n: ResNo) -> Option<&Resource>
-    ensures { option_copied result ≡ numbered resources.now n }
+    ensures { option_copied result ≡ entry_at resources.now n }
 {
     resources.get(n.get() as usize - 1)
 }
 
-// The scheme of a live concept.
+// Returns the scheme of a live concept.
 pub(crate) fn concept_scheme(resources: &[Resource], n: ResNo) -> Option<ResNo>
     ensures { MatchOption result ((scheme : ℕ) → IsConceptOf resources.now scheme n → ⊥)
         (λ scheme. IsConceptOf resources.now scheme n) }
@@ -186,7 +189,7 @@ pub(crate) fn concept_scheme(resources: &[Resource], n: ResNo) -> Option<ResNo>
     scheme_if_concept(resource_at(resources, n)?)
 }
 
-// The scheme of a resource that is a live concept.
+// Returns the scheme of a resource, if that is a live concept.
 pub(crate) fn scheme_if_concept(resource: &Resource) -> Option<ResNo>
     ensures value { result ≡ concept_scheme resource.now }
     ensures scheme { MatchOption result ((scheme : ℕ) → IsConceptIn scheme resource.now → ⊥)

@@ -1,65 +1,66 @@
-//! The changes of rows that requests make which take links away or join concepts.
+//! Changes of rows for deprecations and merges.
 ghost use Rattle.std.specs.Prelude.{◌≡◌, ◌++◌, ◌⊎◌, ◌↔◌, IfOk, OnOk, List, map, Some, true};
 ghost use Rattle.std.specs.BTreeSet.{contains};
 ghost use Rattle.thes_base.specs.Data.{LabelData};
 ghost use Rattle.thes_base.specs.declared.data.Link.{Link};
 ghost use Rattle.thes_base.specs.declared.data.History.{History};
 ghost use Rattle.thes_base.specs.declared.request.Command.TheVariants as request;
-ghost use Rattle.thes_base.specs.Changes.{deprecated, merged};
+ghost use Rattle.thes_base.specs.Changes.{state_after_deprecation, state_after_merge};
 ghost use Rattle.thes_base.specs.Links.{link_cmp};
-ghost use Rattle.thes_core.specs.Deltas.{joined_link, taken_rows};
-ghost use Rattle.thes_core.specs.Requests.{Allows, AreMeant};
-ghost use Rattle.thes_core.specs.View.{state_of};
+ghost use Rattle.thes_core.specs.Deltas.{link_added_by_merge, copied_label_rows};
+ghost use Rattle.thes_core.specs.Requests.{PartsAccept, AreMatching};
+ghost use Rattle.thes_core.specs.PartsView.{parts_state};
 ghost use Rattle.thes_graph.specs.Reading.{IsRow};
 ghost use Rattle.thes_tables.specs.declared.change.Change.TheVariants as change;
 ghost use Rattle.thes_tables.specs.Changes.{add_link, drop_link};
-ghost use Rattle.thes_tables.specs.Leads.{Leads};
-ghost use Rattle.thes_tables.specs.Tables.{IsIn, Lists};
-ghost use Rattle.thes_vocab.specs.LabelData.{AreLabelsOf};
-ghost use Rattle.thes_vocab.specs.Taken.{taken};
+ghost use Rattle.thes_tables.specs.ChangeLaw.{AreChangesBetween};
+ghost use Rattle.thes_tables.specs.Tables.{IsIn, IsListingOf};
+ghost use Rattle.thes_vocab.specs.OwnLabels.{AreLabelsOf};
+ghost use Rattle.thes_vocab.specs.CopiedLabels.{merged_label};
 
-use super::moves::{numbered, push_moves};
-use super::{coming, going, one};
+use super::moves::{items_within_numbers, push_moves};
+use super::{link_insertion, link_removal, one};
 use crate::facts::Facts;
 use crate::thesaurus::Thesaurus;
 use std::alloc::{AllocError, Global};
 use std::collections::BTreeSet;
 use thes_base::data::{Label, LabelValue, Link};
 use thes_base::number::ResNo;
-use thes_graph::judge::in_order;
+use thes_graph::judge::normalize_ends;
 use thes_graph::links::Links;
 use thes_tables::change::Change;
 use thes_tables::delta::Delta;
 use thes_tables::rows::LabelRow;
 
-// These links leave the tables.
-fn push_going(delta: &mut Delta, links: &[Link]) -> Result<(), AllocError>
+// Appends a deletion for each link.
+fn push_removals(delta: &mut Delta, links: &[Link]) -> Result<(), AllocError>
     ensures { OnOk result (delta.new ≡ delta.old ++ map drop_link links.now) }
 {
     for link in links {
-        delta.push(going(link))?;
+        delta.push(link_removal(link))?;
     }
     Ok(())
 }
 
-// These links come to the tables.
-fn push_coming(delta: &mut Delta, links: &[Link]) -> Result<(), AllocError>
+// Appends an insertion for each link.
+fn push_insertions(delta: &mut Delta, links: &[Link]) -> Result<(), AllocError>
     ensures { OnOk result (delta.new ≡ delta.old ++ map add_link links.now) }
 {
     for link in links {
-        delta.push(coming(link))?;
+        delta.push(link_insertion(link))?;
     }
     Ok(())
 }
 
-// One link more, unless it is among those seen.
+// Appends a link, unless it was seen before.
 fn push_unseen(
     seen: &mut BTreeSet<Link>,
     links: &mut Vec<Link>,
     new: &Link,
 ) -> Result<(), AllocError>
-    requires { Lists (λ q. contains link_cmp seen.old q ≡ true) links.old.items }
-    ensures seen { OnOk result (Lists (λ q. contains link_cmp seen.new q ≡ true) links.new.items) }
+    requires { IsListingOf (λ q. contains link_cmp seen.old q ≡ true) links.old.items }
+    ensures seen { OnOk result
+        (IsListingOf (λ q. contains link_cmp seen.new q ≡ true) links.new.items) }
     ensures gains { OnOk result ((q : Link)
         → IsIn q links.new.items ↔ (IsIn q links.old.items ⊎ (q ≡ new.now))) }
 {
@@ -69,9 +70,9 @@ fn push_unseen(
     Ok(())
 }
 
-// What the target of a merge takes a label as.
-fn as_taken(alloc: Global, label: &Label) -> Result<Label, AllocError>
-    ensures { IfOk result (λ l. l ≡ taken label.now) }
+// Copies a label for the target of a merge: a preferred label becomes an alternative one.
+fn copy_merged_label(alloc: Global, label: &Label) -> Result<Label, AllocError>
+    ensures { IfOk result (λ l. l ≡ merged_label label.now) }
 {
     let value = match &label.value {
         LabelValue::Pref(text) => LabelValue::Alt(text.try_clone(alloc)?),
@@ -86,7 +87,7 @@ fn as_taken(alloc: Global, label: &Label) -> Result<Label, AllocError>
 }
 
 impl Thesaurus {
-    // The links with an end at a resource.
+    // Returns the links with an end at a resource.
     fn links_at(&self, n: ResNo) -> Result<Vec<Link>, AllocError>
         ensures { IfOk result (λ found. IsRow self.now.graph.links n found.items) }
     {
@@ -98,22 +99,23 @@ impl Thesaurus {
         Ok(found)
     }
 
-    // A concept is dead, and its links are gone.
-    pub(super) fn changes_deprecated(&self, concept: ResNo) -> Result<Delta, AllocError>
+    // Returns the changes of rows for a deprecation.
+    pub(super) fn changes_of_deprecate(&self, concept: ResNo) -> Result<Delta, AllocError>
         ensures { IfOk result (λ delta. (histories : List History)
-            → Allows self.now histories (request.Deprecate concept)
-            → Leads self.now.vocab.base delta (state_of self.now histories)
-            (deprecated concept (state_of self.now histories))) }
+            → PartsAccept self.now histories (request.Deprecate concept)
+            → AreChangesBetween self.now.vocab.base delta (parts_state self.now histories)
+            (state_after_deprecation concept (parts_state self.now histories))) }
     {
         let mut delta = one(self.alloc, Change::Retire(concept))?;
         let gone = self.links_at(concept)?;
-        push_going(&mut delta, gone.as_slice())?;
+        push_removals(&mut delta, gone.as_slice())?;
         Ok(delta)
     }
 
-    // What a merge makes of a link.
-    fn joined(&self, link: &Link, source: ResNo, target: ResNo) -> Option<Link>
-        ensures { result ≡ joined_link self.now.graph source target link.now }
+    // Returns the link that a merge adds for an old one: its normal form after redirection, unless
+    // its ends become equal or it is held.
+    fn merge_result(&self, link: &Link, source: ResNo, target: ResNo) -> Option<Link>
+        ensures { result ≡ link_added_by_merge self.now.graph source target link.now }
     {
         let a = if link.a == source { target } else { link.a };
         let b = if link.b == source { target } else { link.b };
@@ -126,39 +128,45 @@ impl Thesaurus {
             return None;
         }
         let outside = self.graph.is_outside(a) || self.graph.is_outside(b);
-        Some(in_order(&sent, outside))
+        Some(normalize_ends(&sent, outside))
     }
 
-    // What a merge makes of these links, each once.
-    fn all_joined(
+    // Returns the links that a merge adds for old ones, each once.
+    fn links_added_by_merge(
         &self,
         source: ResNo,
         target: ResNo,
         links: &[Link],
     ) -> Result<Vec<Link>, AllocError>
         ensures { let is_joined = λ (q : Link). (l : Link) × IsIn l links.now
-            × (joined_link self.now.graph source target l ≡ Some q) in
-            IfOk result (λ joined. Lists is_joined joined.items) }
+            × (link_added_by_merge self.now.graph source target l ≡ Some q) in
+            IfOk result (λ merge_result. IsListingOf is_joined merge_result.items) }
     {
         let mut seen = BTreeSet::new(self.alloc);
-        let mut joined = Vec::new(self.alloc);
+        let mut merge_result = Vec::new(self.alloc);
         for link in links {
-            if let Some(new) = self.joined(link, source, target) {
-                push_unseen(&mut seen, &mut joined, &new)?;
+            if let Some(new) = self.merge_result(link, source, target) {
+                push_unseen(&mut seen, &mut merge_result, &new)?;
             }
         }
-        Ok(joined)
+        Ok(merge_result)
     }
 
-    // The target takes the names of the source that it lacks.
-    fn push_taken(&self, delta: &mut Delta, source: ResNo, target: ResNo) -> Result<(), AllocError>
+    // Appends an insertion for each label that the merge copies to the target.
+    fn push_copied_labels(
+        &self,
+        delta: &mut Delta,
+        source: ResNo,
+        target: ResNo,
+    ) -> Result<(), AllocError>
         ensures { let labels = self.now.vocab.labels in OnOk result ((own : List LabelData)
             × AreLabelsOf labels source own
-            × (delta.new ≡ delta.old ++ map change.AddLabel (taken_rows labels target own))) }
+            × (delta.new ≡ delta.old
+            ++ map change.AddLabel (copied_label_rows labels target own))) }
     {
         for label in self.vocab.labels_of(source) {
-            if self.vocab.takes(target, label) {
-                let label = as_taken(self.alloc, label)?;
+            if self.vocab.lacks_name(target, label) {
+                let label = copy_merged_label(self.alloc, label)?;
                 delta.push(Change::AddLabel(LabelRow {
                     owner: target,
                     label,
@@ -168,27 +176,27 @@ impl Thesaurus {
         Ok(())
     }
 
-    // Two concepts are one.
-    pub(super) fn changes_merged(
+    // Returns the changes of rows for a merge.
+    pub(super) fn changes_of_merge(
         &self,
         source: ResNo,
         target: ResNo,
         facts: &Facts,
     ) -> Result<Delta, AllocError>
         ensures { IfOk result (λ delta. (histories : List History)
-            → AreMeant self.now (request.Merge source target) facts.now histories
-            → Leads self.now.vocab.base delta (state_of self.now histories)
-            (merged source target (state_of self.now histories))) }
+            → AreMatching self.now (request.Merge source target) facts.now histories
+            → AreChangesBetween self.now.vocab.base delta (parts_state self.now histories)
+            (state_after_merge source target (parts_state self.now histories))) }
     {
         let mut delta = one(self.alloc, Change::Replace(source, target))?;
-        self.push_taken(&mut delta, source, target)?;
+        self.push_copied_labels(&mut delta, source, target)?;
         let gone = self.links_at(source)?;
-        push_going(&mut delta, gone.as_slice())?;
-        let come = self.all_joined(source, target, gone.as_slice())?;
-        push_coming(&mut delta, come.as_slice())?;
+        push_removals(&mut delta, gone.as_slice())?;
+        let come = self.links_added_by_merge(source, target, gone.as_slice())?;
+        push_insertions(&mut delta, come.as_slice())?;
         delta.push(Change::MoveAll(source, target))?;
         let first = u64::from(self.book.moves()) + 1;
-        let standing = numbered(first, facts.standing.as_slice());
+        let standing = items_within_numbers(first, facts.standing.as_slice());
         push_moves(&mut delta, first, source, target, standing)?;
         Ok(delta)
     }

@@ -1,12 +1,12 @@
-//! The changes of rows that requests make which post and move.
+//! Changes of rows for postings and splits.
 ghost use Rattle.std.specs.Prelude.{◌≡◌, ◌≤◌, ◌+◌, ◌++◌, ◌^◌, IfOk, OnOk, List, [], map, length};
 ghost use Rattle.thes_base.specs.declared.data.History.{History};
 ghost use Rattle.thes_base.specs.declared.request.Command.TheVariants as request;
 ghost use Rattle.thes_base.specs.Postings.{moves_along};
-ghost use Rattle.thes_core.specs.Deltas.{moves_from, placed_at};
-ghost use Rattle.thes_core.specs.Requests.{Allows};
-ghost use Rattle.thes_core.specs.View.{state_of};
-ghost use Rattle.thes_post.specs.Sums.{AreSums};
+ghost use Rattle.thes_core.specs.Deltas.{move_rows, place_change};
+ghost use Rattle.thes_core.specs.Requests.{PartsAccept};
+ghost use Rattle.thes_core.specs.PartsView.{parts_state};
+ghost use Rattle.thes_post.specs.PostingCounts.{ArePostingCounts};
 ghost use Rattle.thes_tables.specs.declared.change.Change.TheVariants as change;
 ghost use Rattle.thes_tables.specs.Changes.{changes_of, move_row};
 
@@ -15,13 +15,14 @@ use std::alloc::AllocError;
 use thes_base::data::{Resource, ResourceKind};
 use thes_base::number::{MoveNo, PostNo, ResNo};
 use thes_base::text::{Key, RecordName, Tag, Text};
-use thes_post::rising::sorted;
+use thes_post::rising::sorted_numbers;
 use thes_tables::change::Change;
 use thes_tables::delta::Delta;
 use thes_tables::rows::{MoveRow, PostingRow};
 
-// The items, as long as there is a number for a move of each from the first one on; else none of them.
-pub(super) fn numbered<T>(first: u64, items: &[T]) -> &[T]
+// Returns the items, if move numbers from `first` on suffice for all of them, and none of them
+// otherwise.
+pub(super) fn items_within_numbers<T>(first: u64, items: &[T]) -> &[T]
     requires { first ≤ 2 ^ 32 }
     ensures fits { first + length result.now ≤ 2 ^ 32 }
     ensures whole { first + length items.now ≤ 2 ^ 32 → result.now ≡ items.now }
@@ -33,7 +34,7 @@ pub(super) fn numbered<T>(first: u64, items: &[T]) -> &[T]
     }
 }
 
-// One move from the source to the target for each posting, numbered from this number on.
+// Appends a move from the source to the target for each posting, with numbers from `first` on.
 pub(super) fn push_moves(
     delta: &mut Delta,
     first: u64,
@@ -43,7 +44,8 @@ pub(super) fn push_moves(
 ) -> Result<(), AllocError>
     requires least { 1 ≤ first }
     requires room { first + length postings.now ≤ 2 ^ 32 }
-    ensures { OnOk result (delta.new ≡ delta.old ++ map change.AddMove (moves_from first source target postings.now)) }
+    ensures { OnOk result (delta.new ≡ delta.old
+        ++ map change.AddMove (move_rows first source target postings.now)) }
 {
     for i in 0..postings.len() {
         let row = MoveRow {
@@ -57,9 +59,9 @@ pub(super) fn push_moves(
     Ok(())
 }
 
-// The target is the place of each posting.
+// Appends a change of place for each posting, to the target.
 fn push_places(delta: &mut Delta, target: ResNo, postings: &[PostNo]) -> Result<(), AllocError>
-    ensures { OnOk result (delta.new ≡ delta.old ++ map (placed_at target) postings.now) }
+    ensures { OnOk result (delta.new ≡ delta.old ++ map (place_change target) postings.now) }
 {
     for posting in postings {
         delta.push(Change::SetPlace(*posting, target))?;
@@ -67,7 +69,7 @@ fn push_places(delta: &mut Delta, target: ResNo, postings: &[PostNo]) -> Result<
     Ok(())
 }
 
-// One move of the posting for each step of a way, numbered from this number on.
+// Appends a move of the posting for each step along the path, with numbers from `first` on.
 fn push_way(
     delta: &mut Delta,
     posting: PostNo,
@@ -96,16 +98,18 @@ fn push_way(
 }
 
 impl Thesaurus {
-    // A new posting, forwarded.
-    pub(super) fn changes_posted(
+    // Returns the changes of rows for a new posting and its forwarding.
+    pub(super) fn changes_of_post(
         &self,
         key: &Key,
         rec: &RecordName,
         concept: ResNo,
     ) -> Result<Delta, AllocError>
         ensures { IfOk result (λ delta. (histories : List History)
-            → Allows self.now histories (request.Post key.now rec.now concept) → AreSums histories self.now.book
-            → delta ≡ changes_of (request.Post key.now rec.now concept) (state_of self.now histories)) }
+            → PartsAccept self.now histories (request.Post key.now rec.now concept)
+            → ArePostingCounts histories self.now.book
+            → delta ≡ changes_of (request.Post key.now rec.now concept)
+            (parts_state self.now histories)) }
     {
         let number = PostNo::new(self.book.accepted().saturating_add(1));
         let way = self.vocab.replacements(self.alloc, concept)?;
@@ -125,29 +129,30 @@ impl Thesaurus {
             number,
             first,
             concept,
-            numbered(first, way.as_slice()),
+            items_within_numbers(first, way.as_slice()),
         )?;
         Ok(delta)
     }
 
-    // A new concept, to which the postings listed move.
-    pub(super) fn changes_split(
+    // Returns the changes of rows for a split.
+    pub(super) fn changes_of_split(
         &self,
         source: ResNo,
         tag: &Tag,
         text: &Text,
         postings: &[PostNo],
     ) -> Result<Delta, AllocError>
-        requires { Allows self.now [] (request.Split source tag.now text.now []) }
+        requires { PartsAccept self.now [] (request.Split source tag.now text.now []) }
         ensures { IfOk result (λ delta. (histories : List History)
-            → Allows self.now histories (request.Split source tag.now text.now postings.now)
-            → AreSums histories self.now.book
-            → delta ≡ changes_of (request.Split source tag.now text.now postings.now) (state_of self.now histories)) }
+            → PartsAccept self.now histories (request.Split source tag.now text.now postings.now)
+            → ArePostingCounts histories self.now.book
+            → delta ≡ changes_of (request.Split source tag.now text.now postings.now)
+            (parts_state self.now histories)) }
     {
         let resource = Resource::new(ResourceKind::Concept, Some(self.scheme(source)));
-        let mut delta = self.changes_made(resource, tag, text)?;
-        let concept = self.next();
-        let moving = sorted(self.alloc, postings)?;
+        let mut delta = self.changes_of_new_resource(resource, tag, text)?;
+        let concept = self.next_resource_number();
+        let moving = sorted_numbers(self.alloc, postings)?;
         push_places(&mut delta, concept, moving.as_slice())?;
         let first = u64::from(self.book.moves()) + 1;
         push_moves(
@@ -155,7 +160,7 @@ impl Thesaurus {
             first,
             source,
             concept,
-            numbered(first, moving.as_slice()),
+            items_within_numbers(first, moving.as_slice()),
         )?;
         Ok(delta)
     }

@@ -1,4 +1,4 @@
-use Rattle.thes_base.proofs.Forwarding.{forwards_to_end}
+use Rattle.thes_base.proofs.ForwardingLemmas.{forwards_to_end}
 use Rattle.thes_base.proofs.laws.forwards_to_end.Goals as goal
 
 pub returns : goal.returns

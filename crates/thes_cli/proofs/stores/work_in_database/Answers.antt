@@ -1,16 +1,19 @@
 use Rattle.std.proofs.Common.{◌∙◌, ap, subst}
-use Rattle.thes_sqlite.specs.Kept.{Kept, raw_of_keeper, IsServing}
+use Rattle.thes_sqlite.specs.KeeperView.{KeeperView, raw_of_keeper, IsServing}
 use Rattle.std.specs.Prelude.{Some}
 use Rattle.thes_cli.specs.Streams.{streams}
-use Rattle.thes_cli.specs.Work.{Works}
+use Rattle.thes_cli.specs.Work.{WorksOverKeeper}
 use Rattle.thes_cli.proofs.stores.work_in_database.Goals as goal
 
 pub returns : goal.returns
 returns g c = record {
   keeper = c.work_over-status.result.1;
-  works = subst (λ (k : Kept _).
-      Works (raw_of_keeper g.S.Store) (IsServing g.S.Store) (λ k. k.failures) g.F.Read.remaining g.R.Read.remaining g.W.Write.contents g.E.Write.contents c.args.task (Some c.args.file.now) k
-      (streams c.args.input.now c.args.output.now c.args.errors.now) c.work_over-status.result.0 c.work_over-status.result.1 (streams c.work_over-status.new.input c.work_over-status.new.output c.work_over-status.new.errors))
+  works = subst (λ (k : KeeperView _).
+      WorksOverKeeper (raw_of_keeper g.S.Store) (IsServing g.S.Store) (λ k. k.failures) g.F.Read.remaining
+      g.R.Read.remaining g.W.Write.contents g.E.Write.contents c.args.task (Some c.args.file.now) k
+      (streams c.args.input.now c.args.output.now c.args.errors.now) c.work_over-status.result.0
+      c.work_over-status.result.1 (streams c.work_over-status.new.input c.work_over-status.new.output
+      c.work_over-status.new.errors))
       (c.new-keeper.ensures ∙ c.adopt.ensures.is) c.work_over-status.ensures;
-  kept = c.into_connection.ensures ∙ ap (λ (k : Kept _). k.conn) c.into_keeper.ensures;
+  back_is = c.into_connection.ensures ∙ ap (λ (k : KeeperView _). k.conn) c.into_keeper.ensures;
 }

@@ -3,7 +3,7 @@ use Rattle.thes_cli.proofs.stores.work_in_new_database.Goals as goal
 
 pub returns-in-Ok : goal.returns-in-Ok
 returns-in-Ok g c = inl record {
-  made = c.create_tables.new.conn;
+  new_conn = c.create_tables.new.conn;
   tables = λ clean empty. c.in-Ok.ensures.all clean (c.in-Ok.ensures.own.begins c.requires.idle) empty;
   works = c.work_in_database.ensures;
 }
@@ -12,9 +12,9 @@ pub returns-in-Err : goal.returns-in-Err
 returns-in-Err g c = inr record {
   fault = c.fault_of.result;
   kind = c.fault_of.ensures.kind;
-  left = λ up. c.in-Err.ensures.own.none up.0 up.1;
+  leaves = λ up. c.in-Err.ensures.own.none up.0 up.1;
   input = refl;
   output = refl;
-  tells = c.tell_of.ensures.told;
-  status_is = c.tell_of.ensures.status;
+  prints_it = c.report_in_file.ensures.reports;
+  status_is = c.report_in_file.ensures.status;
 }

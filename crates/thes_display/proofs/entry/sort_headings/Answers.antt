@@ -6,4 +6,5 @@ use Rattle.thes_display.proofs.HeadingLemmas.{heading_total}
 use Rattle.thes_display.proofs.entry.sort_headings.Goals as goal
 
 pub returns-clause-sorted : goal.returns-clause-sorted
-returns-clause-sorted c = c.in_ok-sort_by.ensures.sorted (λ x y. is_lt (heading_cmp x y)) (ranks_by heading_total (λ (x : Heading). x)) (answers_always _ _ _ (λ f a r g h. search rules))
+returns-clause-sorted c = c.in_ok-sort_by.ensures.sorted (λ x y. is_lt (heading_cmp x y))
+    (ranks_by heading_total (λ (x : Heading). x)) (answers_always _ _ _ (λ f a r g h. search rules))

@@ -1,16 +1,24 @@
 use Rattle.std.proofs.Common.{◌∙◌, ◌++◌, ◌∷◌, [], sym, ap, subst, Bool, append_assoc}
-use Rattle.thes_core.specs.Kept.{with_histories}
+use Rattle.thes_core.specs.CoreView.{with_histories}
 use Rattle.thes_display.specs.Alphabetical.{AreLinesOf, AreTexts, IsEntryOf, symbols}
 use Rattle.thes_display.proofs.entry.write_entry.Goals as goal
 
+-- The text appended for a concept is its entry.
 pub returns-in_ok-write_symbols : goal.returns-in_ok-write_symbols
 returns-in_ok-write_symbols c =
     let shown = c.args.heading.now.term.text in
     let a = c.in_ok-write_symbols.ensures in
     record {
-      added = shown ++ (10 ∷ a.added);
-      one = subst (λ (b : Bool). IsEntryOf (with_histories [] c.args.core.now) c.args.tag.now b c.args.heading.now.term (shown ++ (10 ∷ a.added))) (sym c.if-heading.false)
-          (a.added, subst (λ n. AreTexts (AreLinesOf (with_histories [] c.args.core.now) c.args.tag.now n) symbols a.added) c.concept-n.ensures a.one, λ i. shown ++ (10 ∷ a.added));
-      is = a.is ∙ ap (λ t. t ++ a.added) (c.in_ok-push.ensures.items ∙ ap (λ t. t ++ 10 ∷ []) (c.in_ok-extend_from_slice.ensures.items ∙ ap (λ t. c.args.text.now.items ++ t) c.text.ensures))
-          ∙ append_assoc (c.args.text.now.items ++ shown) (10 ∷ []) a.added ∙ append_assoc c.args.text.now.items shown (10 ∷ a.added);
+      addition = shown ++ (10 ∷ a.addition);
+      one = subst (λ (b : Bool). IsEntryOf (with_histories [] c.args.core.now) c.args.tag.now b
+          c.args.heading.now.term (shown ++ (10 ∷ a.addition))) (sym c.if-heading.false) (
+            a.addition,
+            subst (λ n. AreTexts (AreLinesOf (with_histories [] c.args.core.now) c.args.tag.now n) symbols
+                a.addition) c.concept-n.ensures a.one,
+            λ i. shown ++ (10 ∷ a.addition),
+          );
+      is = a.is ∙ ap (λ t. t ++ a.addition) (c.in_ok-push.ensures.items ∙ ap (λ t. t ++ 10 ∷ [])
+          (c.in_ok-extend_from_slice.ensures.items ∙ ap (λ t. c.args.text.now.items ++ t) c.text.ensures))
+          ∙ append_assoc (c.args.text.now.items ++ shown) (10 ∷ []) a.addition ∙ append_assoc c.args.text.now.items
+          shown (10 ∷ a.addition);
     }

@@ -5,4 +5,5 @@ use Rattle.thes_display.specs.Order.{Term}
 use Rattle.thes_display.proofs.entry.write_symbol.Given as goal
 
 abbrev pub invariant-loop-term : goal.invariant-loop-term
-invariant-loop-term l = l.text.items ≡ l.fn.text.items ++ flat_map (λ (t : Term). line_below (symbol_text l.symbol) t.text) (take l.term-index l.term-items)
+invariant-loop-term l = l.text.items ≡ l.fn.text.items
+    ++ flat_map (λ (t : Term). line_below (symbol_text l.symbol) t.text) (take l.term-index l.term-items)

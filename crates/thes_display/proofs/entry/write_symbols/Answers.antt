@@ -1,15 +1,17 @@
 use Rattle.std.proofs.Common.{[], sym, subst, take, arith, List}
 use Rattle.std.proofs.lemmas.List.{take_more}
-use Rattle.thes_core.specs.Kept.{with_histories}
-use Rattle.thes_display.specs.Added.{IsAdded}
+use Rattle.thes_core.specs.CoreView.{with_histories}
+use Rattle.thes_display.specs.TextAppends.{AppendsText}
 use Rattle.thes_display.specs.Alphabetical.{AreLinesOf, AreTexts}
 use Rattle.thes_display.specs.declared.symbol.Symbol.{Symbol}
-use Rattle.thes_display.proofs.AddedLemmas.{added_more}
+use Rattle.thes_display.proofs.TextAppendLemmas.{added_more}
 use Rattle.thes_display.proofs.entry.write_symbols.Goals as goal
 
 pub loop-symbol-preserved : goal.loop-symbol-preserved
 loop-symbol-preserved c =
     let xs : List Symbol = c.all-symbols.result in
     let i = c.loop-symbol.symbol-index in
-    subst (λ ys. IsAdded (AreTexts (AreLinesOf (with_histories [] c.args.core.now) c.args.tag.now c.args.n) ys) c.args.text.now.items c.write_symbol.new.text.items) (sym (take_more xs i _ (omega arith)))
-    (added_more (AreLinesOf (with_histories [] c.args.core.now) c.args.tag.now c.args.n) (take i xs) _ _ _ _ c.loop-symbol.invariant c.in_ok-write_symbol.ensures)
+    subst (λ ys. AppendsText (AreTexts (AreLinesOf (with_histories [] c.args.core.now) c.args.tag.now c.args.n) ys)
+    c.args.text.now.items c.write_symbol.new.text.items) (sym (take_more xs i _ (omega arith)))
+    (added_more (AreLinesOf (with_histories [] c.args.core.now) c.args.tag.now c.args.n) (take i xs) _ _ _ _
+    c.loop-symbol.invariant c.in_ok-write_symbol.ensures)

@@ -1,4 +1,5 @@
-use Rattle.std.proofs.Common.{◌≡◌, ◌∙◌, ◌<◌, ap, sym, subst, take, take_all, length, get_or, ℕ, ◌+◌, List, Option, IsPermutation, IsSorted, arith}
+use Rattle.std.proofs.Common.{◌≡◌, ◌∙◌, ◌<◌, ap, sym, subst, take, take_all, length, get_or, ℕ, ◌+◌, List, Option}
+use Rattle.std.proofs.Common.{IsPermutation, IsSorted, arith}
 use Rattle.std.specs.List.{filter_map}
 use Rattle.std.specs.Ordering.{nat_cmp}
 use Rattle.std.specs.BTreeMap.{get}
@@ -9,15 +10,16 @@ use Rattle.thes_base.specs.Listing.{IsListing}
 use Rattle.thes_base.specs.Views.{HasBroader}
 use Rattle.thes_display.specs.declared.walk.Child.{Child}
 use Rattle.thes_display.specs.Order.{Term}
-use Rattle.thes_display.specs.Below.{child_cmp}
+use Rattle.thes_display.specs.ChildLists.{child_cmp}
 use Rattle.thes_display.specs.Hierarchical.{HasKey, IsBroader}
-use Rattle.thes_display.specs.Gathered.{AreKeys, IsChild}
+use Rattle.thes_display.specs.HierarchyParts.{AreKeys, IsChild}
 use Rattle.thes_display.proofs.KeyLemmas.{key_of_term}
 use Rattle.thes_display.proofs.GatherLemmas.{key_within}
-use Rattle.thes_display.proofs.ChildLemmas.{AreChildren, children_none, children_more, children_listed, broader_at, known_home}
+use Rattle.thes_display.proofs.ChildLemmas.{AreChildren, children_none, children_more, children_listed, broader_at}
+use Rattle.thes_display.proofs.ChildLemmas.{known_home}
 use Rattle.thes_display.proofs.gather.children_of.Goals as goal
 
--- The keys found are those of what is narrower than the concept that was read.
+-- The keys found are those of the narrower concepts that were read.
 module _ (links : Links) (terms : List Term) (key : ℕ) (keys : ℕ → Option ℕ) (are : AreKeys terms keys)
     (n : ℕ) (t : Term) (same : n ≡ t.concept) (within : key < length terms) (is : t ≡ get_or terms key t)
     (xs ys ks found : List ℕ) (listed : IsListing nat_cmp (λ a. HasBroader links a n) xs)
@@ -29,9 +31,11 @@ module _ (links : Links) (terms : List Term) (key : ℕ) (keys : ℕ → Option 
   found_all = read ∙ all ∙ ap (filter_map keys) slice
 
   narrower_at : (k : ℕ) → k < length ks → IsBroader links terms (get_or ks k 0) key
-  narrower_at k l = broader_at links terms key keys are n here xs ks listed found_all (get_or ks k 0) (Contains-get_or ks k 0 l)
+  narrower_at k l = broader_at links terms key keys are n here xs ks listed found_all (get_or ks k 0)
+      (Contains-get_or ks k 0 l)
 
-  children_are : (made children : List Child) → AreChildren links terms key ks made → IsPermutation made children → IsSorted child_cmp children → IsListing child_cmp (IsChild links terms key) children
+  children_are : (made children : List Child) → AreChildren links terms key ks made → IsPermutation made children
+      → IsSorted child_cmp children → IsListing child_cmp (IsChild links terms key) children
   children_are = children_listed links terms key keys are n here xs ks listed found_all
 
 pub loop-child-init : goal.loop-child-init
@@ -42,7 +46,8 @@ is_home-at_home-requires c =
     let r = narrower_at c.args.core.now.links c.args.terms.now c.args.key (get nat_cmp c.args.keys.now) c.requires.keys
     c.concept.result c.index-terms-key.result c.concept.ensures c.requires.within c.index-terms-key.is
     c.in_ok-narrower.narrower.items _ c.deref-child-items.result.now _ c.in_ok-narrower.ensures
-    c.deref-child-items.ensures.value c.as_slice.ensures.value c.in_ok-found.ensures c.loop-child.child-index (omega arith) in
+    c.deref-child-items.ensures.value c.as_slice.ensures.value c.in_ok-found.ensures c.loop-child.child-index
+    (omega arith) in
     known_home c.args.core.now.links c.args.terms.now c.args.key c.args.homes.now c.requires.homes _ r
 
 pub types_at-types-requires-clause-within : goal.types_at-types-requires-clause-within
@@ -50,7 +55,8 @@ types_at-types-requires-clause-within c =
     let r = narrower_at c.args.core.now.links c.args.terms.now c.args.key (get nat_cmp c.args.keys.now) c.requires.keys
     c.concept.result c.index-terms-key.result c.concept.ensures c.requires.within c.index-terms-key.is
     c.in_ok-narrower.narrower.items _ c.deref-child-items.result.now _ c.in_ok-narrower.ensures
-    c.deref-child-items.ensures.value c.as_slice.ensures.value c.in_ok-found.ensures c.loop-child.child-index (omega arith) in
+    c.deref-child-items.ensures.value c.as_slice.ensures.value c.in_ok-found.ensures c.loop-child.child-index
+    (omega arith) in
     (key_within c.args.terms.now r.lower _ r.lower_key, c.requires.within)
 
 pub loop-child-preserved : goal.loop-child-preserved
@@ -61,7 +67,10 @@ loop-child-preserved c =
     c.concept.result c.index-terms-key.result c.concept.ensures c.requires.within c.index-terms-key.is
     c.in_ok-narrower.narrower.items _ c.deref-child-items.result.now _ c.in_ok-narrower.ensures
     c.deref-child-items.ensures.value c.as_slice.ensures.value c.in_ok-found.ensures i (omega arith) in
-    children_more c.args.core.now.links c.args.terms.now c.args.key c.args.homes.now c.requires.homes (take i ks) (take (i + 1) ks) _ _ _ c.types_at-types.result c.is_home-at_home.result c.loop-child.invariant r c.types_at-types.ensures c.is_home-at_home.ensures.at c.is_home-at_home.ensures.other c.in_ok-push.ensures.items
+    children_more c.args.core.now.links c.args.terms.now c.args.key c.args.homes.now c.requires.homes (take i ks)
+    (take (i + 1) ks) _ _ _ c.types_at-types.result c.is_home-at_home.result c.loop-child.invariant r
+    c.types_at-types.ensures c.is_home-at_home.ensures.at c.is_home-at_home.ensures.other
+    c.in_ok-push.ensures.items
     (take_more ks i 0 (omega arith))
 
 pub returns : goal.returns
@@ -71,5 +80,6 @@ returns c =
     c.concept.result c.index-terms-key.result c.concept.ensures c.requires.within c.index-terms-key.is
     c.in_ok-narrower.narrower.items _ c.deref-child-items.result.now _ c.in_ok-narrower.ensures
     c.deref-child-items.ensures.value c.as_slice.ensures.value c.in_ok-found.ensures c.loop-child.children.items _
-    (subst (λ (xs : List ℕ). AreChildren c.args.core.now.links c.args.terms.now c.args.key xs c.loop-child.children.items) (take_all c.loop-child.child-index ks (omega arith)) c.loop-child.invariant)
+    (subst (λ (xs : List ℕ). AreChildren c.args.core.now.links c.args.terms.now c.args.key xs
+    c.loop-child.children.items) (take_all c.loop-child.child-index ks (omega arith)) c.loop-child.invariant)
     c.in_ok-sort_children.ensures.same c.in_ok-sort_children.ensures.sorted

@@ -11,7 +11,11 @@ use Rattle.thes_display.proofs.gather.home_of.Goals as goal
 pub returns : goal.returns
 returns c =
     let n : ℕ = c.concept.result in
-    let here : HasKey c.args.terms.now n c.args.key = subst (λ m. HasKey c.args.terms.now m c.args.key) (sym c.concept.ensures) (key_of_term c.args.terms.now c.args.key c.index-terms-key.result c.requires.within c.index-terms-key.is) in
-    home_from c.args.core.now.links c.args.terms.now (get nat_cmp c.args.keys.now) c.requires.keys n c.args.key here c.in_ok-broader.broader.items c.in_ok-found.found.items c.in_ok-broader.ensures
+    let here : HasKey c.args.terms.now n c.args.key = subst (λ m. HasKey c.args.terms.now m c.args.key)
+    (sym c.concept.ensures) (key_of_term c.args.terms.now c.args.key c.index-terms-key.result c.requires.within
+    c.index-terms-key.is) in
+    home_from c.args.core.now.links c.args.terms.now (get nat_cmp c.args.keys.now) c.requires.keys n c.args.key here
+    c.in_ok-broader.broader.items c.in_ok-found.found.items c.in_ok-broader.ensures
     (c.in_ok-found.ensures ∙ ap (filter_map (get nat_cmp c.args.keys.now)) c.as_slice.ensures.value) c.least.result
-    (subst (λ (ks : List ℕ). MatchOption c.least.result (length ks ≡ 0) (λ m. Contains ks m × ((k : ℕ) → Contains ks k → m ≤ k))) c.as_slice-2.ensures.value c.least.ensures)
+    (subst (λ (ks : List ℕ). MatchOption c.least.result (length ks ≡ 0)
+    (λ m. Contains ks m × ((k : ℕ) → Contains ks k → m ≤ k))) c.as_slice-2.ensures.value c.least.ensures)

@@ -1,6 +1,6 @@
 use Rattle.std.proofs.Common.{◌∙◌, ◌++◌, ◌∷◌, [], ap, true, None}
 use Rattle.std.proofs.lemmas.Option.{slice_get-get_or}
-use Rattle.thes_display.specs.Below.{child}
+use Rattle.thes_display.specs.ChildLists.{child}
 use Rattle.thes_display.proofs.TopLemmas.{tops_none, tops_whole, by_home}
 use Rattle.thes_display.proofs.gather.tops_of.Goals as goal
 use Rattle.thes_display.proofs.gather.tops_of.Goals.{then-is_none+in_ok-push, else-is_none}
@@ -13,8 +13,12 @@ loop-key-preserved c =
     let at = slice_get-get_or c.args.homes.now c.loop-key.key None c.loop-key-test.true in
     let is = c.is_none.ensures in
     elim c.if-is_none.branch [
-      | then-is_none+in_ok-push w ↦ by_home c.args.homes.now c.loop-key.key c.loop-key.tops.items c.if-is_none.tops.items _ c.is_none.result c.loop-key.invariant at is (λ e. ap (λ v. v.items) w.tops-is ∙ w.in_ok-push.ensures.items ∙ ap (λ t. c.loop-key.tops.items ++ child c.loop-key.key t true ∷ []) w.untyped.ensures) (λ e. absurd (cc))
-      | else-is_none w ↦ by_home c.args.homes.now c.loop-key.key c.loop-key.tops.items c.if-is_none.tops.items _ c.is_none.result c.loop-key.invariant at is (λ e. absurd (cc)) (λ e. ap (λ v. v.items) w.tops-is)
+      | then-is_none+in_ok-push w ↦ by_home c.args.homes.now c.loop-key.key c.loop-key.tops.items
+          c.if-is_none.tops.items _ c.is_none.result c.loop-key.invariant at is (λ e. ap (λ v. v.items) w.tops-is
+          ∙ w.in_ok-push.ensures.items ∙ ap (λ t. c.loop-key.tops.items ++ child c.loop-key.key t true ∷ [])
+          w.untyped.ensures) (λ e. absurd (cc))
+      | else-is_none w ↦ by_home c.args.homes.now c.loop-key.key c.loop-key.tops.items c.if-is_none.tops.items _
+          c.is_none.result c.loop-key.invariant at is (λ e. absurd (cc)) (λ e. ap (λ v. v.items) w.tops-is)
     ]
 
 pub returns : goal.returns

@@ -1,4 +1,4 @@
-use Rattle.thes_display.proofs.HomeLines.{one_home}
+use Rattle.thes_display.proofs.HomeLineLemmas.{one_home}
 use Rattle.thes_display.proofs.laws.one_home.Goals as goal
 
 pub returns : goal.returns

@@ -5,4 +5,5 @@ use Rattle.thes_exchange.specs.Members.{all_numbers}
 use Rattle.thes_exchange.proofs.members.all_numbers.Given as goal
 
 abbrev pub invariant-loop-value : goal.invariant-loop-value
-invariant-loop-value l = all_numbers (items_view (take l.value-index l.values)) ≡ Some (map (λ n. number_view n.now) l.numbers.items)
+invariant-loop-value l = all_numbers (items_view (take l.value-index l.values))
+    ≡ Some (map (λ n. number_view n.now) l.numbers.items)

@@ -6,4 +6,5 @@ use Rattle.thes_exchange.proofs.request.post_nos.Goals as goal
 pub returns-in_err-post_no : goal.returns-in_err-post_no
 returns-in_err-post_no c =
     let stop : c.from_residual.result ≡ Err c.in_err-post_no.field-0.0 = search rules in
-    rw stop (not_numbers (λ n. number_view n.now) c.args.numbers.now c.loop-number.number-index c.number-item.result c.loop-number-test.true c.number-item.is _ c.in_err-post_no.ensures)
+    rw stop (not_numbers (λ n. number_view n.now) c.args.numbers.now c.loop-number.number-index c.number-item.result
+    c.loop-number-test.true c.number-item.is _ c.in_err-post_no.ensures)

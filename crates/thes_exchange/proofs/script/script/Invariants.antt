@@ -1,18 +1,20 @@
 use Rattle.std.proofs.Common.{◌≡◌, ◌≤◌, ◌-◌, false, true}
 use Rattle.thes_base.specs.Pipe.{IsFresh, failed_of, denied_of}
 use Rattle.thes_base.proofs.PipeLemmas.{HasLeft}
-use Rattle.thes_exchange.specs.Script.{lines_limit, scene}
+use Rattle.thes_exchange.specs.Script.{lines_limit, session}
 use Rattle.thes_exchange.specs.Serving.{Serves}
-use Rattle.thes_exchange.specs.Served.{Served}
+use Rattle.thes_exchange.specs.ScriptSteps.{ScriptProgress}
 use Rattle.thes_exchange.proofs.script.script.Given as goal
 
 abbrev pub invariant-loop-ended : goal.invariant-loop-ended
 invariant-loop-ended g l = record {
-  served : Served g.R.Read.remaining g.W.Write.contents (Serves g.D.Desk.performs g.D.Desk.shows)
-      (scene l.fn.reader l.fn.writer l.fn.desk) (scene l.reader l.writer l.desk) l.lines.feed l.lines.count l.ended;
+  served : ScriptProgress g.R.Read.remaining g.W.Write.contents
+      (Serves g.D.RequestHandler.performs g.D.RequestHandler.shows)
+      (session l.fn.reader l.fn.writer l.fn.handler) (session l.reader l.writer l.handler) l.lines.feed l.lines.count
+      l.ended;
   reader : (failed_of l.reader ≡ false) × (denied_of l.reader ≡ false);
   writer : IsFresh l.writer;
-  stays_open : g.D.Desk.is_open l.desk ≡ true;
+  stays_open : g.D.RequestHandler.is_open l.handler ≡ true;
   within : l.lines.count ≤ lines_limit;
   calls : HasLeft l.fn.reader l.reader l.fn.writer l.writer l.budget;
 }

@@ -1,7 +1,7 @@
 use Rattle.std.proofs.Common.{◌≡◌, ◌+◌, take, true, false, is_none, sym, ◌∙◌, arith}
 use Rattle.serde_json.specs.Events.{members_len}
 use Rattle.thes_exchange.specs.Tree.{members_view}
-use Rattle.thes_exchange.proofs.TreeLemmas.{names_next, names_so_far}
+use Rattle.thes_exchange.proofs.TreeLemmas.{names_next, names_of_prefix}
 use Rattle.thes_exchange.proofs.tree.has_names.Goals as goal
 use Rattle.thes_exchange.proofs.tree.has_names.Goals.{then-is_none+else-names-count, else-is_none}
 
@@ -12,7 +12,7 @@ returns-then-names-count c =
     let next = names_next xs i c.index-members-index.result c.member.result c.loop-index-test.true c.member.ensures in
     let new : is_none c.member.result ≡ true = grind arith in
     let more : members_len (members_view (take (i + 1) xs)) ≡ c.args.count + 1 = next ∙ rw new (grind arith) in
-    let all = names_so_far xs (i + 1) in
+    let all = names_of_prefix xs (i + 1) in
     grind (arith, more, all)
 
 pub loop-index-preserved : goal.loop-index-preserved
@@ -21,6 +21,8 @@ loop-index-preserved c =
     let i = c.loop-index.index in
     let next = names_next xs i c.index-members-index.result c.member.result c.loop-index-test.true c.member.ensures in
     elim c.if-is_none.branch [
-      | then-is_none+else-names-count w ↦ let new : is_none c.member.result ≡ true = grind arith in (w.names-is ∙ sym (next ∙ rw new (grind arith)), grind arith)
-      | else-is_none w ↦ let old : is_none c.member.result ≡ false = grind arith in (w.names-is ∙ sym (next ∙ rw old (grind arith)), grind arith)
+      | then-is_none+else-names-count w ↦ let new : is_none c.member.result ≡ true = grind arith in
+          (w.names-is ∙ sym (next ∙ rw new (grind arith)), grind arith)
+      | else-is_none w ↦ let old : is_none c.member.result ≡ false = grind arith in
+          (w.names-is ∙ sym (next ∙ rw old (grind arith)), grind arith)
     ]

@@ -4,7 +4,9 @@ use Rattle.thes_exchange.specs.Tree.{members_view}
 use Rattle.thes_exchange.proofs.tree.member.Given as goal
 
 abbrev pub invariant-loop-left : goal.invariant-loop-left
-invariant-loop-left l = (get_member l.name (members_view l.members) ≡ get_member l.name (members_view (take l.left l.members))) × (l.left ≤ length l.members)
+invariant-loop-left l =
+    (get_member l.name (members_view l.members) ≡ get_member l.name (members_view (take l.left l.members)))
+    × (l.left ≤ length l.members)
 
 abbrev pub decreases-loop-left : goal.decreases-loop-left
 decreases-loop-left l = l.left

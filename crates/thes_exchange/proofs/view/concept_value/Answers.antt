@@ -9,4 +9,5 @@ pub returns : goal.returns
 returns c =
     let empty : members_view c.new-members.result.entries ≡ no_members = search rules in
     view-Object c.put_facts.new.members
-    ∙ concept_members c.args.concept.now _ _ _ _ empty c.in_ok-put_labels.ensures c.in_ok-put_links.ensures c.in_ok-put_facts.ensures
+    ∙ concept_members c.args.concept.now _ _ _ _ empty c.in_ok-put_labels.ensures c.in_ok-put_links.ensures
+    c.in_ok-put_facts.ensures

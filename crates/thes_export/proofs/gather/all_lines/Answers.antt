@@ -4,7 +4,8 @@ use Rattle.thes_export.proofs.GatherLemmas.{none_up, one_up}
 use Rattle.thes_export.proofs.gather.all_lines.Goals as goal
 
 pub loop-i-init : goal.loop-i-init
-loop-i-init c = subst (λ (xs : List (List ℕ)). Adds (IsLineOf (IsUpTo c.args.core.now 0)) [] xs) (sym c.new-lines.ensures.items) (none_up c.args.core.now [])
+loop-i-init c = subst (λ (xs : List (List ℕ)). Adds (IsLineOf (IsUpTo c.args.core.now 0)) [] xs)
+    (sym c.new-lines.ensures.items) (none_up c.args.core.now [])
 
 pub loop-i-preserved : goal.loop-i-preserved
 loop-i-preserved c = one_up c.args.core.now c.loop-i.i [] _ _ c.loop-i.invariant c.in_ok-push_at.ensures

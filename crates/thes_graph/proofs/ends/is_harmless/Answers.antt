@@ -4,4 +4,5 @@ use Rattle.thes_graph.proofs.ends.is_harmless.Goals as goal
 
 pub returns-then-is_loose : goal.returns-then-is_loose
 returns-then-is_loose g c = λ _.
-    unbroken_loose (HeldIn (g.L.Links.held c.args.links.now)) c.args.new.now c.requires.unbroken c.if-is_loose.ensures.0 c.if-is_loose.ensures.1 c.if-is_loose.ensures.2 c.if-is_loose.ensures.3
+    unbroken_loose (HeldIn (g.L.Links.held c.args.links.now)) c.args.new.now c.requires.unbroken
+    c.if-is_loose.ensures.0 c.if-is_loose.ensures.1 c.if-is_loose.ensures.2 c.if-is_loose.ensures.3

@@ -1,13 +1,16 @@
 use Rattle.std.proofs.Common.{subst}
 use Rattle.thes_base.specs.declared.data.Link.{Link}
 use Rattle.thes_base.specs.Neighbourhood.{Add}
-use Rattle.thes_graph.specs.Judge.{AreFewVisits}
+use Rattle.thes_graph.specs.EditChecks.{AreFewVisits}
 use Rattle.thes_graph.proofs.NeighbourhoodLemmas.{add_neighbourhood}
 use Rattle.thes_graph.proofs.judge.judge_add.Goals as goal
 
 pub returns-clause-count : goal.returns-clause-count
 returns-clause-count g c =
-    subst (λ (new : Link). AreFewVisits (g.L.Links.outside c.args.links.now) (Add new) (g.L.Links.held c.args.links.now) (g.L.Links.count c.args.links.now) (g.L.Links.count c.judge_normal.new.links))
+    subst (λ (new : Link). AreFewVisits (g.L.Links.outside c.args.links.now) (Add new)
+    (g.L.Links.held c.args.links.now) (g.L.Links.count c.args.links.now)
+    (g.L.Links.count c.check_normal_link.new.links))
     c.normal-new.ensures
-    (λ ns has. let near = add_neighbourhood (g.L.Links.outside c.args.links.now) (g.L.Links.held c.args.links.now) ns c.normal-new.result has in
+    (λ ns has. let near = add_neighbourhood (g.L.Links.outside c.args.links.now) (g.L.Links.held c.args.links.now) ns
+    c.normal-new.result has in
     c.in_ok-answer.ensures.count ns near.0 near.1)

@@ -1,34 +1,46 @@
 use Rattle.std.proofs.Common.{List, ◌+◌, ◌*◌, ◌≤◌, length, arith, None, true, false}
 use Rattle.thes_base.specs.declared.data.Link.{Link}
 use Rattle.thes_graph.specs.Local.{IsS46At, NoS46At, CoversNear}
-use Rattle.thes_graph.specs.Sight.{WouldBe}
-use Rattle.thes_graph.specs.Trail.{IsBrokenBetween}
+use Rattle.thes_graph.specs.LinkEdit.{HeldAfter}
+use Rattle.thes_graph.specs.SideSearch.{IsBrokenBetween}
 use Rattle.thes_graph.proofs.ProbeLemmas.{IsFirstBrokenAt-between, near_pivot}
 use Rattle.thes_graph.proofs.judge.probe.Given.{Over}
 use Rattle.thes_graph.proofs.judge.probe.Goals as goal
 use Rattle.thes_graph.proofs.judge.probe.Goals.{In_ok-breaks_class}
 
--- what the walks and the class have read
-cost : (g : Over) (c : In_ok-breaks_class g) (ns : List Link) → CoversNear c.args.sight.now (g.L.Links.held c.args.links.now) c.args.pivot ns
+-- The visits of the searches and of the class of exact matches.
+cost : (g : Over) (c : In_ok-breaks_class g) (ns : List Link) → CoversNear c.args.edit.now
+    (g.L.Links.held c.args.links.now) c.args.pivot ns
     → g.L.Links.count c.breaks_class.new.links ≤ g.L.Links.count c.args.links.now + 6 * length ns
 cost g c ns covers =
-    let one : g.L.Links.count c.judge_between.new.links ≤ g.L.Links.count c.args.links.now + 4 * length ns =
-    c.in_ok-refusal.ensures.count ns (λ n near. covers n (near_pivot (WouldBe c.args.sight.now (g.L.Links.held c.args.links.now)) c.args.pivot n near)) in
-    let two : g.L.Links.count c.breaks_class.new.links ≤ g.L.Links.count c.judge_between.new.links + 2 * length ns = c.in_ok-breaks_class.ensures.count ns (rw c.in_ok-refusal.ensures.held covers) in
+    let one : g.L.Links.count c.check_upward_link.new.links ≤ g.L.Links.count c.args.links.now + 4 * length ns =
+    c.in_ok-refusal.ensures.count ns
+    (λ n near. covers n (near_pivot (HeldAfter c.args.edit.now (g.L.Links.held c.args.links.now)) c.args.pivot n
+    near)) in
+    let two : g.L.Links.count c.breaks_class.new.links ≤ g.L.Links.count c.check_upward_link.new.links + 2
+    * length ns = c.in_ok-breaks_class.ensures.count ns (rw c.in_ok-refusal.ensures.held covers) in
     omega (arith, one, two)
 
 pub returns-in-Some-clause-first : goal.returns-in-Some-clause-first
 returns-in-Some-clause-first g c =
-    IsFirstBrokenAt-between (WouldBe c.args.sight.now (g.L.Links.held c.args.links.now)) c.args.pivot c.in-Some.refusal (rw c.in-Some.is at c.in_ok-refusal.ensures.broken)
+    IsFirstBrokenAt-between (HeldAfter c.args.edit.now (g.L.Links.held c.args.links.now)) c.args.pivot
+    c.in-Some.refusal (rw c.in-Some.is at c.in_ok-refusal.ensures.broken)
 
 pub returns-in-Some-clause-count : goal.returns-in-Some-clause-count
 returns-in-Some-clause-count g c ns covers =
-    omega (arith, c.in_ok-refusal.ensures.count ns (λ n near. covers n (near_pivot (WouldBe c.args.sight.now (g.L.Links.held c.args.links.now)) c.args.pivot n near)))
+    omega (
+      arith,
+      c.in_ok-refusal.ensures.count ns
+          (λ n near. covers n (near_pivot (HeldAfter c.args.edit.now (g.L.Links.held c.args.links.now)) c.args.pivot n
+          near)),
+    )
 
 pub returns-then-branch-clause-first : goal.returns-then-branch-clause-first
 returns-then-branch-clause-first g c =
-    let none : IsBrokenBetween (WouldBe c.args.sight.now (g.L.Links.held c.args.links.now)) c.args.pivot c.args.pivot None = rw c.in-None.is at c.in_ok-refusal.ensures.broken in
-    let found : IsS46At (WouldBe c.args.sight.now (g.L.Links.held c.args.links.now)) c.args.pivot = rw (c.if-branch.true, c.in_ok-refusal.ensures.held) at c.in_ok-breaks_class.ensures.found in
+    let none : IsBrokenBetween (HeldAfter c.args.edit.now (g.L.Links.held c.args.links.now)) c.args.pivot c.args.pivot
+    None = rw c.in-None.is at c.in_ok-refusal.ensures.broken in
+    let found : IsS46At (HeldAfter c.args.edit.now (g.L.Links.held c.args.links.now)) c.args.pivot =
+    rw (c.if-branch.true, c.in_ok-refusal.ensures.held) at c.in_ok-breaks_class.ensures.found in
     (none.0, none.1, found)
 
 pub returns-then-branch-clause-count : goal.returns-then-branch-clause-count
@@ -36,8 +48,10 @@ returns-then-branch-clause-count g c = cost g (goal.at.returns-then-branch-claus
 
 pub returns-clause-first : goal.returns-clause-first
 returns-clause-first g c =
-    let none : IsBrokenBetween (WouldBe c.args.sight.now (g.L.Links.held c.args.links.now)) c.args.pivot c.args.pivot None = rw c.in-None.is at c.in_ok-refusal.ensures.broken in
-    let off : NoS46At (WouldBe c.args.sight.now (g.L.Links.held c.args.links.now)) c.args.pivot = rw (c.if-branch.false, c.in_ok-refusal.ensures.held) at c.in_ok-breaks_class.ensures.found in
+    let none : IsBrokenBetween (HeldAfter c.args.edit.now (g.L.Links.held c.args.links.now)) c.args.pivot c.args.pivot
+    None = rw c.in-None.is at c.in_ok-refusal.ensures.broken in
+    let off : NoS46At (HeldAfter c.args.edit.now (g.L.Links.held c.args.links.now)) c.args.pivot =
+    rw (c.if-branch.false, c.in_ok-refusal.ensures.held) at c.in_ok-breaks_class.ensures.found in
     (none.0, none.1, off)
 
 pub returns-clause-count : goal.returns-clause-count

@@ -1,5 +1,5 @@
 use Rattle.std.proofs.Common.{take}
-use Rattle.thes_graph.specs.Met.{AreMarked}
+use Rattle.thes_graph.specs.NodeSet.{AreMarked}
 use Rattle.thes_graph.proofs.marks.mark_all.Given as goal
 
 abbrev pub invariant-loop-n : goal.invariant-loop-n

@@ -6,8 +6,10 @@ use Rattle.thes_graph.proofs.side.count_until.Goals as goal
 
 pub returns-in-Some-clause-place : goal.returns-in-Some-clause-place
 returns-in-Some-clause-place c = λ by.
-    IsPartitionPoint-from_clause (λ s. leb (number_of s) c.args.number) c.args.row.now c.partition_point.result c.partition_point.ensures.partitioned by (λ a r g called. search rules)
+    IsPartitionPoint-from_clause (λ s. leb (number_of s) c.args.number) c.args.row.now c.partition_point.result
+    c.partition_point.ensures.partitioned by (λ a r g called. search rules)
 
 pub returns-in_default-clause-place : goal.returns-in_default-clause-place
 returns-in_default-clause-place c =
-    all_pass (λ s. leb (number_of s) c.args.number) c.args.row.now c.in-Some.last.now (sym c.in-Some.ensures.value) (sym c.is_until.ensures ∙ c.if-not-is_until.false)
+    all_pass (λ s. leb (number_of s) c.args.number) c.args.row.now c.in-Some.last.now (sym c.in-Some.ensures.value)
+    (sym c.is_until.ensures ∙ c.if-not-is_until.false)

@@ -12,7 +12,8 @@ loop-i-preserved g c = record {
       c.in_ok-push-in-Some.ensures.items
       ∙ ap (λ xs. xs ++ c.in-Some.link ∷ []) c.loop-i.invariant.so_far
       ∙ sym (take_next (g.L.Links.links_of c.args.links.now c.args.node) c.loop-i.i c.in-Some.link
-      (c.in-Some.ensures.link ∙ ap (λ (f : ℕ → List Link). slice_get (f c.args.node) c.loop-i.i) c.loop-i.invariant.rows));
+      (c.in-Some.ensures.link ∙ ap (λ (f : ℕ → List Link). slice_get (f c.args.node) c.loop-i.i)
+      c.loop-i.invariant.rows));
   count = omega (arith, c.in-Some.ensures.count, c.loop-i.invariant.count);
   within = omega (arith, c.in_ok-push-in-Some.ensures.len, c.loop-i.invariant.within);
 }

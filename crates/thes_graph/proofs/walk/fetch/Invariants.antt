@@ -1,7 +1,7 @@
 use Rattle.std.proofs.Common.{◌≡◌, ◌+◌, ◌≤◌, length, take}
 use Rattle.thes_graph.proofs.walk.fetch.Given as goal
 
--- the links so far, each with its visit
+-- The links read so far, with at most one visit each.
 abbrev pub invariant-loop-i : goal.invariant-loop-i
 invariant-loop-i g l = record {
   held : g.L.Links.held l.links ≡ g.L.Links.held l.fn.links;

@@ -6,9 +6,12 @@ use Rattle.thes_graph.proofs.walk.some_ties.Goals as goal
 
 pub loop-link-preserved : goal.loop-link-preserved
 loop-link-preserved c k d lt =
-    below_more (λ (k : ℕ). (d : Link) → Ties c.args.relation (get_or c.args.links.now k d) c.args.xs.now c.args.ys.now → ⊥) c.loop-link.link-index
+    below_more (λ (k : ℕ). (d : Link) → Ties c.args.relation (get_or c.args.links.now k d) c.args.xs.now c.args.ys.now
+    → ⊥) c.loop-link.link-index
     (λ k lt d. c.loop-link.invariant k d lt)
-    (λ d tied. c.if-ties.ensures (let P : Link → Type 0 = λ w. Ties c.args.relation w c.args.xs.now c.args.ys.now in subst P (get_or_default c.args.links.now c.loop-link.link-index d c.link-item.result (omega arith) ∙ sym c.link-item.is) tied))
+    (λ d tied. c.if-ties.ensures (let P : Link → Type 0 = λ w. Ties c.args.relation w c.args.xs.now c.args.ys.now in
+    subst P (get_or_default c.args.links.now c.loop-link.link-index d c.link-item.result (omega arith)
+    ∙ sym c.link-item.is) tied))
     k lt d
 
 pub returns : goal.returns

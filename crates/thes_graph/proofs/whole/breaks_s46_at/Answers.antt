@@ -9,23 +9,27 @@ use Rattle.thes_graph.proofs.whole.breaks_s46_at.Goals as goal
 pub returns-then-some_ties-clause-found : goal.returns-then-some_ties-clause-found
 returns-then-some_ties-clause-found g c =
     S46-witness (HeldIn (g.L.Links.held c.args.links.now)) c.requires.two_ends c.args.n
-    (s46_found (HeldIn (g.L.Links.held c.args.links.now)) c.args.n c.in_ok-same.same.nodes c.in_ok-same.same.links.items c.in_ok-same.ensures.gathered
+    (s46_found (HeldIn (g.L.Links.held c.args.links.now)) c.args.n c.in_ok-same.same.nodes
+    c.in_ok-same.same.links.items c.in_ok-same.ensures.gathered
     (rw (c.deref.ensures.value, c.if-some_ties.true) at c.some_ties.ensures))
 
 pub returns-clause-found : goal.returns-clause-found
 returns-clause-found g c =
-    c.in_ok-add_done.ensures.taken c.args.n (rw c.as_slice.ensures (c.in_ok-same.ensures.gathered.reach.complete c.args.n (inl refl)))
+    c.in_ok-add_done.ensures.has_new c.args.n
+    (rw c.as_slice.ensures (c.in_ok-same.ensures.gathered.reach.complete c.args.n (inl refl)))
 
-pub returns-clause-kept : goal.returns-clause-kept
-returns-clause-kept g c m has =
-    rw c.in_ok-add_done.ensures.kept.1 (Contains-append_left c.args.done.now c.in_ok-add_done.ensures.kept.0 m has)
+pub returns-clause-extends : goal.returns-clause-extends
+returns-clause-extends g c m has =
+    rw c.in_ok-add_done.ensures.extends.1 (Contains-append_left c.args.done.now c.in_ok-add_done.ensures.extends.0 m
+    has)
 
 pub returns-clause-done : goal.returns-clause-done
 returns-clause-done g c m has =
-    elim (c.in_ok-add_done.ensures.only m has) [
+    elim (c.in_ok-add_done.ensures.no_others m has) [
       | inl old ↦ c.requires.done m old
       | inr new ↦ class_free (HeldIn (g.L.Links.held c.args.links.now)) c.args.n m
-          (s46_none (HeldIn (g.L.Links.held c.args.links.now)) c.args.n c.in_ok-same.same.nodes c.in_ok-same.same.links.items c.in_ok-same.ensures.gathered
+          (s46_none (HeldIn (g.L.Links.held c.args.links.now)) c.args.n c.in_ok-same.same.nodes
+          c.in_ok-same.same.links.items c.in_ok-same.ensures.gathered
           (rw (c.deref.ensures.value, c.if-some_ties.false) at c.some_ties.ensures))
           (c.in_ok-same.ensures.gathered.reach.sound m (rw c.as_slice.ensures at new))
     ]

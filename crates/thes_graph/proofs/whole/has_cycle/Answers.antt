@@ -2,20 +2,22 @@ use Rattle.std.proofs.Common.{◌+◌, ℕ, List, Contains, ap, ◌∙◌, arith
 use Rattle.thes_base.specs.Links.{HeldIn}
 use Rattle.thes_graph.proofs.WholeLemmas.{HoldsBelow, holds_more, holds_all, no_cycle_all}
 use Rattle.thes_graph.proofs.whole.has_cycle.Goals as goal
-use Rattle.thes_graph.proofs.whole.has_cycle.Goals.{else-not-has-via-then-not-has+in_ok-climb+else-branch, else-not-has-via-else-not-has}
+use Rattle.thes_graph.proofs.whole.has_cycle.Goals.{else-not-has-via-then-not-has+in_ok-find_cycle+else-branch}
+use Rattle.thes_graph.proofs.whole.has_cycle.Goals.{else-not-has-via-else-not-has}
 
-pub climb-requires : goal.climb-requires
-climb-requires g c = rw c.loop-link.invariant.held c.loop-link.invariant.free
+pub find_cycle-requires : goal.find_cycle-requires
+find_cycle-requires g c = rw c.loop-link.invariant.held c.loop-link.invariant.free
 
 pub loop-link-preserved : goal.loop-link-preserved
 loop-link-preserved g c =
     elim c.else-not-has.branch [
-      | else-not-has-via-then-not-has+in_ok-climb+else-branch w ↦ record {
-        held = ap g.L.Links.held w.links-is ∙ w.in_ok-climb.ensures.held ∙ c.loop-link.invariant.held;
-        free = rw (w.done-is, ← c.loop-link.invariant.held) (w.in_ok-climb.ensures.done w.if-branch.false);
+      | else-not-has-via-then-not-has+in_ok-find_cycle+else-branch w ↦ record {
+        held = ap g.L.Links.held w.links-is ∙ w.in_ok-find_cycle.ensures.held ∙ c.loop-link.invariant.held;
+        free = rw (w.done-is, ← c.loop-link.invariant.held) (w.in_ok-find_cycle.ensures.done w.if-branch.false);
         done =
             rw w.done-is
-            (more w.climb.new.done w.in_ok-climb.ensures.kept (rw w.if-branch.false at w.in_ok-climb.ensures.found));
+            (more w.find_cycle.new.done w.in_ok-find_cycle.ensures.extends
+            (rw w.if-branch.false at w.in_ok-find_cycle.ensures.found));
       }
       | else-not-has-via-else-not-has w ↦ record {
         held = ap g.L.Links.held w.links-is ∙ c.loop-link.invariant.held;
@@ -24,12 +26,16 @@ loop-link-preserved g c =
       }
     ]
   where
-    more : (done : List ℕ) → ((m : ℕ) → Contains c.loop-link.done m → Contains done m) → Contains done c.link-item.result.a → HoldsBelow (λ m. Contains done m.a) c.args.all.now (c.loop-link.link-index + 1)
-    more done kept now =
-        holds_more (λ m. Contains done m.a) c.args.all.now c.loop-link.link-index c.link-item.result c.loop-link-test.true c.link-item.is
-        (λ k d lt. kept _ (c.loop-link.invariant.done k d lt)) now
+    more : (done : List ℕ) → ((m : ℕ) → Contains c.loop-link.done m → Contains done m)
+        → Contains done c.link-item.result.a → HoldsBelow (λ m. Contains done m.a) c.args.all.now
+        (c.loop-link.link-index + 1)
+    more done extends now =
+        holds_more (λ m. Contains done m.a) c.args.all.now c.loop-link.link-index c.link-item.result
+        c.loop-link-test.true c.link-item.is
+        (λ k d lt. extends _ (c.loop-link.invariant.done k d lt)) now
 
 pub returns-clause-cycle : goal.returns-clause-cycle
 returns-clause-cycle g c =
     no_cycle_all (HeldIn (g.L.Links.held c.args.links.now))
-    (λ l held. c.loop-link.invariant.free l.a (holds_all (λ m. Contains c.loop-link.done m.a) c.args.all.now c.loop-link.link-index (omega arith) c.loop-link.invariant.done l (c.requires.complete l held)))
+    (λ l held. c.loop-link.invariant.free l.a (holds_all (λ m. Contains c.loop-link.done m.a) c.args.all.now
+    c.loop-link.link-index (omega arith) c.loop-link.invariant.done l (c.requires.complete l held)))

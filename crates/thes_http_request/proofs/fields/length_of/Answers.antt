@@ -14,14 +14,17 @@ returns-in_default c =
 pub returns-in-Ok-parse : goal.returns-in-Ok-parse
 returns-in-Ok-parse c =
     let digits : is_length c.args.text.now ≡ true = search rules in
-    sym (length_read c.args.limit c.args.text.now c.in-Ok.digits.now digits (search rules) c.in-Ok-parse.length c.in-Ok-parse.ensures.value.0 c.if-length-limit.true)
+    sym (length_read c.args.limit c.args.text.now c.in-Ok.digits.now digits (search rules) c.in-Ok-parse.length
+    c.in-Ok-parse.ensures.value.0 c.if-length-limit.true)
 
 pub returns-in_default-parse : goal.returns-in_default-parse
 returns-in_default-parse c =
     let digits : is_length c.args.text.now ≡ true = search rules in
-    sym (length_over c.args.limit c.args.text.now c.in-Ok.digits.now digits (search rules) c.in-Ok-parse.length c.in-Ok-parse.ensures.value.0 c.if-length-limit.false)
+    sym (length_over c.args.limit c.args.text.now c.in-Ok.digits.now digits (search rules) c.in-Ok-parse.length
+    c.in-Ok-parse.ensures.value.0 c.if-length-limit.false)
 
 pub returns-in_default-parse-2 : goal.returns-in_default-parse-2
 returns-in_default-parse-2 c =
     let digits : is_length c.args.text.now ≡ true = search rules in
-    sym (length_unread c.args.limit c.args.text.now c.in-Ok.digits.now digits (search rules) c.in_default-parse.ensures.value.0 c.ranges.limit.fits)
+    sym (length_unread c.args.limit c.args.text.now c.in-Ok.digits.now digits (search rules)
+    c.in_default-parse.ensures.value.0 c.ranges.limit.fits)

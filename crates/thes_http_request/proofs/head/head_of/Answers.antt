@@ -3,7 +3,9 @@ use Rattle.httparse.specs.Grammar.{HasNoRequest}
 use Rattle.thes_http_request.specs.Heads.{fields_limit, whole_lines}
 use Rattle.thes_http_request.proofs.HeadLemmas.{none_of_never}
 use Rattle.thes_http_request.proofs.head.head_of.Goals as goal
-use Rattle.thes_http_request.proofs.head.head_of.Goals.{in-Ok-Partial, in-Err, else-may_come-via-then-may_come+else-whole_lines-le-LINES_LIMIT, else-may_come-via-else-may_come}
+use Rattle.thes_http_request.proofs.head.head_of.Goals.{in-Ok-Partial, in-Err}
+use Rattle.thes_http_request.proofs.head.head_of.Goals.{else-may_come-via-then-may_come+else-whole_lines-le-LINES_LIMIT}
+use Rattle.thes_http_request.proofs.head.head_of.Goals.{else-may_come-via-else-may_come}
 
 pub returns-else-may_come-clause-bad : goal.returns-else-may_come-clause-bad
 returns-else-may_come-clause-bad c = λ h.

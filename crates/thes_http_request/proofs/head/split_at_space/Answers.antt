@@ -14,5 +14,8 @@ returns-in_err-at c =
 pub returns : goal.returns
 returns c =
     let line = c.args.line.now in
-    let found = position_or_len_is is_space line c.in_ok-at.at 0 (search rules) (search rules) (search rules) in
-    (list_any_at is_space line c.in_ok-at.at 0 (search rules) (search rules), ap (λ n. take n line) (sym found), take_rest line _ ∙ ap (λ n. drop (n + 1) line) (sym found))
+    let found = position_or_len_is is_space line c.in_ok-at.at 0 (search rules) (search rules) (search rules) in (
+      list_any_at is_space line c.in_ok-at.at 0 (search rules) (search rules),
+      ap (λ n. take n line) (sym found),
+      take_rest line _ ∙ ap (λ n. drop (n + 1) line) (sym found),
+    )

@@ -11,8 +11,10 @@ loop-more-preserved-in-Some c =
 pub loop-more-preserved : goal.loop-more-preserved
 loop-more-preserved c =
     let s = c.in-Some-strip_prefix.ensures.cases in
-    ap without_blank_lines s.1 ∙ (sym (blank_return c.loop-more.rest.now c.in_default.ensures.cases s.0) ∙ c.loop-more.invariant)
+    ap without_blank_lines s.1 ∙ (sym (blank_return c.loop-more.rest.now c.in_default.ensures.cases s.0)
+    ∙ c.loop-more.invariant)
 
 pub returns-in_default-strip_prefix : goal.returns-in_default-strip_prefix
 returns-in_default-strip_prefix c =
-    sym (blank_end c.loop-more.rest.now c.in_default.ensures.cases c.in_default-strip_prefix.ensures.cases) ∙ c.loop-more.invariant
+    sym (blank_end c.loop-more.rest.now c.in_default.ensures.cases c.in_default-strip_prefix.ensures.cases)
+    ∙ c.loop-more.invariant

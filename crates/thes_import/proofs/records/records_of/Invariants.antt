@@ -6,6 +6,8 @@ use Rattle.csv.specs.declared.reader.Trim.TheVariants as trim
 use Rattle.thes_import.proofs.records.records_of.Given as goal
 
 abbrev pub invariant-loop-record : goal.invariant-loop-record
-invariant-loop-record l = (l.record-iterator.rdr.trim ≡ trim.None) × Ready l.record-iterator.rdr × (0 < l.record-iterator.left) × (l.record-iterator.rdr.config ≡ default_config)
+invariant-loop-record l = (l.record-iterator.rdr.trim ≡ trim.None) × Ready l.record-iterator.rdr
+    × (0 < l.record-iterator.left) × (l.record-iterator.rdr.config ≡ default_config)
     × (y : List ℕ) × (source_of (λ s. Some s.now) l.record-iterator.rdr ≡ Some y)
-    × Reached default_config st.StartRecord (strip_bom l.fn.bytes) (map fields_of l.records.items) l.record-iterator.rdr.state y
+    × Reached default_config st.StartRecord (strip_bom l.fn.bytes) (map fields_of l.records.items)
+    l.record-iterator.rdr.state y

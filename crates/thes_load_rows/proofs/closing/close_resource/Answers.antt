@@ -1,5 +1,5 @@
 use Rattle.std.proofs.Common.{◌∙◌, sym, true≢false}
-use Rattle.thes_load_rows.proofs.CloseSteps.{resource_bad, resource_good}
+use Rattle.thes_load_rows.proofs.StageCloseLemmas.{resource_bad, resource_good}
 use Rattle.thes_load_rows.proofs.closing.close_resource.Goals as goal
 
 pub new-requires : goal.new-requires
@@ -13,4 +13,5 @@ returns-in_ok-vocab c =
     (c.new-then-branch.ensures c.args.base c.args.load.resources.items c.in_ok-vocab.ensures)
 
 pub returns-else-branch : goal.returns-else-branch
-returns-else-branch c = resource_bad c.args.base c.args.load (λ rule. true≢false (sym (c.in_ok-close.ensures.1 rule) ∙ c.if-branch.false))
+returns-else-branch c = resource_bad c.args.base c.args.load
+    (λ rule. true≢false (sym (c.in_ok-close.ensures.1 rule) ∙ c.if-branch.false))

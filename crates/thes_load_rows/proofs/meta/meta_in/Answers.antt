@@ -1,10 +1,10 @@
 use Rattle.std.proofs.Common.{◌≡◌, ◌≢◌, ◌∙◌, ℕ, ℤ, pos, ◌≤ℤ◌, inl, inr, refl, sym, ap, subst, arith, rules, get_or}
 use Rattle.std.specs.Prelude.{Option, List, false}
 use Rattle.std.proofs.lemmas.Int.{ints}
-use Rattle.thes_base.specs.Forms.{IsBase, HasKeptForm}
+use Rattle.thes_base.specs.Forms.{IsBase, HasStoredForm}
 use Rattle.thes_tables.specs.declared.cells.Cell.{Cell}
 use Rattle.thes_tables.specs.declared.cells.Cell.TheVariants.{Int, Text}
-use Rattle.thes_load_rows.specs.Spelled.{Spells}
+use Rattle.thes_load_rows.specs.CellSpelling.{Spells}
 use Rattle.thes_load_rows.proofs.meta.meta_in.Goals as goal
 
 int_one : {x y : ℤ} → ◌≡◌ {A = Cell} (Int x) (Int y) → x ≡ y
@@ -22,6 +22,9 @@ returns-in-None c = (
         | inr older ↦ apart (same ∙ ap pos older)
       ],
   λ base form e.
-      let none : (x : List ℕ) → HasKeptForm IsBase false x → c.base-item.result ≡ Text x → ⊥ = subst (λ (o : Option (List ℕ)). Spells Text (HasKeptForm IsBase false) c.base-item.result o) c.in-None.is c.in_ok-base.ensures in
-      none base (record { form = form; stays = refl }) (c.base-item.is ∙ ap (λ (l : List Cell). get_or l 2 c.base-item.result) e),
+      let none : (x : List ℕ) → HasStoredForm IsBase false x → c.base-item.result ≡ Text x → ⊥ =
+      subst (λ (o : Option (List ℕ)). Spells Text (HasStoredForm IsBase false) c.base-item.result o) c.in-None.is
+      c.in_ok-base.ensures in
+      none base (record { form = form; stays = refl })
+      (c.base-item.is ∙ ap (λ (l : List Cell). get_or l 2 c.base-item.result) e),
 )

@@ -1,7 +1,7 @@
 use Rattle.std.proofs.Common.{arith, ◌≡◌, ◌+◌, ◌∷◌, drop, ◌∙◌}
 use Rattle.sqlite.specs.State.{HasCleanDisk}
 use Rattle.sqlite.specs.Held.{state}
-use Rattle.thes_sql.proofs.Runs.{taken, goes_on, keeps_then, survives_on}
+use Rattle.thes_sql.proofs.TransactionLemmas.{drop_next_change, under_way_next, keeps_then, survives_on}
 use Rattle.thes_sql.proofs.commit.apply_all.Goals as goal
 
 pub loop-change-preserved : goal.loop-change-preserved
@@ -12,13 +12,14 @@ loop-change-preserved g c =
     let changes = c.args.changes.now in
     let i = c.loop-change.change-index in
     let left : drop i changes ≡ c.change-item.result ∷ drop (i + 1) changes =
-    taken changes i c.change-item.result c.loop-change-test.true c.change-item.is in
+    drop_next_change changes i c.change-item.result c.loop-change-test.true c.change-item.is in
     let was : HasCleanDisk new → HasCleanDisk mid = λ (clean : HasCleanDisk new). omega
     (arith, c.apply.ensures.stays.1.clean) in
     record {
       same = c.apply.ensures.same_reference ∙ c.loop-change.invariant.same;
       far = λ clean inside. let far = c.loop-change.invariant.far (was clean) inside in
-          goes_on changes _ _ c.change-item.result old mid new left far (c.in_ok-apply.ensures.does clean far.inside);
+          under_way_next changes _ _ c.change-item.result old mid new left far
+          (c.in_ok-apply.ensures.does clean far.inside);
       kept = λ clean inside. let far = c.loop-change.invariant.far (was clean) inside in
           keeps_then old mid new (c.loop-change.invariant.kept (was clean) inside)
           (c.apply.ensures.stays.0 clean far.inside);

@@ -1,7 +1,7 @@
 use Rattle.std.proofs.Common.{◌≡◌, IsTrue, drop}
 use Rattle.sqlite.specs.State.{HasCleanDisk, KeepsCommit, Survives}
 use Rattle.sqlite.specs.Held.{state}
-use Rattle.thes_sql.specs.Does.{IsUnderWay}
+use Rattle.thes_sql.specs.TransactionEffects.{IsUnderWay}
 use Rattle.thes_sql.proofs.commit.apply_all.Given as goal
 
 abbrev pub invariant-loop-change : goal.invariant-loop-change

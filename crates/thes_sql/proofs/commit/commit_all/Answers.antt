@@ -1,6 +1,6 @@
 use Rattle.std.proofs.Common.{rules}
 use Rattle.sqlite.specs.Held.{state}
-use Rattle.thes_sql.proofs.Runs.{all_or_old}
+use Rattle.thes_sql.proofs.TransactionLemmas.{all_or_old}
 use Rattle.thes_sql.proofs.commit.commit_all.Goals as goal
 
 pub returns-in_err-commit-clause-crash : goal.returns-in_err-commit-clause-crash

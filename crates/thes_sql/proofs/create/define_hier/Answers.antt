@@ -1,4 +1,4 @@
-use Rattle.thes_sql.proofs.Defining.{does_hier}
+use Rattle.thes_sql.proofs.SchemaTextLemmas.{does_hier}
 use Rattle.thes_sql.proofs.create.define_hier.Goals as goal
 
 pub returns-clause-does : goal.returns-clause-does

@@ -1,6 +1,6 @@
 use Rattle.std.proofs.Common.{arith}
 use Rattle.sqlite.specs.Held.{state}
-use Rattle.thes_sql.proofs.Defining.{both_indexes}
+use Rattle.thes_sql.proofs.SchemaTextLemmas.{both_indexes}
 use Rattle.thes_sql.proofs.create.define_indexes.Goals as goal
 
 pub returns-clause-does : goal.returns-clause-does

@@ -1,6 +1,6 @@
 use Rattle.std.proofs.Common.{arith}
 use Rattle.sqlite.specs.Held.{state}
-use Rattle.thes_sql.proofs.Defining.{newer_empty, newer_enlarged}
+use Rattle.thes_sql.proofs.SchemaTextLemmas.{newer_empty, newer_enlarged}
 use Rattle.thes_sql.proofs.create.define_newer.Goals as goal
 
 pub returns-clause-does : goal.returns-clause-does

@@ -1,4 +1,4 @@
-use Rattle.thes_sql.proofs.Defining.{does_define}
+use Rattle.thes_sql.proofs.SchemaTextLemmas.{does_define}
 use Rattle.thes_sql.proofs.create.define_tables.Goals as goal
 
 pub returns-clause-does : goal.returns-clause-does

@@ -1,5 +1,5 @@
 use Rattle.sqlite.specs.Held.{state}
-use Rattle.thes_sql.proofs.Renewing.{does_copy}
+use Rattle.thes_sql.proofs.MigrationStepLemmas.{does_copy}
 use Rattle.thes_sql.proofs.migrate.copy_links.Goals as goal
 
 pub returns-clause-does : goal.returns-clause-does

@@ -1,5 +1,5 @@
 use Rattle.sqlite.specs.Held.{state}
-use Rattle.thes_sql.proofs.Renewing.{does_drop}
+use Rattle.thes_sql.proofs.MigrationStepLemmas.{does_drop}
 use Rattle.thes_sql.proofs.migrate.drop_copied.Goals as goal
 
 pub returns-clause-does : goal.returns-clause-does

@@ -1,5 +1,5 @@
 use Rattle.sqlite.specs.Held.{state}
-use Rattle.thes_sql.proofs.Renewing.{does_version}
+use Rattle.thes_sql.proofs.MigrationStepLemmas.{does_version}
 use Rattle.thes_sql.proofs.migrate.set_version.Goals as goal
 
 pub returns-clause-does : goal.returns-clause-does

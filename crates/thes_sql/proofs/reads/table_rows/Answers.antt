@@ -1,14 +1,15 @@
 use Rattle.std.proofs.Common.{[]}
 use Rattle.std.proofs.lemmas.Result.{IfErr-weaker, IfOk-weaker}
 use Rattle.thes_sql.specs.Reads.{read_text}
-use Rattle.thes_sql.proofs.Reading.{table_shown, whatever_shown, asks_table}
+use Rattle.thes_sql.proofs.SelectLemmas.{table_shown, whatever_shown, table_query_text}
 use Rattle.sqlite.specs.Held.{state}
-use Rattle.thes_sql.proofs.Leaving.{leaves_alone, is_understood}
+use Rattle.thes_sql.proofs.ReadFrameLemmas.{leaves_alone, is_understood}
 use Rattle.thes_sql.proofs.reads.table_rows.Goals as goal
 
 pub returns-clause-shows : goal.returns-clause-shows
 returns-clause-shows g c clean = IfOk-weaker c.query_all.result _ _
-    (λ out shown t keeps. table_shown c.args.table (state g.S.Store c.args.conn.now) (state g.S.Store c.query_all.new.self) t out.items
+    (λ out shown t keeps. table_shown c.args.table (state g.S.Store c.args.conn.now)
+    (state g.S.Store c.query_all.new.self) t out.items
     keeps shown) (rw c.table_text.ensures at (c.query_all.ensures.ok clean))
 
 pub returns-clause-whatever : goal.returns-clause-whatever
@@ -18,14 +19,15 @@ returns-clause-whatever g c clean is = IfOk-weaker c.query_all.result _ _
 
 pub returns-clause-understood : goal.returns-clause-understood
 returns-clause-understood g c clean has =
-    let asks = asks_table c.args.table in
-    IfErr-weaker c.query_all.result _ _ (λ e fails fault. is_understood (read_text c.args.table) [] (state g.S.Store c.args.conn.now)
+    let asks = table_query_text c.args.table in
+    IfErr-weaker c.query_all.result _ _ (λ e fails fault. is_understood (read_text c.args.table) []
+    (state g.S.Store c.args.conn.now)
     (state g.S.Store c.query_all.new.self) _ asks.0 has asks.1 asks.3 e fault fails)
     (rw c.table_text.ensures at (c.query_all.ensures.err clean))
 
 pub returns-clause-leaves : goal.returns-clause-leaves
 returns-clause-leaves g c = leaves_alone g.S.Store (read_text c.args.table) [] c.args.conn.now c.query_all.new.self
-    c.query_all.result (λ rows. rows.items) (asks_table c.args.table).3 c.query_all.ensures.mode
+    c.query_all.result (λ rows. rows.items) (table_query_text c.args.table).3 c.query_all.ensures.mode
     (rw c.table_text.ensures at c.query_all.ensures.ok)
     (rw c.table_text.ensures at c.query_all.ensures.err)
     (rw c.table_text.ensures at c.query_all.ensures.survives)

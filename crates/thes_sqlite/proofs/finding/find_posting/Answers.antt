@@ -1,5 +1,5 @@
 use Rattle.std.proofs.Common.{sym, ◌∙◌}
-use Rattle.thes_sqlite.proofs.LookedUp.{found_first, found_none}
+use Rattle.thes_sqlite.proofs.PostingLookUpLemmas.{found_first, found_none}
 use Rattle.thes_sqlite.proofs.finding.find_posting.Goals as goal
 
 pub returns-in_default-clause-ok : goal.returns-in_default-clause-ok

@@ -1,5 +1,5 @@
 use Rattle.std.proofs.Common.{◌≡◌, take}
-use Rattle.thes_sql.specs.Stored.{values}
+use Rattle.thes_sql.specs.StoredRows.{values}
 use Rattle.thes_sqlite.proofs.rows.cells_of.Given as goal
 
 abbrev pub invariant-columns : goal.invariant-columns

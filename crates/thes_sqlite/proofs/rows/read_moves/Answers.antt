@@ -1,8 +1,8 @@
 use Rattle.std.proofs.Common.{◌∙◌, map, ap, arith}
 use Rattle.std.proofs.lemmas.List.{take_all}
 use Rattle.thes_tables.specs.Cells.{move_cells}
-use Rattle.thes_tables.specs.Tables.{step_of}
-use Rattle.thes_sqlite.proofs.LookedUp.{one_step, same_length}
+use Rattle.thes_tables.specs.Tables.{recorded_move}
+use Rattle.thes_sqlite.proofs.PostingLookUpLemmas.{one_step, same_length}
 use Rattle.thes_sqlite.proofs.rows.read_moves.Goals as goal
 
 pub loop-row-preserved : goal.loop-row-preserved
@@ -14,4 +14,5 @@ pub returns : goal.returns
 returns c = λ steps is.
     let ended = c.loop-row-test.false in
     let same = same_length move_cells steps c.args.rows.now is in
-    c.loop-row.invariant steps is ∙ ap (map step_of) (take_all c.loop-row.row-index steps (omega (arith, ended, same)))
+    c.loop-row.invariant steps is ∙ ap (map recorded_move)
+    (take_all c.loop-row.row-index steps (omega (arith, ended, same)))

@@ -1,12 +1,17 @@
 use Rattle.std.proofs.Common.{arith, rules}
-use Rattle.thes_store.proofs.Covering.{begins, goes_on, stops, ends, moves_few}
+use Rattle.thes_store.proofs.CoverLemmas.{so_far_begins, so_far_continues, covers_when_stopped, so_far_ends, moves_few}
 use Rattle.thes_store.proofs.indexes.cover_all.Goals as goal
 
 pub loop-change-init : goal.loop-change-init
-loop-change-init c = (omega arith, λ t fits len covers. begins c.args.indexes.now c.args.changes.now t c.args.moves len covers)
+loop-change-init c = (
+  omega arith,
+  λ t fits len covers. so_far_begins c.args.indexes.now c.args.changes.now t
+      c.args.moves len covers,
+)
 
 pub cover-requires : goal.cover-requires
-cover-requires c = let a = c.loop-change.invariant.0 in let b = c.loop-change-test.true in let r = c.requires in omega (arith, a, b, r)
+cover-requires c = let a = c.loop-change.invariant.0 in let b = c.loop-change-test.true in let r = c.requires in
+    omega (arith, a, b, r)
 
 pub loop-change-preserved : goal.loop-change-preserved
 loop-change-preserved c =
@@ -16,16 +21,25 @@ loop-change-preserved c =
     let few = moves_few c.change-item.result in
     let next = c.in_ok-step.ensures.next in (
       omega (arith, a, few, next),
-      λ t fits len covers. goes_on c.loop-change.indexes c.cover.new.self changes i c.change-item.result t c.loop-change.step _ c.loop-change-test.true c.change-item.is fits (c.loop-change.invariant.1 t fits len covers) c.cover.ensures.grows c.in_ok-step.ensures.reaches next,
+      λ t fits len covers. so_far_continues c.loop-change.indexes c.cover.new.self changes i c.change-item.result t
+          c.loop-change.step _ c.loop-change-test.true c.change-item.is fits
+          (c.loop-change.invariant.1 t fits len covers) c.cover.ensures.grows c.in_ok-step.ensures.reaches next,
     )
 
 pub returns-in_err-step : goal.returns-in_err-step
 returns-in_err-step c =
-    λ t fits len covers.
-    (stops c.loop-change.indexes c.cover.new.self c.args.changes.now c.loop-change.change-index c.change-item.result t c.loop-change.step c.loop-change-test.true c.change-item.is fits (c.loop-change.invariant.1 t fits len covers) c.cover.ensures.grows, search rules)
+    λ t fits len covers. (
+      covers_when_stopped c.loop-change.indexes c.cover.new.self c.args.changes.now c.loop-change.change-index
+          c.change-item.result t c.loop-change.step c.loop-change-test.true c.change-item.is fits
+          (c.loop-change.invariant.1 t fits len covers) c.cover.ensures.grows,
+      search rules,
+    )
 
 pub returns : goal.returns
 returns c =
     λ t fits len covers.
-    let so_far = c.loop-change.invariant.1 t fits len covers in
-    (so_far.first, ends c.loop-change.indexes c.args.changes.now c.loop-change.change-index t c.loop-change.step c.loop-change-test.false so_far)
+    let so_far = c.loop-change.invariant.1 t fits len covers in (
+      so_far.first,
+      so_far_ends c.loop-change.indexes c.args.changes.now c.loop-change.change-index t
+          c.loop-change.step c.loop-change-test.false so_far,
+    )

@@ -18,6 +18,7 @@ loop-i-preserved c =
 
 pub returns : goal.returns
 returns c = (
-  λ t n can. let at = owner_exists c.args.resources.now n can in let b = numbered_bound c.args.resources.now n at.0 at.1 in let e = c.loop-i-test.false in c.loop-i.invariant n (omega (arith, b, e)) can,
+  λ t n can. let at = owner_exists c.args.resources.now n can in let b = numbered_bound c.args.resources.now n at.0
+      at.1 in let e = c.loop-i-test.false in c.loop-i.invariant n (omega (arith, b, e)) can,
   λ h. refl,
 )

@@ -1,5 +1,5 @@
-use Rattle.thes_vocab.specs.Loading.{AreNamedTo}
+use Rattle.thes_vocab.specs.Loading.{HavePreferredUpTo}
 use Rattle.thes_vocab.proofs.load.are_named.Given as goal
 
 abbrev pub invariant-loop-i : goal.invariant-loop-i
-invariant-loop-i l = AreNamedTo l.i l.resources l.labels
+invariant-loop-i l = HavePreferredUpTo l.i l.resources l.labels

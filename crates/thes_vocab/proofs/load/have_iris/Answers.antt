@@ -28,6 +28,7 @@ loop-i-preserved c =
 
 pub returns : goal.returns
 returns c = (
-  λ t n can. let b = numbered_bound c.args.resources.now n can.0 can.1 in let e = c.loop-i-test.false in c.loop-i.invariant n (omega (arith, b, e)) can,
+  λ t n can. let b = numbered_bound c.args.resources.now n can.0 can.1 in let e = c.loop-i-test.false in
+      c.loop-i.invariant n (omega (arith, b, e)) can,
   λ h. refl,
 )

@@ -8,6 +8,7 @@ loop-at-preserved-in-Ok g c = record {
   ended = search rules;
   denied = search rules;
   within = within_rest c.args.bytes.now c.loop-at.at c.in-Ok.n (omega arith) c.in-Ok.ensures.bound;
-  bytes = appends_more _ _ _ _ c.loop-at.at c.in-Ok.n c.loop-at.invariant.bytes (front_of_rest _ _ c.args.bytes.now c.loop-at.at c.in-Ok.n c.in-Ok.ensures.bytes);
+  bytes = appends_more _ _ _ _ c.loop-at.at c.in-Ok.n c.loop-at.invariant.bytes
+      (front_of_rest _ _ c.args.bytes.now c.loop-at.at c.in-Ok.n c.in-Ok.ensures.bytes);
   paid = search rules;
 }

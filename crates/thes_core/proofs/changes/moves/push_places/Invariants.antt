@@ -1,7 +1,8 @@
 use Rattle.std.proofs.Common.{◌≡◌, ◌++◌, drop, map}
-use Rattle.thes_core.specs.Deltas.{placed_at}
+use Rattle.thes_core.specs.Deltas.{place_change}
 use Rattle.thes_core.proofs.changes.moves.push_places.Given as goal
 
--- the changes so far, and then those of the rest
+-- The changes so far, followed by those of the other postings, are all changes.
 abbrev pub invariant-loop-posting : goal.invariant-loop-posting
-invariant-loop-posting l = l.delta ++ map (placed_at l.target) (drop l.posting-index l.postings) ≡ l.fn.delta ++ map (placed_at l.target) l.postings
+invariant-loop-posting l = l.delta ++ map (place_change l.target) (drop l.posting-index l.postings) ≡ l.fn.delta
+    ++ map (place_change l.target) l.postings

@@ -1,5 +1,5 @@
-use Rattle.thes_core.proofs.DisplayLemmas.{closed}
+use Rattle.thes_core.proofs.DisplayLemmas.{concepts_closed_under_links}
 use Rattle.thes_core.proofs.machine.Core.live_of.Goals as goal
 
 pub returns-clause-closed : goal.returns-clause-closed
-returns-clause-closed c = λ s holds. closed c.args.self.now s holds _
+returns-clause-closed c = λ s holds. concepts_closed_under_links c.args.self.now s holds _

@@ -12,13 +12,15 @@ loop-link-preserved c =
     let i = c.loop-link.invariant in
     let row = links_at c.args.self.now.graph.links c.args.n in
     let count = vec_len c.loop-link.found in
-    let at : slice_get row count ≡ Some c.in-Some.link = sym (c.in-Some.ensures.link ∙ (λ k. slice_get (links_at (i.read k) c.args.n) (c.len.ensures k))) in
+    let at : slice_get row count ≡ Some c.in-Some.link =
+    sym (c.in-Some.ensures.link ∙ (λ k. slice_get (links_at (i.read k) c.args.n) (c.len.ensures k))) in
     let got = take_got row count c.in-Some.link at in
     let items = c.in_ok-push.ensures.items in
     let longer : vec_len c.push.new.self ≡ count + 1 = c.in_ok-push.ensures.len in
     record {
       read = c.in-Some.ensures.held ∙ i.read;
-      found = items ∙ ap (λ (l : List Link). l ++ c.in-Some.link ∷ []) i.found ∙ sym got.1 ∙ ap (λ (n : ℕ). take n row) (sym longer);
+      found = items ∙ ap (λ (l : List Link). l ++ c.in-Some.link ∷ []) i.found ∙ sym got.1
+          ∙ ap (λ (n : ℕ). take n row) (sym longer);
     }
 
 pub returns : goal.returns
@@ -26,6 +28,8 @@ returns c =
     let i = c.loop-link.invariant in
     let row = links_at c.args.self.now.graph.links c.args.n in
     let count = vec_len c.loop-link.found in
-    let none : slice_get row count ≡ None = sym (c.in_default.ensures.link ∙ (λ k. slice_get (links_at (i.read k) c.args.n) (c.len.ensures k))) in
+    let none : slice_get row count ≡ None =
+    sym (c.in_default.ensures.link ∙ (λ k. slice_get (links_at (i.read k) c.args.n) (c.len.ensures k))) in
     let whole = i.found ∙ take_none row count none in
-    subst (IsRow c.args.self.now.graph.links c.args.n) (sym whole) (subst (λ (ls : Links). IsRow ls c.args.n (links_at ls c.args.n)) i.read c.in_default.ensures.listed)
+    subst (IsRow c.args.self.now.graph.links c.args.n) (sym whole)
+    (subst (λ (ls : Links). IsRow ls c.args.n (links_at ls c.args.n)) i.read c.in_default.ensures.listed)

@@ -1,26 +1,30 @@
 use Rattle.std.proofs.Common.{[], refl, sym, ap, ◌∙◌, ◌+◌, arith}
 use Rattle.std.specs.Prelude.{Some}
 use Rattle.thes_base.specs.declared.request.Answer.TheVariants as reply
-use Rattle.thes_base.specs.Links.{contracted}
-use Rattle.thes_base.specs.Postings.{stands_at, move_count}
-use Rattle.thes_base.specs.Changes.{merged}
-use Rattle.thes_vocab.specs.Vocabulary.{Vocabulary, with_dead}
-use Rattle.thes_post.specs.Sums.{count_of}
-use Rattle.thes_post.proofs.SumLemmas.{all_stand, sums_moved}
-use Rattle.thes_core.specs.View.{state_of}
-use Rattle.thes_core.proofs.JudgeLemmas.{outside_same}
-use Rattle.thes_core.proofs.ApplyLemmas.{becomes, merge_apart, merge_fits, merge_there}
+use Rattle.thes_base.specs.Links.{links_after_merge}
+use Rattle.thes_base.specs.Postings.{is_assigned_to, move_count}
+use Rattle.thes_base.specs.Changes.{state_after_merge}
+use Rattle.thes_vocab.specs.Vocabulary.{Vocabulary, vocabulary_after_death}
+use Rattle.thes_post.specs.PostingCounts.{count_of}
+use Rattle.thes_post.proofs.PostingCountLemmas.{all_assigned, sums_moved}
+use Rattle.thes_core.specs.PartsView.{parts_state}
+use Rattle.thes_core.proofs.RequestCheckLemmas.{outside_same}
+use Rattle.thes_core.proofs.ApplyLemmas.{parts_become_state, merge_apart, merge_fits, merge_there}
 use Rattle.thes_core.proofs.OutsideLemmas.{outside_marked_dead}
 use Rattle.thes_core.proofs.thesaurus.Thesaurus.merge.Goals as goal
 
 pub returns-clause-becomes : goal.returns-clause-becomes
 returns-clause-becomes c =
     let t = c.args.self.now in
-    becomes (c.mark_dead.ensures ∙ ap (λ (v : Vocabulary). with_dead v c.args.source (Some c.args.target)) c.in_ok-take_labels.ensures.ok)
+    parts_become_state
+    (c.mark_dead.ensures ∙ ap (λ (v : Vocabulary). vocabulary_after_death v c.args.source (Some c.args.target))
+    c.in_ok-take_labels.ensures.ok)
     c.in_ok-contract.ensures.ok
     refl
-    (λ i. record (merged c.args.source c.args.target (state_of t [])) { links = contracted (outside_same t [] c.requires.kept i) c.args.source c.args.target t.graph.links })
-    refl (λ n. c.requires.kept.outside n ∙ sym (outside_marked_dead t.vocab.resources c.args.source (Some c.args.target) n))
+    (λ i. record (state_after_merge c.args.source c.args.target (parts_state t []))
+    { links = links_after_merge (outside_same t [] c.requires.kept i) c.args.source c.args.target t.graph.links })
+    refl (λ n. c.requires.kept.outside n
+    ∙ sym (outside_marked_dead t.vocab.resources c.args.source (Some c.args.target) n))
 
 pub returns-clause-counts : goal.returns-clause-counts
 returns-clause-counts c = λ hs ok are.
@@ -35,7 +39,14 @@ returns-clause-counts c = λ hs ok are.
     let moves = are.moves in
     record {
       answer_is = ap reply.Moved (c.in_ok-moved.ensures.count ∙ at_source);
-      sums = sums_moved (stands_at source) source target apart (move_count hs + 1) hs (all_stand source target apart hs)
+      sums = sums_moved (is_assigned_to source) source target apart (move_count hs + 1) hs
+          (all_assigned source target apart hs)
           (count_of t.book source) at_source t.book c.move_all.new.self are
-          (c.in_ok-moved.ensures.ok (record { standing = omega arith; there = omega (arith, there, at_source, at_target); moves = omega (arith, fits, at_source, moves) }));
+          (c.in_ok-moved.ensures.ok
+          (record {
+            standing = omega arith;
+            there = omega (arith, there, at_source, at_target);
+            moves =
+                omega (arith, fits, at_source, moves);
+          }));
     }

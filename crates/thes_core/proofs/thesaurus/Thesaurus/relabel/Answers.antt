@@ -1,4 +1,4 @@
-use Rattle.thes_base.proofs.RowLemmas.{passed_unless}
+use Rattle.thes_base.proofs.RefusalRuleLemmas.{passed_unless}
 use Rattle.thes_core.proofs.thesaurus.Thesaurus.relabel.Goals as goal
 
 pub relabel-requires-clause-owner : goal.relabel-requires-clause-owner

@@ -2,26 +2,35 @@ use Rattle.std.proofs.Common.{[], subst, sym, ◌∙◌, List, ℕ, arith, lengt
 use Rattle.std.specs.Prelude.{None}
 use Rattle.thes_base.specs.declared.data.NewResource.TheVariants.{Concept}
 use Rattle.thes_base.specs.declared.request.Answer.TheVariants as reply
-use Rattle.thes_base.specs.Rows.{accepted}
-use Rattle.thes_post.specs.Sums.{LetsMove, SomeMoved}
-use Rattle.thes_vocab.specs.Requests.{unless_new, with_new}
-use Rattle.thes_core.proofs.ApplyLemmas.{split_allowed, split_apart, split_fits, split_standing, split_there, split_sums, split_made}
+use Rattle.thes_base.specs.RefusalRules.{accepted}
+use Rattle.thes_post.specs.PostingCounts.{HasRoomForMoves, CountsAfterMoves}
+use Rattle.thes_vocab.specs.NewResources.{unless_new, vocabulary_after_add}
+use Rattle.thes_core.proofs.ApplyLemmas.{split_allowed, split_apart, split_fits, split_standing, split_there}
+use Rattle.thes_core.proofs.ApplyLemmas.{split_sums, split_made}
 use Rattle.thes_core.proofs.thesaurus.Thesaurus.split.Goals as goal
 
 pub add_resource-requires-clause-allowed : goal.add_resource-requires-clause-allowed
 add_resource-requires-clause-allowed c =
     let t = c.args.self.now in
-    subst (λ (p : List ℕ × List ℕ). unless_new t.vocab (Concept c.scheme-scheme.result p.0 p.1) accepted None) (λ i. (sym c.in_ok-try_clone.ensures i, sym c.in_ok-try_clone-2.ensures i))
-    (split_allowed t [] c.args.source c.args.tag.now c.args.text.now [] c.requires c.scheme-scheme.result c.scheme-scheme.ensures)
+    subst (λ (p : List ℕ × List ℕ). unless_new t.vocab (Concept c.scheme-scheme.result p.0 p.1) accepted None)
+    (λ i. (sym c.in_ok-try_clone.ensures i, sym c.in_ok-try_clone-2.ensures i))
+    (split_allowed t [] c.args.source c.args.tag.now c.args.text.now [] c.requires c.scheme-scheme.result
+    c.scheme-scheme.ensures)
 
 pub move_listed-requires : goal.move_listed-requires
-move_listed-requires c = record { apart = split_apart c.args.self.now [] c.args.source c.args.tag.now c.args.text.now [] c.requires c.in_ok-concept.concept c.in_ok-concept.ensures.number }
+move_listed-requires c = record {
+  apart = split_apart c.args.self.now [] c.args.source c.args.tag.now c.args.text.now
+      [] c.requires c.in_ok-concept.concept c.in_ok-concept.ensures.number;
+}
 
 pub returns-clause-becomes : goal.returns-clause-becomes
 returns-clause-becomes c =
     let t = c.args.self.now in
-    split_made t [] c.args.source c.args.tag.now c.args.text.now [] c.requires c.scheme-scheme.result c.scheme-scheme.ensures c.add_resource.new.self c.move_listed.new.self
-    (c.in_ok-concept.ensures.ok ∙ (λ i. with_new (Concept c.scheme-scheme.result (c.in_ok-try_clone.ensures i) (c.in_ok-try_clone-2.ensures i)) t.vocab))
+    split_made t [] c.args.source c.args.tag.now c.args.text.now [] c.requires c.scheme-scheme.result
+    c.scheme-scheme.ensures c.add_resource.new.self c.move_listed.new.self
+    (c.in_ok-concept.ensures.ok
+    ∙ (λ i. vocabulary_after_add (Concept c.scheme-scheme.result (c.in_ok-try_clone.ensures i)
+    (c.in_ok-try_clone-2.ensures i)) t.vocab))
 
 pub returns-clause-counts : goal.returns-clause-counts
 returns-clause-counts c = λ hs ok are.
@@ -43,6 +52,11 @@ returns-clause-counts c = λ hs ok are.
     record {
       answer_is = λ i. reply.Parted ((c.get.ensures.value ∙ number) i) (count i);
       sums = split_sums t hs source tag text postings ok n number t.book c.move_listed.new.self are
-          (subst (λ (k : ℕ). SomeMoved source n k t.book c.move_listed.new.self) count
-          (c.in_ok-move_listed.ensures.ok (subst (λ (k : ℕ). LetsMove source n k t.book) (sym count) (record { standing = omega (arith, standing, at_source); there = omega (arith, there, at_target); moves = omega (arith, fits, moves) }))));
+          (subst (λ (k : ℕ). CountsAfterMoves source n k t.book c.move_listed.new.self) count
+          (c.in_ok-move_listed.ensures.ok (subst (λ (k : ℕ). HasRoomForMoves source n k t.book) (sym count)
+          (record {
+            standing = omega (arith, standing, at_source);
+            there = omega (arith, there, at_target);
+            moves = omega (arith, fits, moves);
+          }))));
     }

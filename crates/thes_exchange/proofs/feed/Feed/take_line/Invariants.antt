@@ -1,12 +1,13 @@
 use Rattle.std.proofs.Common.{◌≤◌, ◌-◌, ◌+◌}
 use Rattle.thes_base.specs.Pipe.{IsFresh, PaysCalls}
-use Rattle.thes_exchange.specs.Feed.{left, line_limit}
-use Rattle.thes_exchange.proofs.FeedLemmas.{TakesFront}
+use Rattle.thes_exchange.specs.Feed.{bytes_left, line_limit}
+use Rattle.thes_exchange.proofs.FeedLemmas.{LineSoFar}
 use Rattle.thes_exchange.proofs.feed.Feed.take_line.Given as goal
 
 abbrev pub invariant-loop-taken : goal.invariant-loop-taken
 invariant-loop-taken g l = record {
-  front : TakesFront (left g.R.Read.remaining l.fn.self l.fn.reader) (left g.R.Read.remaining l.self l.reader) l.line.items l.held l.taken;
+  front : LineSoFar (bytes_left g.R.Read.remaining l.fn.self l.fn.reader)
+      (bytes_left g.R.Read.remaining l.self l.reader) l.line.items l.held l.taken;
   fresh : IsFresh l.reader;
   paid : PaysCalls l.fn.reader l.reader l.fn.budget l.budget;
   most : l.taken ≤ line_limit + 1;

@@ -6,6 +6,7 @@ use Rattle.thes_graph.proofs.graph.Graph.broader_of.Goals as goal
 
 pub returns : goal.returns
 returns c =
-    IfOk-weaker c.linked.result _ _
-    (λ found is. listing_as nat_cmp _ _ found.items (broader_from c.args.self.now.links c.args.n) (broader_to c.args.self.now.links c.args.n) is)
-    c.linked.ensures
+    IfOk-weaker c.neighbours.result _ _
+    (λ found is. listing_as nat_cmp _ _ found.items (broader_from c.args.self.now.links c.args.n)
+    (broader_to c.args.self.now.links c.args.n) is)
+    c.neighbours.ensures

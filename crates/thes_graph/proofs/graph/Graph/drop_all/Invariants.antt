@@ -1,11 +1,11 @@
 use Rattle.std.proofs.Common.{◌≡◌}
 use Rattle.std.specs.FinSet.{len}
-use Rattle.thes_base.specs.Links.{without_node}
+use Rattle.thes_base.specs.Links.{links_after_deprecation}
 use Rattle.thes_graph.proofs.graph.Graph.drop_all.Given as goal
 
 abbrev pub invariant-loop-link : goal.invariant-loop-link
 invariant-loop-link l = record {
-  left : without_node l.n l.self.links ≡ without_node l.n l.fn.self.links;
+  left : links_after_deprecation l.n l.self.links ≡ links_after_deprecation l.n l.fn.self.links;
   outside : l.self.outside ≡ l.fn.self.outside;
 }
 

@@ -7,4 +7,5 @@ use Rattle.thes_graph.proofs.graph.Graph.is_outside.Goals as goal
 
 pub returns : goal.returns
 returns c =
-    c.contains.ensures ∙ sym (contains-from_list {R = nat_cmp} nat_cmp_total c.self.inside.marked.keys c.args.n) ∙ ap (λ (net : Net). is_marked net c.args.n) c.self.view_is
+    c.contains.ensures ∙ sym (contains-from_list {R = nat_cmp} nat_cmp_total c.self.inside.marked.keys c.args.n)
+    ∙ ap (λ (net : Net). is_marked net c.args.n) c.self.view_is

@@ -1,20 +1,22 @@
 use Rattle.std.proofs.Common.{Some, None, Contains}
-use Rattle.thes_graph.specs.declared.side.Standing.{Standing}
-use Rattle.thes_graph.specs.Side.{standing_at}
-use Rattle.thes_graph.specs.Net.{standings_at}
+use Rattle.thes_graph.specs.declared.side.SidedLink.{SidedLink}
+use Rattle.thes_graph.specs.Side.{sided_link_at}
+use Rattle.thes_graph.specs.Net.{sided_links_at}
 use Rattle.thes_graph.proofs.ChangeLemmas.{last_of}
-use Rattle.thes_graph.proofs.IndexLemmas.{standings_from, standings_to}
+use Rattle.thes_graph.proofs.IndexLemmas.{sided_links_from, sided_links_to}
 use Rattle.thes_graph.proofs.graph.Graph.last_at.Goals as goal
 
 pub returns-in-Some : goal.returns-in-Some
 returns-in-Some c =
-    let last : Contains (standings_at c.args.self.now.links c.args.n) c.in-Some.standing.now =
-    last_of (standings_at c.args.self.now.links c.args.n) (Some c.in-Some.standing.now) (rw c.at.ensures.row at c.in-Some.ensures.value) in
-    let held = standings_from c.args.self.now.links c.args.n c.in-Some.standing.now last in
+    let last : Contains (sided_links_at c.args.self.now.links c.args.n) c.in-Some.sided_link.now =
+    last_of (sided_links_at c.args.self.now.links c.args.n) (Some c.in-Some.sided_link.now)
+    (rw c.row_of_node.ensures.row at c.in-Some.ensures.value) in
+    let held = sided_links_from c.args.self.now.links c.args.n c.in-Some.sided_link.now last in
     (held.0, held.1)
 
 pub returns-in-None : goal.returns-in-None
 returns-in-None c = λ l held at.
-    let none : (s : Standing) → Contains (standings_at c.args.self.now.links c.args.n) s → ⊥ =
-    last_of (standings_at c.args.self.now.links c.args.n) None (rw c.at.ensures.row at c.in-None.ensures.value) in
-    none (standing_at c.args.n l) (standings_to c.args.self.now.links c.args.n l held at)
+    let none : (s : SidedLink) → Contains (sided_links_at c.args.self.now.links c.args.n) s → ⊥ =
+    last_of (sided_links_at c.args.self.now.links c.args.n) None
+    (rw c.row_of_node.ensures.row at c.in-None.ensures.value) in
+    none (sided_link_at c.args.n l) (sided_links_to c.args.self.now.links c.args.n l held at)

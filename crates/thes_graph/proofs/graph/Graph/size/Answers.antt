@@ -5,4 +5,5 @@ use Rattle.thes_graph.proofs.IndexLemmas.{len_is}
 use Rattle.thes_graph.proofs.graph.Graph.size.Goals as goal
 
 pub returns : goal.returns
-returns c = c.len.ensures.len ∙ sym (len_is c.self.inside.held.keys c.self.invariant.ordered) ∙ ap (λ (net : Net). len net.links) c.self.view_is
+returns c = c.len.ensures.len ∙ sym (len_is c.self.inside.held.keys c.self.invariant.ordered)
+    ∙ ap (λ (net : Net). len net.links) c.self.view_is

@@ -22,4 +22,6 @@ returns c =
       c.new-head.ensures,
       c.requires,
     )
-    (head_parts (status_line r.status) (codes "Content-Type: ") (media_type r.media) (codes "\r\n") (codes "Content-Length: ") (decimal (length (body_text r.body))) (codes "Connection: close") (allow_text r.body))
+    (head_parts (status_line r.status) (codes "Content-Type: ") (media_type r.media) (codes "\r\n")
+    (codes "Content-Length: ") (decimal (length (body_text r.body))) (codes "Connection: close")
+    (allow_text r.body))

@@ -1,30 +1,35 @@
 use Rattle.std.proofs.Common.{rules}
 use Rattle.thes_http_request.proofs.HeadLemmas.{bad_front, bad_long, cut_front}
 use Rattle.thes_base.proofs.PipeLemmas.{pays_then}
-use Rattle.thes_http_request.proofs.InboxLemmas.{consumes_grown}
+use Rattle.thes_http_request.proofs.InboxLemmas.{consumes_then_growth}
 use Rattle.thes_http_request.proofs.inbox.Inbox.read_head.Goals as goal
 
 pub returns-in-Bad-clause-bad : goal.returns-in-Bad-clause-bad
-returns-in-Bad-clause-bad g c = λ h. bad_front _ _ c.front.ensures (c.head_of.ensures.bad (search rules))
+returns-in-Bad-clause-bad g c = λ h. bad_front _ _ c.head_bytes.ensures (c.head_of.ensures.bad (search rules))
 
 pub returns-then-is_full-clause-bad : goal.returns-then-is_full-clause-bad
-returns-then-is_full-clause-bad g c = λ h. bad_long _ _ c.front.ensures (search rules) (c.head_of.ensures.more (search rules)).none
+returns-then-is_full-clause-bad g c = λ h. bad_long _ _ c.head_bytes.ensures (search rules)
+    (c.head_of.ensures.more (search rules)).none
 
 pub loop-spans-preserved : goal.loop-spans-preserved
 loop-spans-preserved g c = record {
-  taken = consumes_grown _ _ _ _ _ c.loop-spans.invariant.taken c.fill.ensures.taken;
+  taken = consumes_then_growth _ _ _ _ _ c.loop-spans.invariant.taken c.fill.ensures.taken;
   fresh = (c.in-Ok-true.ensures.more c.in-Ok-true.field-0-test).1;
   room = search rules;
   paid = pays_then c.loop-spans.invariant.paid c.fill.ensures.paid;
 }
 
 pub returns-in-Ok-false-clause-taken : goal.returns-in-Ok-false-clause-taken
-returns-in-Ok-false-clause-taken g c = consumes_grown _ _ _ _ _ c.loop-spans.invariant.taken c.fill.ensures.taken
+returns-in-Ok-false-clause-taken g c = consumes_then_growth _ _ _ _ _ c.loop-spans.invariant.taken c.fill.ensures.taken
 
 pub returns-in-Ok-false-clause-cut : goal.returns-in-Ok-false-clause-cut
 returns-in-Ok-false-clause-cut g c =
     let e = c.in-Ok-false.ensures.end c.in-Ok-false.field-0-test in
-    λ h. (cut_front _ _ _ c.front.ensures e.0 (c.is_full.ensures.short c.if-is_full.false) (c.head_of.ensures.more (search rules)), e.1)
+    λ h. (
+      cut_front _ _ _ c.head_bytes.ensures e.0 (c.is_full.ensures.short c.if-is_full.false)
+          (c.head_of.ensures.more (search rules)),
+      e.1,
+    )
 
 pub returns-in-Err-clause-taken : goal.returns-in-Err-clause-taken
-returns-in-Err-clause-taken g c = consumes_grown _ _ _ _ _ c.loop-spans.invariant.taken c.fill.ensures.taken
+returns-in-Err-clause-taken g c = consumes_then_growth _ _ _ _ _ c.loop-spans.invariant.taken c.fill.ensures.taken

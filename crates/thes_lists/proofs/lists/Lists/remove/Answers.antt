@@ -11,6 +11,8 @@ returns-in-Some g c =
     let v = c.remove_from.new.list in
     let changes = changes_at c.args.self.now c.args.n c.get.result c.get.ensures.value found v in
     record {
-      here = changes.here ∙ c.remove_from.ensures ∙ ap (λ xs. remove_key (is_at (g.T.Ord.cmp c.args.x.now)) xs) (sym (was_listed c.args.self.now c.args.n c.get.result c.get.ensures.value found v c.in-Some.list.now c.in-Some.ensures.value));
+      here = changes.here ∙ c.remove_from.ensures ∙ ap (λ xs. remove_key (is_at (g.T.Ord.cmp c.args.x.now)) xs)
+          (sym (was_listed c.args.self.now c.args.n c.get.result c.get.ensures.value found v c.in-Some.list.now
+          c.in-Some.ensures.value));
       others = changes.others;
     }

@@ -1,18 +1,22 @@
 use Rattle.std.proofs.Common.{◌++◌, ◌∷◌}
 use Rattle.thes_tables.specs.Cells.{hier_cells}
-use Rattle.thes_tables.proofs.Listing.{hier_one}
+use Rattle.thes_tables.proofs.CellLemmas.{hier_one}
 use Rattle.thes_load_rules.specs.Rules.{HierRule}
-use Rattle.thes_load_rows.specs.Linking.{HasLinks}
+use Rattle.thes_load_rows.specs.LinksSoFar.{HasLinks}
 use Rattle.thes_load_rows.specs.Forms.{HasHierForm}
-use Rattle.thes_load_rows.proofs.Pushing.{in_next}
-use Rattle.thes_load_rows.proofs.RowForms.{hier_form}
-use Rattle.thes_load_rows.proofs.ReadingLemmas.{reads_row, reads_none}
+use Rattle.thes_load_rows.proofs.NextRowLemmas.{in_next}
+use Rattle.thes_load_rows.proofs.RowFormLemmas.{hier_form}
+use Rattle.thes_load_rows.proofs.ReadResultLemmas.{reads_row, reads_none}
 use Rattle.thes_load_rows.proofs.links.LinkLoad.read_hier.Goals as goal
 
 pub returns-in_ok-good-in-Some-clause-reads : goal.returns-in_ok-good-in-Some-clause-reads
 returns-in_ok-good-in-Some-clause-reads c = λ links rows has.
-    reads_row hier_cells hier_one (HasLinks c.args.resources.now c.take_hier.new.self.graph links) (HierRule c.args.resources.now links) rows c.args.cells.now c.in-Some.row c.in-Some.ensures.1 c.in_ok-good-in-Some.good (c.in_ok-good-in-Some.ensures.takes links rows has)
+    reads_row hier_cells hier_one (HasLinks c.args.resources.now c.take_hier.new.self.graph links)
+    (HierRule c.args.resources.now links) rows c.args.cells.now c.in-Some.row c.in-Some.ensures.1
+    c.in_ok-good-in-Some.good (c.in_ok-good-in-Some.ensures.takes links rows has)
 
 pub returns-in-None-clause-reads : goal.returns-in-None-clause-reads
 returns-in-None-clause-reads c = λ links rows has.
-    reads_none hier_cells hier_one (HasLinks c.args.resources.now c.args.self.now.graph links) (HierRule c.args.resources.now links) rows c.args.cells.now HasHierForm c.in-None.ensures (λ y rest all. hier_form c.args.resources.now c.requires links (rows ++ y ∷ rest) y all (in_next rows y rest))
+    reads_none hier_cells hier_one (HasLinks c.args.resources.now c.args.self.now.graph links)
+    (HierRule c.args.resources.now links) rows c.args.cells.now HasHierForm c.in-None.ensures
+    (λ y rest all. hier_form c.args.resources.now c.requires links (rows ++ y ∷ rest) y all (in_next rows y rest))

@@ -1,11 +1,14 @@
 use Rattle.std.proofs.Common.{◌≡◌, subst, sym, List, ℕ, rules}
-use Rattle.thes_load_rows.specs.Taken.{AreAt}
-use Rattle.thes_load_rows.proofs.MoveTaking.{rule_of, are_of}
+use Rattle.thes_load_rows.specs.RowsSoFar.{AreSamePlaces}
+use Rattle.thes_load_rows.proofs.MoveLoadLemmas.{rule_of, are_of}
 use Rattle.thes_load_rows.proofs.moves.MoveLoad.close.Goals as goal
 
 pub returns : goal.returns
 returns c = λ rs ps rows has are.
     let same : c.as_slice.result.now ≡ c.args.self.now.places.items = search rules in (
-      λ t. rule_of rs ps c.args.self.now.taken c.args.self.now.places.items rows has c.args.ats.now are (subst (λ (l : List ℕ). AreAt l c.args.ats.now) same (c.are_at.ensures.0 t)),
-      λ rule. c.are_at.ensures.1 (subst (λ (l : List ℕ). AreAt l c.args.ats.now) (sym same) (are_of rs ps c.args.self.now.taken c.args.self.now.places.items rows has c.args.ats.now are rule)),
+      λ t. rule_of rs ps c.args.self.now.taken c.args.self.now.places.items rows has c.args.stored_places.now are
+          (subst (λ (l : List ℕ). AreSamePlaces l c.args.stored_places.now) same (c.are_same_places.ensures.0 t)),
+      λ rule. c.are_same_places.ensures.1 (subst (λ (l : List ℕ). AreSamePlaces l c.args.stored_places.now) (sym same)
+          (are_of rs ps c.args.self.now.taken c.args.self.now.places.items rows has c.args.stored_places.now are
+          rule)),
     )

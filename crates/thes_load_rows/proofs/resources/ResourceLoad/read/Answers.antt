@@ -1,8 +1,10 @@
-use Rattle.thes_load_rows.proofs.ReadingLemmas.{resource_read, resource_unread}
+use Rattle.thes_load_rows.proofs.ReadResultLemmas.{resource_read, resource_unread}
 use Rattle.thes_load_rows.proofs.resources.ResourceLoad.read.Goals as goal
 
 pub returns-in_ok-good-in-Some : goal.returns-in_ok-good-in-Some
-returns-in_ok-good-in-Some c = resource_read c.args.self.now.resources.items c.args.cells.now c.in-Some.row c.in-Some.ensures.1 c.take.new.self.resources.items c.in_ok-good-in-Some.good c.in_ok-good-in-Some.ensures
+returns-in_ok-good-in-Some c = resource_read c.args.self.now.resources.items c.args.cells.now c.in-Some.row
+    c.in-Some.ensures.1 c.take.new.self.resources.items c.in_ok-good-in-Some.good c.in_ok-good-in-Some.ensures
 
 pub returns-in-None : goal.returns-in-None
-returns-in-None c = resource_unread c.args.self.now.resources.items c.args.cells.now c.in-None.ensures c.args.self.now.resources.items
+returns-in-None c = resource_unread c.args.self.now.resources.items c.args.cells.now c.in-None.ensures
+    c.args.self.now.resources.items

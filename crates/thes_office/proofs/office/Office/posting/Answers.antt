@@ -1,21 +1,27 @@
 use Rattle.std.proofs.Common.{◌≡◌, ap, sym, ◌∙◌, inl, inr, rules}
 use Rattle.thes_base.specs.declared.fault.Fault.TheVariants as faults
-use Rattle.thes_office.specs.Office.{Kept}
-use Rattle.thes_office.proofs.ShowLemmas.{shows_same}
-use Rattle.thes_office.proofs.KeptLemmas.{has_failed, kept_over, never_falls}
+use Rattle.thes_office.specs.Office.{OfficeView}
+use Rattle.thes_office.proofs.StateTableLemmas.{same_tables_same_state}
+use Rattle.thes_office.proofs.OfficeViewLemmas.{has_failed, consistent_after_query, never_falls}
 use Rattle.thes_office.proofs.office.Office.posting.Goals as goal
 
 pub invariant_of-self : goal.invariant_of-self
 invariant_of-self g c =
-    kept_over g.K.Keeper.rows g.K.Keeper.is_up g.K.Keeper.failed c.self.inside.keeper c.history_at.new.keeper c.self.inside.core c.self.inside.limits c.self.inside.stale c.self.inside.stale
-    c.self.invariant (never_falls _ _ _ c.history_at.ensures.asks.cause) (λ e. inl e) (λ e. e) c.history_at.ensures.asks.was c.history_at.ensures.asks.same
+    consistent_after_query g.K.Keeper.rows g.K.Keeper.is_up g.K.Keeper.failed c.self.inside.keeper
+    c.history_at.new.keeper c.self.inside.core c.self.inside.limits c.self.inside.stale c.self.inside.stale
+    c.self.invariant (never_falls _ _ _ c.history_at.ensures.asks.cause) (λ e. inl e) (λ e. e)
+    c.history_at.ensures.asks.was c.history_at.ensures.asks.same
 
 pub invariant_of-self-in-Err : goal.invariant_of-self-in-Err
 invariant_of-self-in-Err g c =
-    kept_over g.K.Keeper.rows g.K.Keeper.is_up g.K.Keeper.failed c.self.inside.keeper c.history_at.new.keeper c.self.inside.core c.self.inside.limits c.self.inside.stale c.eq-self-inside.result
+    consistent_after_query g.K.Keeper.rows g.K.Keeper.is_up g.K.Keeper.failed c.self.inside.keeper
+    c.history_at.new.keeper c.self.inside.core c.self.inside.limits c.self.inside.stale c.eq-self-inside.result
     c.self.invariant (never_falls _ _ _ c.history_at.ensures.asks.cause)
-    (λ e. let is : c.in-Err.fault ≡ faults.Store = search rules in inr (has_failed _ _ _ c.in-Err.ensures.asks.cause is)) (λ e. ap (λ (d : Kept _). d.stale) c.self.view_is ∙ c.in_ok-refresh.ensures.fresh) c.history_at.ensures.asks.was c.history_at.ensures.asks.same
+    (λ e. let is : c.in-Err.fault ≡ faults.Store = search rules in
+    inr (has_failed _ _ _ c.in-Err.ensures.asks.cause is)) (λ e. ap (λ (d : OfficeView _). d.stale) c.self.view_is
+    ∙ c.in_ok-refresh.ensures.fresh) c.history_at.ensures.asks.was c.history_at.ensures.asks.same
 
 pub returns-in-Ok-clause-told : goal.returns-in-Ok-clause-told
 returns-in-Ok-clause-told g c up base s x =
-    c.in-Ok.ensures.told up base s (shows_same (g.K.Keeper.rows c.history_at.new.keeper) (g.K.Keeper.rows c.self.inside.keeper) base s (sym (c.history_at.ensures.asks.same up)) x)
+    c.in-Ok.ensures.told up base s (same_tables_same_state (g.K.Keeper.rows c.history_at.new.keeper)
+    (g.K.Keeper.rows c.self.inside.keeper) base s (sym (c.history_at.ensures.asks.same up)) x)

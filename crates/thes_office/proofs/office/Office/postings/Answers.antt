@@ -1,32 +1,41 @@
 use Rattle.std.proofs.Common.{◌≡◌, ap, sym, ◌∙◌, inl, inr, rules}
 use Rattle.thes_base.specs.declared.fault.Fault.TheVariants as faults
-use Rattle.thes_office.specs.Listing.{rows_at}
-use Rattle.thes_office.specs.Office.{Kept}
-use Rattle.thes_office.proofs.ShowLemmas.{shows_same}
+use Rattle.thes_office.specs.Listing.{rows_assigned_to}
+use Rattle.thes_office.specs.Office.{OfficeView}
+use Rattle.thes_office.proofs.StateTableLemmas.{same_tables_same_state}
 use Rattle.thes_office.proofs.StepLemmas.{copies_own}
-use Rattle.thes_office.proofs.KeptLemmas.{has_failed, kept_over, never_falls}
-use Rattle.thes_office.proofs.ListLemmas.{some_none}
+use Rattle.thes_office.proofs.OfficeViewLemmas.{has_failed, consistent_after_query, never_falls}
+use Rattle.thes_office.proofs.PostingListLemmas.{takes_none}
 use Rattle.thes_office.proofs.office.Office.postings.Goals as goal
 
 pub returns-in-Err-clause-lists : goal.returns-in-Err-clause-lists
 returns-in-Err-clause-lists g c up base s x =
-    some_none g.S.PostingSink.gives (g.K.Keeper.rows c.refresh.new.self.keeper) c.args.concept c.args.sink.now c.args.sink.now c.in-Err.fault (rows_at s c.args.concept)
+    takes_none g.S.PostingSink.gives (g.K.Keeper.rows c.refresh.new.self.keeper) c.args.concept c.args.sink.now
+    c.args.sink.now c.in-Err.fault (rows_assigned_to s c.args.concept)
 
 pub list-requires-clause-copies : goal.list-requires-clause-copies
 list-requires-clause-copies g c up =
-    copies_own (g.K.Keeper.rows c.self.inside.keeper) c.self.inside.limits c.self.inside.core (c.self.invariant.copies (ap (λ (d : Kept _). d.stale) c.self.view_is ∙ c.in_default.ensures.fresh) up)
+    copies_own (g.K.Keeper.rows c.self.inside.keeper) c.self.inside.limits c.self.inside.core
+    (c.self.invariant.copies (ap (λ (d : OfficeView _). d.stale) c.self.view_is ∙ c.in_default.ensures.fresh) up)
 
 pub invariant_of-self : goal.invariant_of-self
 invariant_of-self g c =
-    kept_over g.K.Keeper.rows g.K.Keeper.is_up g.K.Keeper.failed c.self.inside.keeper c.list.new.keeper c.self.inside.core c.self.inside.limits c.self.inside.stale c.self.inside.stale
-    c.self.invariant (never_falls _ _ _ c.list.ensures.asks.cause) (λ e. inl e) (λ e. e) c.list.ensures.asks.was c.list.ensures.asks.same
+    consistent_after_query g.K.Keeper.rows g.K.Keeper.is_up g.K.Keeper.failed c.self.inside.keeper c.list.new.keeper
+    c.self.inside.core c.self.inside.limits c.self.inside.stale c.self.inside.stale
+    c.self.invariant (never_falls _ _ _ c.list.ensures.asks.cause) (λ e. inl e) (λ e. e) c.list.ensures.asks.was
+    c.list.ensures.asks.same
 
 pub invariant_of-self-in-Err-list : goal.invariant_of-self-in-Err-list
 invariant_of-self-in-Err-list g c =
-    kept_over g.K.Keeper.rows g.K.Keeper.is_up g.K.Keeper.failed c.self.inside.keeper c.list.new.keeper c.self.inside.core c.self.inside.limits c.self.inside.stale c.eq-self-inside.result
+    consistent_after_query g.K.Keeper.rows g.K.Keeper.is_up g.K.Keeper.failed c.self.inside.keeper c.list.new.keeper
+    c.self.inside.core c.self.inside.limits c.self.inside.stale c.eq-self-inside.result
     c.self.invariant (never_falls _ _ _ c.list.ensures.asks.cause)
-    (λ e. let is : c.in-Err-list.fault ≡ faults.Store = search rules in inr (has_failed _ _ _ c.in-Err-list.ensures.asks.cause is)) (λ e. ap (λ (d : Kept _). d.stale) c.self.view_is ∙ c.in_default.ensures.fresh) c.list.ensures.asks.was c.list.ensures.asks.same
+    (λ e. let is : c.in-Err-list.fault ≡ faults.Store = search rules in
+    inr (has_failed _ _ _ c.in-Err-list.ensures.asks.cause is))
+    (λ e. ap (λ (d : OfficeView _). d.stale) c.self.view_is ∙ c.in_default.ensures.fresh) c.list.ensures.asks.was
+    c.list.ensures.asks.same
 
 pub returns-in-Err-list-clause-lists : goal.returns-in-Err-list-clause-lists
 returns-in-Err-list-clause-lists g c up base s x =
-    c.in-Err-list.ensures.lists up base s (shows_same (g.K.Keeper.rows c.list.new.keeper) (g.K.Keeper.rows c.self.inside.keeper) base s (sym (c.list.ensures.asks.same up)) x)
+    c.in-Err-list.ensures.lists up base s (same_tables_same_state (g.K.Keeper.rows c.list.new.keeper)
+    (g.K.Keeper.rows c.self.inside.keeper) base s (sym (c.list.ensures.asks.same up)) x)

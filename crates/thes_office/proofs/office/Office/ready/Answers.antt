@@ -1,5 +1,5 @@
 use Rattle.std.proofs.Common.{refl}
-use Rattle.thes_office.proofs.KeptLemmas.{readied}
+use Rattle.thes_office.proofs.OfficeViewLemmas.{ready_core}
 use Rattle.thes_office.proofs.office.Office.ready.Goals as goal
 
 pub returns : goal.returns
@@ -7,7 +7,9 @@ returns g c = (
   (
     refl,
     λ office. tt,
-    readied g.K.Keeper.rows g.K.Keeper.is_up g.K.Keeper.failed c.args.self.now c.self.inside.keeper c.self.inside.core c.self.inside.limits c.self.inside.stale c.refresh.new.self _ c.self.invariant c.self.view_is
+    ready_core g.K.Keeper.rows g.K.Keeper.is_up g.K.Keeper.failed c.args.self.now c.self.inside.keeper
+        c.self.inside.core c.self.inside.limits c.self.inside.stale c.refresh.new.self _ c.self.invariant
+        c.self.view_is
         c.in_ok-refresh.ensures.goes c.in_ok-refresh.ensures.same c.in_ok-refresh.ensures.fresh refl,
   ),
   record { after = tt },

@@ -1,17 +1,21 @@
 use Rattle.std.proofs.Common.{rules, inl}
-use Rattle.thes_office.proofs.KeptLemmas.{kept_loaded, kept_over, goes_unread}
+use Rattle.thes_office.proofs.OfficeViewLemmas.{consistent_after_load, consistent_after_query, behaviour_of_load_fault}
 use Rattle.thes_office.proofs.office.Office.refresh.Goals as goal
 
 pub invariant_of-self : goal.invariant_of-self
 invariant_of-self g c =
-    kept_over g.K.Keeper.rows g.K.Keeper.is_up g.K.Keeper.failed c.self.inside.keeper c.load.new.keeper c.self.inside.core c.self.inside.limits c.self.inside.stale c.self.inside.stale c.self.invariant c.load.ensures.reads.later (λ e. inl e) (λ e. e) c.load.ensures.reads.was c.load.ensures.reads.same
+    consistent_after_query g.K.Keeper.rows g.K.Keeper.is_up g.K.Keeper.failed c.self.inside.keeper c.load.new.keeper
+    c.self.inside.core c.self.inside.limits c.self.inside.stale c.self.inside.stale c.self.invariant
+    c.load.ensures.reads.later (λ e. inl e) (λ e. e) c.load.ensures.reads.was c.load.ensures.reads.same
 
 pub returns-in-Err-clause-goes : goal.returns-in-Err-clause-goes
 returns-in-Err-clause-goes g c =
-    goes_unread g.K.Keeper.rows g.K.Keeper.is_up g.K.Keeper.failed c.self.inside.keeper c.load.new.keeper c.self.inside.core c.self.inside.limits c.self.inside.stale c.in-Err.fault c.args.self.now
+    behaviour_of_load_fault g.K.Keeper.rows g.K.Keeper.is_up g.K.Keeper.failed c.self.inside.keeper c.load.new.keeper
+    c.self.inside.core c.self.inside.limits c.self.inside.stale c.in-Err.fault c.args.self.now
     c.in-Err.ensures.reads c.in-Err.ensures.verdict c.self.invariant (search rules) c.self.view_is
 
 pub invariant_of-self-2 : goal.invariant_of-self-2
 invariant_of-self-2 g c =
-    kept_loaded g.K.Keeper.rows g.K.Keeper.is_up g.K.Keeper.failed c.self.inside.keeper c.load.new.keeper c.in-Ok.core c.self.inside.limits c.self.invariant.few
+    consistent_after_load g.K.Keeper.rows g.K.Keeper.is_up g.K.Keeper.failed c.self.inside.keeper c.load.new.keeper
+    c.in-Ok.core c.self.inside.limits c.self.invariant.few
     c.in-Ok.ensures.unspent c.in-Ok.ensures.copies c.in-Ok.ensures.reads.same

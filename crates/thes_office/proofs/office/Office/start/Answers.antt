@@ -1,15 +1,24 @@
 use Rattle.std.proofs.Common.{arith}
 use Rattle.thes_office.proofs.StepLemmas.{copies_over}
-use Rattle.thes_office.proofs.KeptLemmas.{kept_loaded}
+use Rattle.thes_office.proofs.OfficeViewLemmas.{consistent_after_load}
 use Rattle.thes_office.proofs.office.Office.start.Goals as goal
 
 pub invariant_of-result : goal.invariant_of-result
 invariant_of-result g c =
-    kept_loaded g.K.Keeper.rows g.K.Keeper.is_up g.K.Keeper.failed c.args.keeper c.load.new.keeper c.in-Ok.core c.args.limits
-    record { resources = omega arith; labels = omega arith; links = omega arith; postings = omega arith; moves = omega arith }
+    consistent_after_load g.K.Keeper.rows g.K.Keeper.is_up g.K.Keeper.failed c.args.keeper c.load.new.keeper
+    c.in-Ok.core c.args.limits
+    record {
+      resources = omega arith;
+      labels = omega arith;
+      links = omega arith;
+      postings = omega arith;
+      moves =
+          omega arith;
+    }
     c.in-Ok.ensures.unspent c.in-Ok.ensures.copies c.in-Ok.ensures.reads.same
 
 pub returns-in-Ok-clause-shows : goal.returns-in-Ok-clause-shows
 returns-in-Ok-clause-shows g c up =
-    let here = copies_over (g.K.Keeper.rows c.args.keeper) (g.K.Keeper.rows c.load.new.keeper) c.args.limits c.in-Ok.core (c.in-Ok.ensures.reads.same up) (c.in-Ok.ensures.copies up) in
+    let here = copies_over (g.K.Keeper.rows c.args.keeper) (g.K.Keeper.rows c.load.new.keeper) c.args.limits
+    c.in-Ok.core (c.in-Ok.ensures.reads.same up) (c.in-Ok.ensures.copies up) in
     (c.in-Ok.core.setting.base, here.state, here.shows)

@@ -1,6 +1,7 @@
 use Rattle.thes_store.specs.Reading.{standing_rows}
-use Rattle.thes_store.proofs.Handed.{none_taken}
+use Rattle.thes_store.proofs.SinkLemmas.{none_accepted}
 use Rattle.thes_store.proofs.fail_once.FailOnceKeeper.standing.Goals as goal
 
-pub returns-then-eq-clause-hands : goal.returns-then-eq-clause-hands
-returns-then-eq-clause-hands g c = λ up t same. none_taken g.S.PostingSink.gives (standing_rows c.args.concept t.posting) c.fail.result c.args.sink.now
+pub returns-then-eq-clause-yields : goal.returns-then-eq-clause-yields
+returns-then-eq-clause-yields g c = λ up t same. none_accepted g.S.PostingSink.gives
+    (standing_rows c.args.concept t.posting) c.fail.result c.args.sink.now

@@ -1,30 +1,36 @@
 use Rattle.std.proofs.Common.{◌≡◌, ◌≤◌, ◌∙◌, ◌+◌, ◌∷◌, [], length, subst, sym, take, arith}
 use Rattle.std.specs.Prelude.{vec_len}
-use Rattle.thes_store.specs.Added.{all_added}
-use Rattle.thes_store.specs.Index.{IsAt}
+use Rattle.thes_store.specs.AddedRow.{rows_added_by}
+use Rattle.thes_store.specs.Index.{HasPlace}
 use Rattle.thes_store.specs.Slots.{AreExpected}
-use Rattle.thes_store.proofs.Adding.{more_added, count_more, at_most_one, expected_more, same_len}
+use Rattle.thes_store.proofs.AddedRowLemmas.{more_added, count_more, at_most_one, expected_more, same_len}
 use Rattle.thes_store.proofs.slots.Slots.expect.Goals as goal
 
 pub loop-change-preserved : goal.loop-change-preserved
 loop-change-preserved g c =
     let i = c.loop-change.change-index in
     let change = c.change-item.result in
-    let added = g.T.Added.added in
+    let added_row = g.T.AddedRow.added_row in
     let so_far = c.loop-change.invariant in
-    let more = count_more added c.args.changes.now i change c.loop-change-test.true c.change-item.is in
-    let one : length (all_added added (change ∷ [])) ≤ 1 = at_most_one (added change) in
+    let more = count_more added_row c.args.changes.now i change c.loop-change-test.true c.change-item.is in
+    let one : length (rows_added_by added_row (change ∷ [])) ≤ 1 = at_most_one (added_row change) in
     let next = c.in_ok-place.ensures.next in
     let place = so_far.place in
     let least = so_far.least in
-    let len : vec_len c.loop-change.self.rows ≡ vec_len c.args.self.now.rows = same_len c.args.self.now c.loop-change.self so_far.rows in
-    let at : c.loop-change.place ≡ vec_len c.loop-change.self.rows + length (all_added added (take i c.args.changes.now)) = omega (arith, place, len) in
+    let len : vec_len c.loop-change.self.rows ≡ vec_len c.args.self.now.rows =
+    same_len c.args.self.now c.loop-change.self so_far.rows in
+    let at : c.loop-change.place ≡ vec_len c.loop-change.self.rows
+    + length (rows_added_by added_row (take i c.args.changes.now)) = omega (arith, place, len) in
     record {
       rows = c.expect_one.ensures.rows ∙ so_far.rows;
       place = omega (arith, more, next, place);
       least = omega (arith, next, least, one);
       keeps = λ n p h. c.expect_one.ensures.keeps n p (so_far.keeps n p h);
-      expected = subst (AreExpected g.T.Found.number_of c.expect_one.new.self) (sym (more_added added c.args.changes.now i change c.loop-change-test.true c.change-item.is))
-          (expected_more g.T.Found.number_of c.loop-change.self c.expect_one.new.self (all_added added (take i c.args.changes.now)) (added change) so_far.expected c.expect_one.ensures.keeps c.expect_one.ensures.rows
-          (λ row e. subst (IsAt c.expect_one.new.self.places (g.T.Found.number_of row)) at (c.in_ok-place.ensures.ok row e)));
+      expected = subst (AreExpected g.T.IndexedRow.number_of c.expect_one.new.self)
+          (sym (more_added added_row c.args.changes.now i change c.loop-change-test.true c.change-item.is))
+          (expected_more g.T.IndexedRow.number_of c.loop-change.self c.expect_one.new.self
+          (rows_added_by added_row (take i c.args.changes.now)) (added_row change) so_far.expected
+          c.expect_one.ensures.keeps c.expect_one.ensures.rows
+          (λ row e. subst (HasPlace c.expect_one.new.self.places (g.T.IndexedRow.number_of row))
+          at (c.in_ok-place.ensures.ok row e)));
     }

@@ -1,16 +1,24 @@
 use Rattle.std.proofs.Common.{◌∙◌}
-use Rattle.thes_store.proofs.Slotted.{fewer_rows, others_stay, within, none_left, found_emptied, ready_emptied}
+use Rattle.thes_store.proofs.SlotLemmas.{fewer_rows, others_stay, place_in_bounds, none_left, found_emptied}
+use Rattle.thes_store.proofs.SlotLemmas.{ready_emptied}
 use Rattle.thes_store.proofs.slots.Slots.remove.Goals as goal
 
 pub removing-smaller : goal.removing-smaller
-removing-smaller g c = fewer_rows g.T.Found.same c.args.row.now c.removing.self c.empty.new.self c.in-Some.place c.in-Some.ensures.some c.empty.ensures.rows
+removing-smaller g c = fewer_rows g.T.IndexedRow.same c.args.row.now c.removing.self c.empty.new.self c.in-Some.place
+    c.in-Some.ensures.some c.empty.ensures.rows
 
 pub removing-preserved : goal.removing-preserved
 removing-preserved g c = record {
-  rows = others_stay g.T.Found.same c.args.row.now c.removing.self c.empty.new.self c.in-Some.place c.in-Some.ensures.some c.empty.ensures.rows ∙ c.removing.invariant.rows;
-  found = found_emptied g.T.Found.number_of c.removing.self c.empty.new.self c.in-Some.place c.empty.ensures.rows c.empty.ensures.places c.removing.invariant.found;
-  ready = λ rest ready. ready_emptied g.T.Found.number_of c.removing.self c.empty.new.self c.in-Some.place rest (within g.T.Found.same c.args.row.now c.removing.self c.empty.new.self c.in-Some.place c.in-Some.ensures.some c.empty.ensures.rows) c.empty.ensures.len c.empty.ensures.capacity c.empty.ensures.places (c.removing.invariant.ready rest ready);
+  rows = others_stay g.T.IndexedRow.same c.args.row.now c.removing.self c.empty.new.self c.in-Some.place
+      c.in-Some.ensures.some c.empty.ensures.rows ∙ c.removing.invariant.rows;
+  found = found_emptied g.T.IndexedRow.number_of c.removing.self c.empty.new.self c.in-Some.place c.empty.ensures.rows
+      c.empty.ensures.places c.removing.invariant.found;
+  ready = λ rest ready. ready_emptied g.T.IndexedRow.number_of c.removing.self c.empty.new.self c.in-Some.place rest
+      (place_in_bounds g.T.IndexedRow.same c.args.row.now c.removing.self c.empty.new.self c.in-Some.place
+      c.in-Some.ensures.some c.empty.ensures.rows) c.empty.ensures.len c.empty.ensures.capacity c.empty.ensures.places
+      (c.removing.invariant.ready rest ready);
 }
 
 pub returns-clause-rows : goal.returns-clause-rows
-returns-clause-rows g c = none_left g.T.Found.same c.args.row.now c.removing.self (c.in_default.ensures.none c.removing.invariant.found) ∙ c.removing.invariant.rows
+returns-clause-rows g c = none_left g.T.IndexedRow.same c.args.row.now c.removing.self
+    (c.in_default.ensures.none c.removing.invariant.found) ∙ c.removing.invariant.rows

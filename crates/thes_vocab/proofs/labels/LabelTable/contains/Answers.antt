@@ -1,5 +1,5 @@
 use Rattle.std.proofs.Common.{sym}
-use Rattle.thes_vocab.specs.LabelData.{own_label}
+use Rattle.thes_vocab.specs.OwnLabels.{own_label}
 use Rattle.thes_vocab.proofs.labels.LabelTable.contains.Goals as goal
 
 pub returns-in-None : goal.returns-in-None

@@ -1,5 +1,5 @@
 use Rattle.std.proofs.Common.{rules}
-use Rattle.thes_vocab.proofs.TableLemmas.{two_owned, none_two}
+use Rattle.thes_vocab.proofs.LabelTableLemmas.{two_owned, none_two}
 use Rattle.thes_vocab.proofs.labels.LabelTable.has_two_preferred.Goals as goal
 
 pub returns-in-Some : goal.returns-in-Some

@@ -1,7 +1,7 @@
 use Rattle.std.proofs.Common.{◌∙◌, sym}
 use Rattle.thes_base.specs.declared.data.LabelKind.TheVariants.{Pref}
-use Rattle.thes_vocab.specs.LabelData.{own_label}
-use Rattle.thes_vocab.proofs.TableLemmas.{preferred_owned, none_preferred}
+use Rattle.thes_vocab.specs.OwnLabels.{own_label}
+use Rattle.thes_vocab.proofs.LabelTableLemmas.{preferred_owned, none_preferred}
 use Rattle.thes_vocab.proofs.AnswerLemmas.{match_weaker}
 use Rattle.thes_vocab.proofs.labels.LabelTable.preferred.Goals as goal
 

@@ -9,13 +9,16 @@ use Rattle.thes_vocab.proofs.load.VocabLoad.close.Goals as goal
 pub invariant_of-result : goal.invariant_of-result
 invariant_of-result c =
     let inside = c.self.inside in
-    let named = subst (λ (rs : List Resource). EachHasPreferred rs inside.labels) c.as_slice.ensures.value (c.are_named.ensures.0 c.if-are_named.true) in
-    loading_kept inside.base inside.resources.items inside.iris inside.labels inside.names inside.names inside.concepts c.self.invariant (subst HaveIris (sym c.self.view_is) c.requires) named
+    let named = subst (λ (rs : List Resource). EachHasPreferred rs inside.labels) c.as_slice.ensures.value
+    (c.are_named.ensures.0 c.if-are_named.true) in
+    loading_kept inside.base inside.resources.items inside.iris inside.labels inside.names inside.names
+    inside.concepts c.self.invariant (subst HaveIris (sym c.self.view_is) c.requires) named
 
 pub returns-then-are_named : goal.returns-then-are_named
 returns-then-are_named c =
     let inside = c.self.inside in
-    let named = subst (λ (rs : List Resource). EachHasPreferred rs inside.labels) c.as_slice.ensures.value (c.are_named.ensures.0 c.if-are_named.true) in
+    let named = subst (λ (rs : List Resource). EachHasPreferred rs inside.labels) c.as_slice.ensures.value
+    (c.are_named.ensures.0 c.if-are_named.true) in
     (subst (λ (v : Vocabulary). EachHasPreferred v.resources v.labels) c.self.view_is named, c.self.view_is)
 
 pub returns-else-are_named : goal.returns-else-are_named

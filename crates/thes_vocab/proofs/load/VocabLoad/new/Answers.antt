@@ -10,6 +10,8 @@ use Rattle.thes_vocab.proofs.load.VocabLoad.new.Goals as goal
 
 pub invariant_of-result : goal.invariant_of-result
 invariant_of-result c =
-    subst (λ (p : Iris × Labels). IsLoading c.args.base c.args.resources.items p.0 p.1 c.new-3.result c.list_all.new.concepts) (λ i. (sym c.new.ensures i, sym c.new-2.ensures i))
+    subst (λ (p : Iris × Labels). IsLoading c.args.base c.args.resources.items p.0 p.1 c.new-3.result
+    c.list_all.new.concepts) (λ i. (sym c.new.ensures i, sym c.new-2.ensures i))
     (loading_none c.args.base c.args.resources.items c.new-3.result c.list_all.new.concepts c.requires
-    (subst (λ rs. AreListings nat_cmp (IsConceptOf rs) c.list_all.new.concepts) c.as_slice.ensures.value c.in_ok-list_all.ensures))
+    (subst (λ rs. AreListings nat_cmp (IsConceptOf rs) c.list_all.new.concepts) c.as_slice.ensures.value
+    c.in_ok-list_all.ensures))

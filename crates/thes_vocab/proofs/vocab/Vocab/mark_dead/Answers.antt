@@ -3,10 +3,10 @@ use Rattle.thes_base.specs.declared.data.Resource.{Resource}
 use Rattle.thes_base.specs.Resources.{IsLiveConcept}
 use Rattle.thes_base.specs.Changes.{dead}
 use Rattle.thes_base.proofs.ResourceLemmas.{marked_dead_at}
-use Rattle.thes_vocab.specs.Vocabulary.{Vocabulary, IsReplacement, with_dead}
-use Rattle.thes_vocab.specs.Listed.{IsRemoved}
-use Rattle.thes_vocab.specs.Kept.{IsConsistent}
-use Rattle.thes_vocab.proofs.KeptLemmas.{kept_dead, numbered_at}
+use Rattle.thes_vocab.specs.Vocabulary.{Vocabulary, IsReplacement, vocabulary_after_death}
+use Rattle.thes_vocab.specs.ConceptLists.{ConceptListsAfterRemove}
+use Rattle.thes_vocab.specs.Consistency.{IsConsistentVocabulary}
+use Rattle.thes_vocab.proofs.ConsistencyLemmas.{kept_dead, numbered_at}
 use Rattle.thes_vocab.proofs.vocab.Vocab.mark_dead.Goals as goal
 
 pub invariant_of-self : goal.invariant_of-self
@@ -15,12 +15,17 @@ invariant_of-self c =
     let rs = inside.resources.items in
     let r = c.index-resource.result.now in
     let live = subst (λ (v : Vocabulary). IsLiveConcept v.resources c.args.n) (sym c.self.view_is) c.requires.concept in
-    let fit = subst (λ (v : Vocabulary). IsReplacement v.resources c.args.n c.args.replaced) (sym c.self.view_is) c.requires.replacement in
-    let at = numbered_at rs c.args.n r live.0 live.1 (c.index-resource.ensures ∙ ap (λ k. get_or rs (k - 1) r) c.get.ensures.value) in
+    let fit = subst (λ (v : Vocabulary). IsReplacement v.resources c.args.n c.args.replaced) (sym c.self.view_is)
+    c.requires.replacement in
+    let at = numbered_at rs c.args.n r live.0 live.1 (c.index-resource.ensures ∙ ap (λ k. get_or rs (k - 1) r)
+    c.get.ensures.value) in
     let new = ap (dead c.args.replaced) c.resource.view_is in
-    let removed = subst (λ (x : Resource). IsRemoved inside.concepts c.remove.new.concepts x.scheme c.args.n) c.resource.view_is c.remove.ensures in
-    subst (λ (x : List Resource). IsConsistent inside.base x inside.iris inside.labels inside.names c.remove.new.concepts) (λ i. set rs (sym c.get.ensures.value i - 1) (sym new i))
-    (kept_dead inside.base rs inside.iris inside.labels inside.names inside.concepts c.remove.new.concepts c.args.n c.args.replaced r c.self.invariant at live fit removed)
+    let removed = subst (λ (x : Resource). ConceptListsAfterRemove inside.concepts c.remove.new.concepts x.scheme
+    c.args.n) c.resource.view_is c.remove.ensures in
+    subst (λ (x : List Resource). IsConsistentVocabulary inside.base x inside.iris inside.labels inside.names
+    c.remove.new.concepts) (λ i. set rs (sym c.get.ensures.value i - 1) (sym new i))
+    (kept_dead inside.base rs inside.iris inside.labels inside.names inside.concepts c.remove.new.concepts c.args.n
+    c.args.replaced r c.self.invariant at live fit removed)
 
 pub returns : goal.returns
 returns c =
@@ -28,8 +33,15 @@ returns c =
     let rs = inside.resources.items in
     let r = c.index-resource.result.now in
     let live = subst (λ (v : Vocabulary). IsLiveConcept v.resources c.args.n) (sym c.self.view_is) c.requires.concept in
-    let at = numbered_at rs c.args.n r live.0 live.1 (c.index-resource.ensures ∙ ap (λ k. get_or rs (k - 1) r) c.get.ensures.value) in
+    let at = numbered_at rs c.args.n r live.0 live.1 (c.index-resource.ensures ∙ ap (λ k. get_or rs (k - 1) r)
+    c.get.ensures.value) in
     let new = ap (dead c.args.replaced) c.resource.view_is in
-    let list = (λ i. set rs (c.get.ensures.value i - 1) (new i)) ∙ sym (marked_dead_at rs c.args.n c.args.replaced r at) in
-    ap (λ (x : List Resource). let v : Vocabulary = record { base = inside.base; resources = x; iris = inside.iris; labels = inside.labels } in v) list
-    ∙ ap (λ (v : Vocabulary). with_dead v c.args.n c.args.replaced) c.self.view_is
+    let list = (λ i. set rs (c.get.ensures.value i - 1) (new i))
+    ∙ sym (marked_dead_at rs c.args.n c.args.replaced r at) in
+    ap (λ (x : List Resource). let v : Vocabulary = record {
+      base = inside.base;
+      resources = x;
+      iris = inside.iris;
+      labels = inside.labels;
+    } in v) list
+    ∙ ap (λ (v : Vocabulary). vocabulary_after_death v c.args.n c.args.replaced) c.self.view_is

@@ -3,15 +3,16 @@ use Rattle.thes_base.specs.declared.data.Resource.{Resource}
 use Rattle.thes_base.specs.declared.data.LabelKind.TheVariants.{Pref}
 use Rattle.thes_base.specs.Labels.{Labels, HasLabel}
 use Rattle.thes_base.specs.Legal.{LegalLabels}
-use Rattle.thes_base.specs.Changes.{labels_relabelled}
+use Rattle.thes_base.specs.Changes.{labels_after_relabel}
 use Rattle.thes_vocab.specs.Vocabulary.{Vocabulary, with_labels}
-use Rattle.thes_vocab.specs.Kept.{IsConsistent}
-use Rattle.thes_vocab.proofs.JudgingLemmas.{relabelled_is}
-use Rattle.thes_vocab.proofs.KeptLemmas.{IsSchemeOf, seen_name_noted, seen_renamed, unchanged}
+use Rattle.thes_vocab.specs.Consistency.{IsConsistentVocabulary}
+use Rattle.thes_vocab.proofs.LabelCheckLemmas.{relabelled_is}
+use Rattle.thes_vocab.proofs.ConsistencyLemmas.{IsSchemeOf, seen_name_noted, seen_renamed, relabel_to_same_text}
 use Rattle.thes_vocab.proofs.vocab.Vocab.relabel.Goals as goal
 
--- the clone of the owner's label is the owner's label
-held : (labels : Labels) (owner : ℕ) (tag known old : List ℕ) → HasLabel labels owner Pref tag known → old ≡ known → HasLabel labels owner Pref tag old
+-- A copy of the owner's label is the owner's label.
+held : (labels : Labels) (owner : ℕ) (tag known old : List ℕ) → HasLabel labels owner Pref tag known → old ≡ known
+    → HasLabel labels owner Pref tag old
 held labels owner tag known old has same = subst (HasLabel labels owner Pref tag) (sym same) has
 
 pub returns-then-eq-clause-ok : goal.returns-then-eq-clause-ok
@@ -19,30 +20,50 @@ returns-then-eq-clause-ok c =
     let v = c.args.self.now in
     let same : c.in_ok-old.old ≡ c.args.text.now = search rules in
     let legal = subst (λ (v : Vocabulary). LegalLabels v.resources v.labels) c.self.view_is c.self.invariant.named in
-    let has = subst (λ (v : Vocabulary). HasLabel v.labels c.args.owner Pref c.args.tag.now c.in_ok-old.old) c.self.view_is (held c.self.inside.labels c.args.owner c.args.tag.now _ _ c.in-Some.ensures c.in_ok-old.ensures) in
-    ap (with_labels v) (unchanged v.resources v.labels c.args.owner c.args.tag.now c.args.text.now c.in_ok-old.old c.args.keep legal has same c.requires.allowed)
+    let has = subst (λ (v : Vocabulary). HasLabel v.labels c.args.owner Pref c.args.tag.now c.in_ok-old.old)
+    c.self.view_is (held c.self.inside.labels c.args.owner c.args.tag.now _ _ c.in-Some.ensures
+    c.in_ok-old.ensures) in
+    ap (with_labels v) (relabel_to_same_text v.resources v.labels c.args.owner c.args.tag.now c.args.text.now
+    c.in_ok-old.old c.args.keep legal has same c.requires.allowed)
 
 pub invariant_of-self-in_err-rename : goal.invariant_of-self-in_err-rename
 invariant_of-self-in_err-rename c =
     let inside = c.self.inside in
-    let kept = seen_name_noted inside.base inside.resources.items inside.iris inside.labels inside.names c.put.new.self inside.concepts c.self.invariant _ c.self.view_is c.args.owner
-    c.concept_scheme-scheme.result _ c.as_slice.ensures.value c.concept_scheme-scheme.ensures c.args.tag.now c.args.text.now c.in_ok-old.old c.args.keep
-    (held inside.labels c.args.owner c.args.tag.now _ _ c.in-Some.ensures c.in_ok-old.ensures) c.requires.allowed c.in_ok-put.ensures.ok in
-    subst (λ (labels : Labels). IsConsistent inside.base inside.resources.items inside.iris labels c.put.new.self inside.concepts) (sym c.in_err-rename.ensures.err) kept
+    let kept = seen_name_noted inside.base inside.resources.items inside.iris inside.labels inside.names
+    c.put.new.self inside.concepts c.self.invariant _ c.self.view_is c.args.owner
+    c.concept_scheme-scheme.result _ c.as_slice.ensures.value c.concept_scheme-scheme.ensures c.args.tag.now
+    c.args.text.now c.in_ok-old.old c.args.keep
+    (held inside.labels c.args.owner c.args.tag.now _ _ c.in-Some.ensures c.in_ok-old.ensures) c.requires.allowed
+    c.in_ok-put.ensures.ok in
+    subst (λ (labels : Labels). IsConsistentVocabulary inside.base inside.resources.items inside.iris labels
+    c.put.new.self inside.concepts) (sym c.in_err-rename.ensures.err) kept
 
 pub invariant_of-self-2 : goal.invariant_of-self-2
 invariant_of-self-2 c =
     let inside = c.self.inside in
-    let again = subst (λ (xs : List Resource). IsSchemeOf xs c.args.owner c.concept_scheme-scheme-2.result) (c.as_slice-2.ensures.value ∙ sym c.as_slice.ensures.value) c.concept_scheme-scheme-2.ensures in
+    let again = subst (λ (xs : List Resource). IsSchemeOf xs c.args.owner c.concept_scheme-scheme-2.result)
+    (c.as_slice-2.ensures.value ∙ sym c.as_slice.ensures.value) c.concept_scheme-scheme-2.ensures in
     let differ : c.in_ok-old.old ≢ c.args.text.now = search rules in
-    let kept = seen_renamed inside.base inside.resources.items inside.iris inside.labels inside.names c.put.new.self inside.concepts c.self.invariant _ c.self.view_is c.args.owner
-    c.concept_scheme-scheme.result _ c.as_slice.ensures.value c.concept_scheme-scheme.ensures c.args.tag.now c.args.text.now c.in_ok-old.old c.args.keep
-    (held inside.labels c.args.owner c.args.tag.now _ _ c.in-Some.ensures c.in_ok-old.ensures) c.requires.allowed c.in_ok-put.ensures.ok c.requires.owner.can differ c.forget.new.self _ again c.forget.ensures in
-    subst (λ (labels : Labels). IsConsistent inside.base inside.resources.items inside.iris labels c.forget.new.self inside.concepts) (sym c.in_ok-rename.ensures.ok) kept
+    let kept = seen_renamed inside.base inside.resources.items inside.iris inside.labels inside.names c.put.new.self
+    inside.concepts c.self.invariant _ c.self.view_is c.args.owner
+    c.concept_scheme-scheme.result _ c.as_slice.ensures.value c.concept_scheme-scheme.ensures c.args.tag.now
+    c.args.text.now c.in_ok-old.old c.args.keep
+    (held inside.labels c.args.owner c.args.tag.now _ _ c.in-Some.ensures c.in_ok-old.ensures) c.requires.allowed
+    c.in_ok-put.ensures.ok c.requires.owner.can differ c.forget.new.self _ again c.forget.ensures in
+    subst (λ (labels : Labels). IsConsistentVocabulary inside.base inside.resources.items inside.iris labels
+    c.forget.new.self inside.concepts) (sym c.in_ok-rename.ensures.ok) kept
 
 pub returns-clause-ok : goal.returns-clause-ok
 returns-clause-ok c =
     let inside = c.self.inside in
-    let is = relabelled_is inside.labels c.args.owner c.args.tag.now c.args.text.now c.in_ok-old.old c.args.keep c.self.invariant.named.one_preferred (held inside.labels c.args.owner c.args.tag.now _ _ c.in-Some.ensures c.in_ok-old.ensures) in
-    ap (λ (labels : Labels). let v : Vocabulary = record { base = inside.base; resources = inside.resources.items; iris = inside.iris; labels = labels } in v) (c.in_ok-rename.ensures.ok ∙ sym is)
-    ∙ ap (λ (v : Vocabulary). with_labels v (labels_relabelled c.args.owner c.args.tag.now c.args.text.now c.args.keep v.labels)) c.self.view_is
+    let is = relabelled_is inside.labels c.args.owner c.args.tag.now c.args.text.now c.in_ok-old.old c.args.keep
+    c.self.invariant.named.one_preferred (held inside.labels c.args.owner c.args.tag.now _ _ c.in-Some.ensures
+    c.in_ok-old.ensures) in
+    ap (λ (labels : Labels). let v : Vocabulary = record {
+      base = inside.base;
+      resources = inside.resources.items;
+      iris = inside.iris;
+      labels = labels;
+    } in v) (c.in_ok-rename.ensures.ok ∙ sym is)
+    ∙ ap (λ (v : Vocabulary). with_labels v (labels_after_relabel c.args.owner c.args.tag.now c.args.text.now
+    c.args.keep v.labels)) c.self.view_is

@@ -1,6 +1,0 @@
-use Rattle.thes_base.specs.Links.{HeldIn}
-use Rattle.thes_graph.specs.Local.{BreakNone}
-use Rattle.bench_graph.proofs.levels.judge_all.Given as goal
-
-abbrev pub invariant-loop : goal.invariant-loop
-invariant-loop l = BreakNone (HeldIn l.walk.net.links)

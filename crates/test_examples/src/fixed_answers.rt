@@ -1,0 +1,81 @@
+//! Answers that no store gives.
+ghost use Rattle.std.specs.Prelude.{not};
+
+use std::alloc::Global;
+use std::io::{Read, Write};
+use thes_base::fault::{Fault, PipeFault, Refusal, Table};
+use thes_base::pipe::Pipe;
+use thes_base::request::{Answer, Command};
+use thes_exchange::handler::{QueryAnswer, RequestHandler, ViewLine};
+use thes_exchange::request::Query;
+use thes_exchange::script::{Ended, script};
+
+/// Answers each withdrawal by the number of its posting, and refuses every other request. Posting 7 runs out of memory, and
+/// a later one also closes the handler.
+#[derive(Drop)]
+pub struct FixedAnswers {
+    is_closed: bool,
+}
+
+impl FixedAnswers {
+    /// Creates an open handler.
+    pub fn new() -> FixedAnswers {
+        FixedAnswers { is_closed: false }
+    }
+
+    /// Serves a script, and returns the writer and how the script ended.
+    pub fn serve<R: Read + Drop, W: Write>(
+        mut self,
+        alloc: Global,
+        input: R,
+        output: W,
+    ) -> (W, Result<Ended, PipeFault>) {
+        if self.is_closed {
+            return (output, Err(PipeFault::Fault(Fault::OutOfMemory)));
+        }
+        let mut reader = Pipe::new(input);
+        let mut writer = Pipe::new(output);
+        let ended = script(alloc, &mut reader, &mut writer, &mut self);
+        (writer.into_device(), ended)
+    }
+}
+
+fn answer_to(number: u32) -> Result<Answer, Fault> {
+    match number {
+        1 => Ok(Answer::Number(1)),
+        2 => Ok(Answer::Parted(4294967295, 4294967295)),
+        3 => Err(Fault::Store),
+        4 => Err(Fault::BadStore(Table::Posting)),
+        5 => Err(Fault::NewerStore),
+        6 => Err(Fault::OlderStore),
+        _ => Err(Fault::OutOfMemory),
+    }
+}
+
+impl RequestHandler for FixedAnswers {
+    ghost performs = { λ _ _ _ _. Unit {0} };
+
+    ghost shows = { λ _ _ _ _. Unit {0} };
+
+    ghost is_open = { λ handler. not handler.is_closed };
+
+    fn perform(&mut self, command: &Command) -> Result<Answer, Fault> {
+        let Command::Withdraw(posting) = command else {
+            return Ok(Answer::No(Refusal::WrongKind));
+        };
+        let number = posting.get();
+        self.is_closed = number > 7;
+        answer_to(number)
+    }
+
+    fn show(&mut self, alloc: Global, query: &Query) -> Result<QueryAnswer, Fault> {
+        match query {
+            Query::Totals => Ok(QueryAnswer::Line(ViewLine::new(Vec::from_slice(alloc, b"{}\n")?))),
+            _ => Ok(QueryAnswer::No(Refusal::UnknownResource)),
+        }
+    }
+
+    fn is_open(&self) -> bool {
+        !self.is_closed
+    }
+}

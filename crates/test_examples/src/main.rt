@@ -1,0 +1,82 @@
+//! Runs stored examples, each over a new store, and reports those whose answers or text differ from what is stored. The
+//! arguments name the files; "Stored examples" in CONTRIBUTING.md defines their form. Files whose names begin with
+//! `tables` hold the tables of stores instead, each with the expected verdict of its load.
+#![tactic(auto)]
+
+mod example;
+mod fixed_answers;
+mod halting;
+mod list;
+mod lookups;
+mod modes;
+mod tables;
+mod texts;
+
+use crate::example::Example;
+use crate::modes::run;
+use crate::tables::{TableExample, load_verdict};
+use std::alloc::Global;
+use std::{env, fs, io};
+
+// Reports the first line that differs from the stored one.
+fn report_difference<R: Print>(rt: &R, example: &Example, answers: &str) -> io::Result<()> {
+    let mut answers = answers.lines();
+    for expected in example.answers.as_str().lines() {
+        let answer = answers.next().unwrap_or("");
+        if answer != expected {
+            println!(rt; "  {}: {answer}, where {expected} is stored", example.name)?;
+            return Ok(());
+        }
+    }
+    println!(rt; "  {}: {}", example.name, answers.next().unwrap_or(""))
+}
+
+// Runs the examples of a file, and counts them and those that differ from what is stored.
+fn run_file<R: Print>(rt: &R, alloc: Global, name: &str, text: &str) -> io::Result<()> {
+    let mut parts = text.split("\n% ");
+    let start = parts.next().unwrap_or("");
+    let (mut examples, mut differing) = (0u32, 0u32);
+    println!(rt; "{name}")?;
+    for part in parts {
+        let example = Example::read(alloc, start, part)?;
+        let answers = run(alloc, &example)?;
+        examples = examples.saturating_add(1);
+        if answers != example.answers {
+            differing = differing.saturating_add(1);
+            report_difference(rt, &example, answers.as_str())?;
+        }
+    }
+    println!(rt; "  {examples} examples, {differing} other than stored")
+}
+
+// Loads the tables of a file, and counts those whose verdict isn't the expected one.
+fn run_tables<R: Print>(rt: &R, alloc: Global, name: &str, text: &str) -> io::Result<()> {
+    let mut parts = text.split("\n% ");
+    let start = parts.next().unwrap_or("");
+    let (mut stores, mut differing) = (0u32, 0u32);
+    println!(rt; "{name}")?;
+    for part in parts {
+        let example = TableExample::read(alloc, start, part)?;
+        let verdict = load_verdict(alloc, &example)?;
+        stores = stores.saturating_add(1);
+        if verdict.as_str() != example.verdict {
+            differing = differing.saturating_add(1);
+            println!(rt; "  {}: {verdict}", example.name)?;
+        }
+    }
+    println!(rt; "  {stores} stores, {differing} judged otherwise than stored")
+}
+
+fn main(rt: HostRuntime) -> io::Result<()> {
+    let mut names = env::args(&rt)?;
+    let _program = names.next();
+    for name in names {
+        let text = fs::read_to_string(&rt, name.as_str())?;
+        if name.as_str().starts_with("tables") {
+            run_tables(&rt, rt.alloc(), name.as_str(), text.as_str())?;
+        } else {
+            run_file(&rt, rt.alloc(), name.as_str(), text.as_str())?;
+        }
+    }
+    Ok(())
+}

@@ -1,0 +1,88 @@
+//! A service that keeps nothing but a count.
+ghost use Rattle.std.specs.Prelude.{true};
+
+use std::alloc::Global;
+use thes_base::fault::{Fault, Refusal};
+use thes_base::number::ResNo;
+use thes_base::request::{Answer, Command};
+use thes_base::text::Tag;
+use thes_exchange::handler::{QueryAnswer, RequestHandler, ViewLine};
+use thes_exchange::request::Query;
+use thes_http::service::{Display, DisplayAnswer, ImportAnswer, Page, Service};
+
+/// A display longer than what a response writes with one call.
+pub static PAGE: [u8; 600] = [b'x'; 600];
+
+/// A service that counts withdrawals and imports, and refuses all other commands. It has the
+/// schemes 1 and 3, of which the second has a long display.
+#[derive(Drop)]
+pub struct CountingService {
+    pub performed: u32,
+}
+
+impl RequestHandler for CountingService {
+    ghost performs = { λ _ _ _ _. Unit {0} };
+
+    ghost shows = { λ _ _ _ _. Unit {0} };
+
+    ghost is_open = { λ _. true };
+
+    fn perform(&mut self, command: &Command) -> Result<Answer, Fault> {
+        match command {
+            Command::Withdraw(_) => {
+                self.performed = self.performed.saturating_add(1);
+                Ok(Answer::Number(self.performed))
+            }
+            _ => Ok(Answer::No(Refusal::SameResource)),
+        }
+    }
+
+    fn show(&mut self, alloc: Global, query: &Query) -> Result<QueryAnswer, Fault> {
+        match query {
+            Query::Totals => {
+                let line = b"{\"accepted\":0,\"standing\":0,\"withdrawn\":0}\n";
+                Ok(QueryAnswer::Line(ViewLine::new(Vec::from_slice(alloc, line)?)))
+            }
+            _ => Ok(QueryAnswer::No(Refusal::UnknownResource)),
+        }
+    }
+
+    fn is_open(&self) -> bool {
+        true
+    }
+}
+
+impl Service for CountingService {
+    ghost imports = { λ _ _ _ _. Unit {0} };
+
+    ghost exports = { λ _ _ _. Unit {0} };
+
+    ghost displays = { λ _ _ _ _ _ _. Unit {0} };
+
+    fn import(&mut self, alloc: Global, file: &[u8]) -> Result<ImportAnswer, Fault> {
+        if file.is_empty() {
+            return Ok(ImportAnswer::Malformed);
+        }
+        self.performed = self.performed.saturating_add(1);
+        Ok(ImportAnswer::Outcomes(Page::new(Vec::from_slice(alloc, file)?)))
+    }
+
+    fn export(&mut self, alloc: Global) -> Result<Page, Fault> {
+        Ok(Page::new(Vec::from_slice(alloc, b"<a:b> <a:c> <a:d> .\n")?))
+    }
+
+    fn display(
+        &mut self,
+        alloc: Global,
+        _display: Display,
+        scheme: ResNo,
+        tag: &Tag,
+    ) -> Result<DisplayAnswer, Fault> {
+        let text = match scheme.get() {
+            1 => tag.as_str().as_bytes(),
+            3 => &PAGE,
+            _ => return Ok(DisplayAnswer::No(Refusal::UnknownResource)),
+        };
+        Ok(DisplayAnswer::Lines(Page::new(Vec::from_slice(alloc, text)?)))
+    }
+}

@@ -1,0 +1,123 @@
+//! Posts and merges for any `Keeper`.
+ghost use Rattle.std.specs.Prelude.{◌≡◌, ◌+◌, [], true, IfOk, OnOk, OnErr};
+ghost use Rattle.thes_tables.specs.Cells.{cells_of_tables};
+ghost use Rattle.thes_tables.specs.Rows.{tables_after_change, ChangeFits, DeltaFits};
+ghost use Rattle.thes_tables.specs.Tables.{Tables};
+ghost use Rattle.test_keeper.specs.PostedTables.{AwaitsPosting};
+
+use crate::failure::Failure;
+use std::alloc::{AllocError, Global};
+use thes_base::fault::Fault;
+use thes_base::number::{MoveNo, PostNo, ResNo};
+use thes_base::text::{Key, RecordName};
+use thes_store::keeper::Keeper;
+use thes_tables::change::Change;
+use thes_tables::delta::Delta;
+use thes_tables::rows::{MoveRow, PostingRow};
+
+/// The number of concepts to which the postings are assigned in turn.
+pub const CONCEPTS: u32 = 10;
+
+/// Commits one change.
+pub fn commit_one<K: Keeper>(alloc: Global, keeper: &mut K, change: Change) -> Result<(), Fault>
+    requires { K.is_up keeper.old → (t : Tables) → K.rows keeper.old ≡ cells_of_tables t → ChangeFits change t }
+    ensures was { K.is_up keeper.new → K.is_up keeper.old }
+    ensures ok { OnOk result (K.is_up keeper.new → (t : Tables) → K.rows keeper.old ≡ cells_of_tables t
+        → K.rows keeper.new ≡ cells_of_tables (tables_after_change change t)) }
+    ensures err { OnErr result (K.is_up keeper.new → K.rows keeper.new ≡ K.rows keeper.old) }
+{
+    let mut delta = Delta::new(alloc);
+    delta.push(change)?;
+    keeper.commit(delta)
+}
+
+// Inserts the next posting if its key is new, and returns whether it was.
+fn post<K: Keeper>(
+    alloc: Global,
+    keeper: &mut K,
+    number: PostNo,
+    key: Key,
+    rec: RecordName,
+    concept: ResNo,
+) -> Result<bool, Fault>
+    requires { AwaitsPosting K.rows K.is_up keeper.old number }
+    ensures { IfOk result (λ is_new. is_new ≡ true
+        → AwaitsPosting K.rows K.is_up keeper.new (number + 1)) }
+{
+    match keeper.find(&key)? {
+        Some(_) => Ok(false),
+        None => {
+            let row = PostingRow {
+                number,
+                key,
+                rec,
+                first: concept,
+                place: concept,
+                withdrawn: false,
+            };
+            commit_one(alloc, keeper, Change::AddPosting(row))?;
+            Ok(true)
+        }
+    }
+}
+
+/// Returns a letter followed by a number.
+pub fn name_with_number(alloc: Global, letter: &str, number: u32) -> Result<String, AllocError> {
+    format!(in alloc; "{letter}{number}")
+}
+
+/// Inserts `count` postings, each in a commit of its own, and assigns them in turn to the concepts from number 2 on.
+pub fn post_all<K: Keeper>(alloc: Global, keeper: &mut K, count: u32) -> Result<(), Failure>
+    requires { AwaitsPosting K.rows K.is_up keeper.old 1 }
+    ensures { OnOk result (AwaitsPosting K.rows K.is_up keeper.new (count + 1)) }
+{
+    for made in 0..count {
+        let number = made + 1;
+        let key = Key::read(alloc, name_with_number(alloc, "k", number)?.as_str())?;
+        let rec = RecordName::read(alloc, name_with_number(alloc, "r", number)?.as_str())?;
+        let concept = ResNo::new(2 + made % CONCEPTS);
+        if !post(alloc, keeper, PostNo::new(number), key, rec, concept)? {
+            return Err(Failure::Known);
+        }
+    }
+    Ok(())
+}
+
+/// Returns the changes that move all postings from the source to the target, with `count` rows of moves.
+pub fn merge_delta(
+    alloc: Global,
+    source: ResNo,
+    target: ResNo,
+    count: u32,
+) -> Result<Delta, AllocError>
+    ensures { IfOk result (λ delta. (t : Tables) → t.move ≡ [] → DeltaFits delta t) }
+{
+    let mut delta = Delta::new(alloc);
+    delta.push(Change::MoveAll(source, target))?;
+    for i in 0..count {
+        let number = i + 1;
+        delta.push(Change::AddMove(MoveRow {
+            number: MoveNo::new(number),
+            posting: PostNo::new(i.wrapping_mul(CONCEPTS).max(1)),
+            source,
+            target,
+        }))?;
+    }
+    Ok(delta)
+}
+
+/// Moves all postings from the source to the target in one commit, with `count` rows of moves.
+pub fn merge<K: Keeper>(
+    alloc: Global,
+    keeper: &mut K,
+    source: ResNo,
+    target: ResNo,
+    posts: u32,
+    count: u32,
+) -> Result<(), Failure>
+    requires { AwaitsPosting K.rows K.is_up keeper.old (posts + 1) }
+{
+    let delta = merge_delta(alloc, source, target, count)?;
+    keeper.commit(delta)?;
+    Ok(())
+}

@@ -1,0 +1,66 @@
+-- The labels after a preferred label is replaced.
+use Rattle.std.proofs.Common.{◌≡◌, ◌≢◌, ◌⊎◌, ℕ, List, refl, inl, inr, Bool, true, false}
+use Rattle.std.specs.Prelude.{if◌then◌else◌}
+use Rattle.std.specs.FinSet.{contains, insert, remove}
+use Rattle.thes_base.specs.declared.data.LabelKind.TheVariants.{Pref, Alt}
+use Rattle.thes_base.specs.Labels.{Label, Labels}
+use Rattle.thes_base.specs.Changes.{label, replace_preferred}
+use Rattle.thes_base.proofs.LabelSetLemmas.{inserted_cases, inserted_kept, inserted_new, removed_cases, removed_kept}
+
+module _ (labels : Labels) (owner : ℕ) (tag text old : List ℕ) (keep : Bool) where
+  abbrev was : Label
+  was = label owner Pref tag old
+
+  abbrev fresh : Label
+  fresh = label owner Pref tag text
+
+  abbrev kept : Label
+  kept = label owner Alt tag old
+
+  abbrev plain : Labels
+  plain = insert (remove labels was) fresh
+
+  abbrev after : Labels
+  after = replace_preferred owner tag text keep old labels
+
+  -- The label is the new one, the old text as an alternative label, or another old label.
+  abbrev pub IsReplacedLabel : Label → Type 0
+  IsReplacedLabel q = (q ≡ fresh) ⊎ ((keep ≡ true) × (q ≡ kept)) ⊎ ((q ≢ was) × (contains labels q ≡ true))
+
+  pub renamed_cases : (q : Label) → contains after q ≡ true → IsReplacedLabel q
+  renamed_cases q = go keep
+    where
+      of_plain : (b : Bool) → contains plain q ≡ true → (q ≡ fresh) ⊎ ((b ≡ true) × (q ≡ kept))
+          ⊎ ((q ≢ was) × (contains labels q ≡ true))
+      of_plain b e = elim (inserted_cases (remove labels was) fresh q e)
+          [ inl is ↦ inl is | inr before ↦ inr (inr (removed_cases labels was q before)) ]
+
+      go : (b : Bool) → contains (if b then insert plain kept else plain) q ≡ true → (q ≡ fresh)
+          ⊎ ((b ≡ true) × (q ≡ kept)) ⊎ ((q ≢ was) × (contains labels q ≡ true))
+      go true e = elim (inserted_cases plain kept q e) [
+        | inl is ↦ inr (inl (refl, is))
+        | inr before ↦ of_plain true
+            before
+      ]
+      go false e = of_plain false e
+
+  renamed_has : (q : Label) → contains plain q ≡ true → contains after q ≡ true
+  renamed_has q h = go keep
+    where
+      go : (b : Bool) → contains (if b then insert plain kept else plain) q ≡ true
+      go true = inserted_kept plain kept q h
+      go false = h
+
+  pub renamed_fresh : contains after fresh ≡ true
+  renamed_fresh = renamed_has fresh (inserted_new (remove labels was) fresh)
+
+  pub renamed_old : (q : Label) → q ≢ was → contains labels q ≡ true → contains after q ≡ true
+  renamed_old q apart held =
+      renamed_has q (inserted_kept (remove labels was) fresh q (removed_kept labels was q apart held))
+
+  pub renamed_kept : keep ≡ true → contains after kept ≡ true
+  renamed_kept e = go keep e
+    where
+      go : (b : Bool) → b ≡ true → contains (if b then insert plain kept else plain) kept ≡ true
+      go true e = inserted_new plain kept
+      go false e = absurd (cc)

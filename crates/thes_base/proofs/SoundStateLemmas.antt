@@ -1,0 +1,33 @@
+-- A sound state is legal except for the forms of its texts, which requests without forms could break.
+use Rattle.std.proofs.Common.{List, ℕ}
+use Rattle.thes_base.specs.State.{State}
+use Rattle.thes_base.specs.Legal.{Legal, LegalResources, LegalLabels, LegalLinks, LegalPostings}
+use Rattle.thes_base.specs.Texts.{HaveForms, LegalTexts}
+
+pub record IsSound (base : List ℕ) (s : State) : Type 0 where
+  pub resources : LegalResources base s.resources s.iris
+  pub labels : LegalLabels s.resources s.labels
+  pub links : LegalLinks s.resources s.links
+  pub postings : LegalPostings s.resources s.histories
+
+pub sound_of_legal : (base : List ℕ) (s : State) → Legal base s → IsSound base s
+sound_of_legal base s legal = record {
+  resources = legal.resources;
+  labels = legal.labels;
+  links = legal.links;
+  postings = legal.postings;
+}
+
+pub legal_of_sound : (base : List ℕ) (s : State) → IsSound base s → HaveForms base s → Legal base s
+unfolding LegalTexts
+legal_of_sound base s sound texts = record {
+  resources = sound.resources;
+  labels = sound.labels;
+  links = sound.links;
+  postings = sound.postings;
+  texts = texts;
+}
+
+pub forms_of_legal : (base : List ℕ) (s : State) → Legal base s → HaveForms base s
+unfolding LegalTexts
+forms_of_legal base s legal = legal.texts

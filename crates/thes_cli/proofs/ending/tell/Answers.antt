@@ -1,4 +1,0 @@
-use Rattle.thes_cli.proofs.ending.tell.Goals as goal
-
-pub returns-clause-line : goal.returns-clause-line
-returns-clause-line g c = rw (← c.fault_line.ensures, ← c.as_bytes.ensures) c.tell_text.ensures.text

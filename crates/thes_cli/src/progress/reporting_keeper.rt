@@ -1,0 +1,106 @@
+//! A keeper that reports progress.
+ghost use Rattle.std.specs.Prelude.{◌≡◌};
+
+use crate::progress::Progress;
+use crate::progress::counting_sink::CountingSink;
+use std::marker::Model;
+use thes_base::fault::Fault;
+use thes_base::number::{PostNo, ResNo};
+use thes_base::text::Key;
+use thes_store::keeper::{Keeper, Posting};
+use thes_store::sink::{PostingSink, RowSink};
+use thes_tables::delta::Delta;
+use thes_tables::rows::PostingRow;
+
+/// A keeper that reports the number of rows loaded and of postings looked up. A contract sees it as the inner keeper.
+#[derive(Drop)]
+pub struct ReportingKeeper<K: Keeper, P> {
+    keeper: K,
+    progress: P,
+    // The number of postings looked up, which saturates at the greatest value.
+    lookups: u64,
+}
+
+impl<K: Keeper, P> Model for ReportingKeeper<K, P> {
+    ghost use Rattle.std.specs.Coded.{codes};
+
+    ghost Value = { K };
+
+    ghost coded = { Prim.hlevel (codes, K.code) };
+
+    ghost view = { λ a. a.keeper };
+}
+
+impl<K: Keeper, P: Progress + Copy> ReportingKeeper<K, P> {
+    /// Wraps a keeper, with a listener for its progress.
+    pub fn new(keeper: K, progress: P) -> ReportingKeeper<K, P>
+        ensures { result ≡ keeper }
+    {
+        ReportingKeeper {
+            keeper,
+            progress,
+            lookups: 0,
+        }
+    }
+
+    /// Returns the inner keeper.
+    pub fn into_keeper(self) -> K
+        ensures { result ≡ self }
+    {
+        let ReportingKeeper {
+            keeper,
+            progress: _,
+            lookups: _,
+        } = self;
+        keeper
+    }
+}
+
+/// Each call is passed to the inner keeper.
+impl<K: Keeper, P: Progress + Copy> Keeper for ReportingKeeper<K, P> {
+    ghost rows = { K.rows };
+
+    ghost is_up = { K.is_up };
+
+    ghost failed = { K.failed };
+
+    fn failures(&self) -> u64 {
+        self.keeper.failures()
+    }
+
+    fn load<S: RowSink>(&mut self, sink: &mut S) -> Result<(), Fault> {
+        let mut counting = CountingSink {
+            sink,
+            progress: self.progress,
+            rows: 0,
+        };
+        let result = self.keeper.load(&mut counting);
+        let CountingSink {
+            sink,
+            progress,
+            rows: _,
+        } = counting;
+        // No effect; states the sink's final value for the proof.
+        let _ = &*sink;
+        self.progress = progress;
+        result
+    }
+
+    fn commit(&mut self, delta: Delta) -> Result<(), Fault> {
+        self.keeper.commit(delta)
+    }
+
+    fn find(&mut self, key: &Key) -> Result<Option<PostingRow>, Fault> {
+        self.progress.report_lookups(self.lookups);
+        self.lookups = self.lookups.saturating_add(1);
+        self.keeper.find(key)
+    }
+
+    fn posting(&mut self, number: PostNo) -> Result<Option<Posting>, Fault> {
+        self.keeper.posting(number)
+    }
+
+    fn standing<S: PostingSink>(&mut self, concept: ResNo, sink: &mut S) -> Result<(), Fault> {
+        self.keeper.standing(concept, sink)
+    }
+}

@@ -1,0 +1,142 @@
+-- The label rows that a merge adds are exactly the labels that it copies to the target, each once.
+use Rattle.std.proofs.Common.{◌≡◌, inl, inr, ℕ, List, [], ◌∷◌, refl, sym, ap, ◌∙◌, subst, true, false, not}
+use Rattle.std.specs.Prelude.{filter}
+use Rattle.std.specs.declared.cmp.Ordering.TheVariants.{Less, Equal}
+use Rattle.std.specs.FinSet as set
+use Rattle.std.specs.Cmp.{tied_itself}
+use Rattle.std.specs.List.{AllByRecursion}
+use Rattle.std.specs.List.Sorted.{IsStrictlySortedBy}
+use Rattle.std.proofs.lemmas.Bool.{cases_Bool, or_cases, and_parts, and_from, not-true, not_from_false}
+use Rattle.std.proofs.lemmas.List.Kept.{IsStrictlySortedBy-filter}
+use Rattle.thes_base.specs.declared.data.LabelKind.TheVariants.{Pref, Alt, Hidden}
+use Rattle.thes_base.specs.Data.{LabelData}
+use Rattle.thes_base.specs.Labels.{Label, Labels, HasLabel, S13, is_lexical_kind}
+use Rattle.thes_base.specs.Changes.{HasLexicalLabel, IsCopiedLabel, has_lexical_label, copied_label_kind, copied_labels}
+use Rattle.thes_base.specs.Machine.{owned_label}
+use Rattle.thes_base.proofs.LabelSetLemmas.{labels_total, labels_exact}
+use Rattle.thes_base.proofs.CopiedLabelLemmas.{name_of, merge_copies_labels, name_taken}
+use Rattle.thes_vocab.specs.OwnLabels.{AreLabelsOf, data_cmp, own_label}
+use Rattle.thes_vocab.specs.CopiedLabels.{lacks_name, merged_label}
+use Rattle.thes_vocab.proofs.OwnLabelLemmas.{data_exact, data_total}
+use Rattle.thes_tables.specs.Tables.{IsIn, AreDistinct, IsListingOf}
+use Rattle.thes_tables.proofs.RowSetLemmas.{Absent, set_with_list, absent_by, turn_into_by, clash, any_in, in_any}
+use Rattle.thes_tables.proofs.RowSetLemmas.{in_filter, filter_in, in_map, map_in, once_map}
+use Rattle.thes_core.specs.Deltas.{copied_label_rows}
+
+-- A strictly sorted list has each label once.
+
+not_later : (l : LabelData) (ls : List LabelData) → AllByRecursion (λ y. data_cmp l y ≡ Less) ls → IsIn l ls → ⊥
+not_later l [] below h = h
+not_later l (x ∷ ls) below (inl e) = let tie : data_cmp l x ≡ Equal = ap (data_cmp l) (sym e) ∙ tied_itself data_total
+    l in let clash : Less ≡ Equal = sym below.0 ∙ tie in cc
+not_later l (x ∷ ls) below (inr h) = not_later l ls below.1 h
+
+once_ordered : (ls : List LabelData) → IsStrictlySortedBy data_cmp ls → AreDistinct ls
+unfolding IsStrictlySortedBy
+once_ordered [] up = tt
+once_ordered (l ∷ ls) up = (not_later l ls up.0, once_ordered ls up.1)
+
+-- The copies are distinct, because the source has no text of a language under two kinds (SKOS S13).
+module _ (labels : Labels) (source target : ℕ) (disjoint : S13 labels) (own : List LabelData)
+    (are : AreLabelsOf labels source own) where
+  abbrev labels_after_copy : Labels
+  labels_after_copy = set.union labels (copied_labels source target labels)
+
+  abbrev missing_names : List LabelData
+  missing_names = filter (lacks_name labels target) own
+
+  abbrev copied_names : LabelData → Label
+  copied_names l = owned_label target (merged_label l)
+
+  held_own : (l : LabelData) → IsIn l own → HasLabel labels source l.kind l.tag l.text
+  held_own l h = sym (are.each l) ∙ any_in data_total data_exact l own h
+
+  own_held : (l : LabelData) → HasLabel labels source l.kind l.tag l.text → IsIn l own
+  own_held l h = in_any data_total data_exact l own (are.each l ∙ h)
+
+  -- A label in the filtered list is a name of the source that the target lacks.
+  missing_name_parts : (l : LabelData) → IsIn l missing_names → IsIn l own × (is_lexical_kind l.kind ≡ true)
+      × (has_lexical_label labels target l.tag l.text ≡ false)
+  missing_name_parts l h =
+      let kept = in_filter (lacks_name labels target) l own h in
+      let parts = and_parts (is_lexical_kind l.kind) (not (has_lexical_label labels target l.tag l.text)) kept.1 in
+      (kept.0, parts.0, not-true (has_lexical_label labels target l.tag l.text) parts.1)
+
+  given_new : (q : Label) → IsIn q (copied_label_rows labels target own) → IsCopiedLabel source target labels q
+      × (set.contains labels q ≡ true → ⊥)
+  given_new q h =
+      let m = in_map copied_names q missing_names h in
+      let l = m.0 in
+      let p = missing_name_parts l m.1 in
+      let is = m.2 in (
+        subst (IsCopiedLabel source target labels) (sym is) (
+          l.kind,
+          p.1,
+          held_own l p.0,
+          λ has. clash (has_lexical_label labels target l.tag l.text)
+              (name_of labels target has.0 l.tag l.text has.1 has.2) p.2,
+          refl,
+        ),
+        λ old. clash (has_lexical_label labels target l.tag l.text) (name_of labels target (copied_label_kind l.kind)
+            l.tag l.text (name_taken l.kind p.1) (ap (set.contains labels) (sym is) ∙ old)) p.2,
+      )
+
+  no_name : (tag text : List ℕ) → (¬ HasLexicalLabel labels target tag text) → has_lexical_label labels target tag
+      text ≡ false
+  no_name tag text free = elim (cases_Bool (has_lexical_label labels target tag text)) [
+    | inl has ↦ absurd (elim (or_cases _ _ has) [
+      | inl names ↦ elim (or_cases _ _ names) [ inl pref ↦ free (Pref, refl, pref) | inr alt ↦ free (Alt, refl, alt) ]
+      | inr hidden ↦ free (Hidden, refl, hidden)
+    ])
+    | inr none ↦ none
+  ]
+
+  given_listed : (q : Label) → IsCopiedLabel source target labels q → IsIn q (copied_label_rows labels target own)
+  given_listed q (kind, name, held, free, is) =
+      let l = own_label kind q.tag q.text in
+      let hit = and_from (is_lexical_kind kind) (not (has_lexical_label labels target q.tag q.text)) name
+      (not_from_false _ (no_name q.tag q.text free)) in
+      let Q : Label → Type 0 = λ x. IsIn x (copied_label_rows labels target own) in
+      subst Q (sym is)
+      (map_in copied_names l missing_names (filter_in (lacks_name labels target) l own (own_held l held) hit))
+
+  one_given : (x y : LabelData) → IsIn x missing_names → IsIn y missing_names → copied_names x ≡ copied_names y → x ≡ y
+  one_given x y hx hy e =
+      let px = missing_name_parts x hx in
+      let py = missing_name_parts y hy in
+      let tags : x.tag ≡ y.tag = ap (λ (l : Label). l.tag) e in
+      let texts : x.text ≡ y.text = ap (λ (l : Label). l.text) e in
+      let held = subst (λ (p : List ℕ × List ℕ). HasLabel labels source y.kind p.0 p.1)
+      (λ i. (sym tags i, sym texts i)) (held_own y py.0) in
+      let kinds = disjoint source x.kind y.kind x.tag x.text px.1 py.1 (held_own x px.0) held in
+      λ i. record { kind = kinds i; tag = tags i; text = texts i }
+
+  copied_is_added : IsListingOf (λ q. (set.contains labels_after_copy q ≡ true) × (set.contains labels q ≡ true → ⊥))
+      (copied_label_rows labels target own)
+  copied_is_added = record {
+    sound = λ q h. let g = given_new q h in ((merge_copies_labels source target labels q).1 (inr g.0), g.1);
+    complete = λ q h. elim ((merge_copies_labels source target labels q).0 h.0) [
+      | inl old ↦ absurd (h.1 old)
+      | inr new ↦ given_listed q new
+    ];
+    once = once_map copied_names missing_names one_given
+        (once_ordered missing_names (IsStrictlySortedBy-filter data_cmp (lacks_name labels target) own are.ordered));
+  }
+
+  none_is_removed : IsListingOf (λ q. (set.contains labels q ≡ true) × (set.contains labels_after_copy q ≡ true → ⊥)) []
+  none_is_removed =
+      record {
+        sound = λ q h. absurd h;
+        complete =
+            λ q h. absurd (h.1 ((merge_copies_labels source target labels q).1 (inl h.0)));
+        once = tt;
+      }
+
+  pub taken_absent : Absent labels_total labels_exact (copied_label_rows labels target own) labels
+  taken_absent = absent_by labels_total labels_exact labels labels_after_copy [] (copied_label_rows labels target own)
+      copied_is_added
+
+  pub taken_same : set_with_list labels_total labels_exact (copied_label_rows labels target own) labels
+      ≡ set.union labels (copied_labels source target labels)
+  taken_same = turn_into_by labels_total labels_exact labels labels_after_copy []
+      (copied_label_rows labels target own) none_is_removed copied_is_added

@@ -1,7 +1,0 @@
-use Rattle.std.proofs.Common.{◌≡◌, ◌++◌, drop, map}
-use Rattle.thes_tables.specs.Changes.{drop_link}
-use Rattle.thes_core.proofs.changes.links.push_going.Given as goal
-
--- the changes so far, and then those of the rest
-abbrev pub invariant-loop-link : goal.invariant-loop-link
-invariant-loop-link l = l.delta ++ map drop_link (drop l.link-index l.links) ≡ l.fn.delta ++ map drop_link l.links

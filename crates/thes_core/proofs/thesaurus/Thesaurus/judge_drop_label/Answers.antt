@@ -1,5 +1,0 @@
-use Rattle.std.proofs.Common.{rules}
-use Rattle.thes_core.proofs.thesaurus.Thesaurus.judge_drop_label.Goals as goal
-
-pub returns : goal.returns
-returns c = λ hs kept. search rules depth 14

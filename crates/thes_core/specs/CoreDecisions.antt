@@ -1,0 +1,70 @@
+-- Decisions of a core on requests, and results of applying them.
+use Rattle.std.specs.Prelude.{◌≡◌, ◌⊎◌, List, [], Option, None, Some, Result, Ok, Err, true, false}
+use Rattle.thes_base.specs.declared.fault.Fault.{Fault}
+use Rattle.thes_base.specs.declared.fault.Fault.TheVariants.{OutOfMemory}
+use Rattle.thes_base.specs.declared.request.Command.{Command}
+use Rattle.thes_base.specs.declared.request.Command.TheVariants as request
+use Rattle.thes_base.specs.declared.request.Answer.{Answer}
+use Rattle.thes_base.specs.State.{State}
+use Rattle.thes_base.specs.Refusals.{Setting}
+use Rattle.thes_base.specs.Machine.{HasNewKey, Step, next_state, answer_of, refusal_rule_of}
+use Rattle.thes_tables.specs.declared.change.Change.{Change}
+use Rattle.thes_tables.specs.ChangeLaw.{AreChangesBetween}
+use Rattle.thes_core.specs.declared.verdict.Verdict.{Verdict}
+use Rattle.thes_core.specs.declared.verdict.Verdict.TheVariants.{Settled, Accepted}
+use Rattle.thes_core.specs.CoreView.{CoreView, IsViewOf, with_histories}
+
+-- The request passes all checks in this state, and its key, if it has one, is new.
+pub record IsAccepted (setting : Setting) (s : State) (command : Command) : Type 0 where
+  pub fresh : HasNewKey command s
+  pub row : refusal_rule_of setting s (next_state command s) command None
+
+-- With an answer, the machine's step that leaves the state as it is; without one, the request is accepted.
+abbrev pub SettledOrAccepted : Setting → State → Command → Option Answer → Type 0
+SettledOrAccepted setting s command (Some answer) = Step setting s command answer s
+SettledOrAccepted setting s command None = IsAccepted setting s command
+
+-- The request is accepted, with the machine's answer and changes of rows that lead to the machine's next state.
+pub record AcceptedVerdict (setting : Setting) (s : State) (command : Command) (answer : Answer)
+    (changes : List Change) : Type 0 where
+  pub accepts : IsAccepted setting s command
+  pub answer_is : answer ≡ answer_of command s
+  pub leads : AreChangesBetween setting.base changes s (next_state command s)
+
+-- The verdict is right: a settled answer is a machine's step that leaves the state as it is, an accepted one has the
+-- machine's answer and changes of rows that lead to its next state.
+abbrev pub IsVerdict : Setting → State → Command → Verdict → Type 0
+IsVerdict setting s command (Settled answer) = Step setting s command answer s
+IsVerdict setting s command (Accepted answer changes) = AcceptedVerdict setting s command answer changes
+
+-- The request passes all checks but those on postings, in a state without postings.
+abbrev pub IsAcceptedWithoutPostings : Setting → State → Command → Type 0
+IsAcceptedWithoutPostings setting s (request.Split source tag text postings) =
+    IsAccepted setting s (request.Split source tag text [])
+IsAcceptedWithoutPostings setting s (request.Post key rec concept) = Unit {0}
+IsAcceptedWithoutPostings setting s (request.Withdraw posting) = Unit {0}
+IsAcceptedWithoutPostings setting s command = IsAccepted setting s command
+
+-- The request passes all checks but those on postings, in the state of the core.
+abbrev pub MayApply : CoreView → Command → Type 0
+MayApply core command = IsAcceptedWithoutPostings core.setting (with_histories [] core) command
+
+-- If the verdict accepts the request, this may be applied.
+abbrev pub VerdictMayApply : CoreView → Command → Verdict → Type 0
+VerdictMayApply core command (Settled answer) = Unit {0}
+VerdictMayApply core command (Accepted answer changes) = MayApply core command
+
+-- Applying a request returns the answer and leaves the core with the state `s`, or runs out of memory and leaves it
+-- unusable.
+abbrev pub ApplyResult : CoreView → State → Answer → Result Answer Fault → CoreView → Type 0
+ApplyResult old s answer (Ok given) new =
+    (given ≡ answer) × IsViewOf new s × (new.spent ≡ false) × (new.setting ≡ old.setting)
+ApplyResult old s answer (Err fault) new = (fault ≡ OutOfMemory) × (new.spent ≡ true)
+
+-- A step returns the machine's answer and leaves the core with the machine's next state, or runs out of memory and
+-- leaves the core unchanged or unusable.
+abbrev pub CoreStepResult : CoreView → State → Command → Result Answer Fault → CoreView → Type 0
+CoreStepResult old s command (Ok answer) new =
+    (t : State) × Step old.setting s command answer t × IsViewOf new t
+    × (new.spent ≡ false) × (new.setting ≡ old.setting)
+CoreStepResult old s command (Err fault) new = (fault ≡ OutOfMemory) × ((new ≡ old) ⊎ (new.spent ≡ true))

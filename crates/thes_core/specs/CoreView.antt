@@ -1,0 +1,44 @@
+-- A core as contracts see it.
+use Rattle.std.specs.Prelude.{◌≡◌, Bool, List, []}
+use Rattle.thes_base.specs.declared.data.History.{History}
+use Rattle.thes_base.specs.declared.data.Resource.{Resource}
+use Rattle.thes_base.specs.Resources.{Iris}
+use Rattle.thes_base.specs.Labels.{Labels}
+use Rattle.thes_base.specs.Links.{Links}
+use Rattle.thes_base.specs.Legal.{Legal}
+use Rattle.thes_base.specs.State.{State}
+use Rattle.thes_base.specs.Refusals.{Setting}
+use Rattle.thes_post.specs.PostingCounts.{PostingCounts, ArePostingCounts}
+
+-- A state with counts of its postings in place of their histories.
+pub record CoreView : Type 0 where
+  pub resources : List Resource
+  pub iris : Iris
+  pub labels : Labels
+  pub links : Links
+  pub sums : PostingCounts
+  pub setting : Setting
+  -- Whether running out of memory has left the state half changed.
+  pub spent : Bool
+
+-- The state with these histories.
+abbrev pub with_histories : List History → CoreView → State
+with_histories histories core =
+    record {
+      resources = core.resources;
+      iris = core.iris;
+      labels = core.labels;
+      links = core.links;
+      histories = histories;
+    }
+
+-- The state without its postings.
+abbrev pub without_postings : State → State
+without_postings s = record s { histories = [] }
+
+-- The state is legal and agrees with the core: it has the core's resources, IRIs, labels and links, and histories
+-- with the core's counts.
+pub record IsViewOf (core : CoreView) (s : State) : Type 0 where
+  pub state : with_histories s.histories core ≡ s
+  pub sums : ArePostingCounts s.histories core.sums
+  pub legal : Legal core.setting.base s

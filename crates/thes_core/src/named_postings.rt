@@ -1,0 +1,86 @@
+//! Checks of the postings that a request lists.
+ghost use Rattle.std.specs.Prelude.{◌≡◌, ◌<◌, ◌^◌, IfOk, List, [], ◌∷◌, length, map};
+ghost use Rattle.thes_base.specs.declared.data.History.{History};
+ghost use Rattle.thes_base.specs.RefusalRules.{accepted};
+ghost use Rattle.thes_base.specs.Refusals.{EachOnce, unless_split_postings, unless_standing};
+ghost use Rattle.thes_core.specs.Facts.{posting_row_at};
+
+use crate::facts::Facts;
+use std::alloc::{AllocError, Global};
+use thes_base::fault::Refusal;
+use thes_base::number::{PostNo, ResNo};
+use thes_post::rising::is_each_once;
+use thes_tables::rows::PostingRow;
+
+/// Returns the number of postings, at most `u32::MAX`.
+pub fn count_named(postings: &[PostNo]) -> u32
+    ensures { length postings.now < 2 ^ 32 → result ≡ length postings.now }
+{
+    if postings.len() < 1 << 32 {
+        postings.len() as u32
+    } else {
+        u32::MAX
+    }
+}
+
+/// Checks whether the posting can be withdrawn.
+pub fn check_withdraw(posting: PostNo, facts: &Facts) -> Option<Refusal>
+    ensures { (histories : List History)
+        → facts.now.named_postings.items ≡ posting_row_at histories posting ∷ []
+        → unless_standing histories posting accepted result }
+{
+    match facts.first() {
+        None => Some(Refusal::UnknownPosting),
+        Some(row) if row.withdrawn => Some(Refusal::Withdrawn),
+        Some(_) => None,
+    }
+}
+
+/// Checks whether the postings listed can be moved from the source. Each condition is checked for
+/// the whole list before the one that follows it.
+pub fn check_listed(
+    alloc: Global,
+    source: ResNo,
+    postings: &[PostNo],
+    named_postings: &[Option<PostingRow>],
+) -> Result<Option<Refusal>, AllocError>
+    ensures { IfOk result (λ refusal. (histories : List History)
+        → named_postings.now ≡ map (posting_row_at histories) postings.now
+        → unless_split_postings histories source postings.now accepted refusal) }
+{
+    if !is_each_once(alloc, postings)? {
+        return Ok(Some(Refusal::ListedTwice));
+    }
+    Ok(check_named(source, postings, named_postings))
+}
+
+// Checks whether the postings, each listed once, can be moved from the source.
+fn check_named(
+    source: ResNo,
+    postings: &[PostNo],
+    named_postings: &[Option<PostingRow>],
+) -> Option<Refusal>
+    requires { EachOnce postings.now }
+    ensures { (histories : List History)
+        → named_postings.now ≡ map (posting_row_at histories) postings.now
+        → unless_split_postings histories source postings.now accepted result }
+{
+    let mut withdrawn = false;
+    let mut elsewhere = false;
+    for row in named_postings {
+        match row {
+            None => return Some(Refusal::UnknownPosting),
+            Some(row) => {
+                withdrawn |= row.withdrawn;
+                elsewhere |= row.place != source;
+            }
+        }
+    }
+    if withdrawn {
+        Some(Refusal::Withdrawn)
+    } else if elsewhere {
+        Some(Refusal::NotAtSource)
+    } else {
+        None
+    }
+}

@@ -1,0 +1,126 @@
+-- Proves that lists selected from listings, extended or concatenated are listings again.
+use Rattle.std.proofs.Common.{◌≡◌, ◌∙◌, ◌⊎◌, ◌≤◌, ◌+◌, refl, sym, ap, subst, ℕ, zero, suc, List, [], ◌∷◌, ◌++◌, take}
+use Rattle.std.proofs.Common.{take_all, length, Ordering, Less, ⊎_elim, inl, inr}
+use Rattle.std.specs.List.{AllByRecursion}
+use Rattle.std.specs.List.Sorted.{IsStrictlySortedBy}
+use Rattle.thes_base.specs.Listing.{IsListing}
+use Rattle.thes_display.proofs.WalkLemmas.{Among, among_from, contains_of, among_append, among_left, among_right}
+use Rattle.thes_display.proofs.WalkLemmas.{all_of, each_of, rises_none, rises_more}
+
+-- A listing of one property is a listing of an equivalent one.
+pub listing_as : {X : Type 0} (cmp : X → X → Ordering) (P Q : X → Type 0) (xs : List X) → ((x : X) → P x → Q x)
+    → ((x : X) → Q x → P x) → IsListing cmp P xs → IsListing cmp Q xs
+listing_as cmp P Q xs to from l = record {
+  rises = l.rises;
+  sound = λ x c. to x (l.sound x c);
+  complete =
+      λ x q. l.complete x (from x q);
+}
+
+-- The empty list lists a property that nothing has.
+pub listing_none : {X : Type 0} (cmp : X → X → Ordering) (P : X → Type 0) (xs : List X) → xs ≡ []
+    → ((x : X) → P x → ⊥) → IsListing cmp P xs
+listing_none cmp P xs e none =
+    subst (IsListing cmp P) (sym e) (record {
+      rises = rises_none cmp;
+      sound = λ x c. absurd (among_from x [] c);
+      complete = λ x p. absurd (none x p);
+    })
+
+-- A listing extended by a greater element is a listing.
+pub listing_more : {X : Type 0} (cmp : X → X → Ordering) (P Q : X → Type 0) (xs new : List X) (z : X)
+    → IsListing cmp P xs → new ≡ xs ++ z ∷ [] → ((w : X) → P w → cmp w z ≡ Less) → ((x : X) → Q x → P x ⊎ (x ≡ z))
+    → ((x : X) → P x → Q x) → Q z → IsListing cmp Q new
+listing_more cmp P Q xs new z l e less split keep last = subst (IsListing cmp Q) (sym e) (record {
+  rises = rises_more cmp xs z l.rises (λ w a. less w (l.sound w (contains_of w xs a)));
+  sound = λ x c. ⊎_elim (λ old. keep x (l.sound x (contains_of x xs old)))
+      (λ new. ⊎_elim (λ same. subst Q (sym same) last) (λ n. absurd n) new)
+      (among_append x xs (z ∷ []) (among_from x (xs ++ z ∷ []) c));
+  complete = λ x q. contains_of x (xs ++ z ∷ [])
+      (⊎_elim (λ p. among_left x xs (z ∷ []) (among_from x xs (l.complete x p)))
+      (λ same. among_right x xs (z ∷ []) (inl same)) (split x q));
+})
+
+rises_append : {X : Type 0} (cmp : X → X → Ordering) (xs ys : List X) → IsStrictlySortedBy cmp xs
+    → IsStrictlySortedBy cmp ys → ((x y : X) → Among x xs → Among y ys → cmp x y ≡ Less) → IsStrictlySortedBy cmp
+    (xs ++ ys)
+unfolding IsStrictlySortedBy
+rises_append cmp [] ys s t f = t
+rises_append cmp (x ∷ xs) ys s t f = (
+  all_of _ (xs ++ ys) (λ z a. ⊎_elim (λ l. each_of _ xs z s.0 l) (λ r. f x z (inl refl) r) (among_append z xs ys a)),
+  rises_append cmp xs ys s.1 t (λ z y a b. f z y (inr a) b),
+)
+
+-- The concatenation of two listings, of which each element of the first is less than each of the second, is a listing.
+pub listing_joined : {X : Type 0} (cmp : X → X → Ordering) (P R Q : X → Type 0) (xs ys new : List X)
+    → IsListing cmp P xs → IsListing cmp R ys → new ≡ xs ++ ys → ((x y : X) → P x → R y → cmp x y ≡ Less)
+    → ((x : X) → Q x → P x ⊎ R x) → ((x : X) → P x → Q x) → ((x : X) → R x → Q x) → IsListing cmp Q new
+listing_joined cmp P R Q xs ys new l m e less split keep come = subst (IsListing cmp Q) (sym e) (record {
+  rises = rises_append cmp xs ys l.rises m.rises (λ x y a b. less x y (l.sound x (contains_of x xs a))
+      (m.sound y (contains_of y ys b)));
+  sound = λ x c. ⊎_elim (λ a. keep x (l.sound x (contains_of x xs a))) (λ b. come x (m.sound x (contains_of x ys b)))
+      (among_append x xs ys (among_from x (xs ++ ys) c));
+  complete = λ x q. contains_of x (xs ++ ys) (⊎_elim (λ p. among_left x xs ys (among_from x xs (l.complete x p)))
+      (λ r. among_right x xs ys (among_from x ys (m.complete x r))) (split x q));
+})
+
+-- Each element before another in a sorted list is less.
+pub before_rest : {X : Type 0} (cmp : X → X → Ordering) (xs rest : List X) (z w : X) → IsStrictlySortedBy cmp
+    (xs ++ z ∷ rest) → Among w xs → cmp w z ≡ Less
+unfolding IsStrictlySortedBy
+before_rest cmp [] rest z w s a = absurd a
+before_rest cmp (x ∷ xs) rest z w s (inl e) = ap (λ v. cmp v z) e ∙ each_of _ (xs ++ z ∷ rest) z s.0
+    (among_right z xs (z ∷ rest) (inl refl))
+before_rest cmp (x ∷ xs) rest z w s (inr a) = before_rest cmp xs rest z w s.1 a
+
+all_taken : {X : Type 0} (P : X → Type 0) (i : ℕ) (xs : List X) → AllByRecursion P xs → AllByRecursion P (take i xs)
+all_taken P zero xs all = tt
+all_taken P (suc i) [] all = tt
+all_taken P (suc i) (x ∷ xs) all = (all.0, all_taken P i xs all.1)
+
+rises_taken : {X : Type 0} (cmp : X → X → Ordering) (i : ℕ) (xs : List X) → IsStrictlySortedBy cmp xs
+    → IsStrictlySortedBy cmp (take i xs)
+unfolding IsStrictlySortedBy
+rises_taken cmp zero xs s = tt
+rises_taken cmp (suc i) [] s = tt
+rises_taken cmp (suc i) (x ∷ xs) s = (all_taken _ i xs s.0, rises_taken cmp i xs s.1)
+
+pub before_taken : {X : Type 0} (cmp : X → X → Ordering) (all : List X) (i : ℕ) (z w : X) → IsStrictlySortedBy cmp all
+    → take (i + 1) all ≡ take i all ++ z ∷ [] → Among w (take i all) → cmp w z ≡ Less
+before_taken cmp all i z w s e a =
+    before_rest cmp (take i all) [] z w (subst (IsStrictlySortedBy cmp) e (rises_taken cmp (i + 1) all s)) a
+
+-- The listing of those among the first `i` elements of a sorted list that have a property.
+abbrev pub IsChosen : {X : Type 0} → (X → X → Ordering) → List X → (X → Type 0) → ℕ → List X → Type 0
+IsChosen cmp all Q i found = IsListing cmp (λ x. Among x (take i all) × Q x) found
+
+module _ {X : Type 0} (cmp : X → X → Ordering) (all : List X) (rises : IsStrictlySortedBy cmp all)
+    (Q : X → Type 0) where
+  abbrev IsChosenUpTo : ℕ → List X → Type 0
+  IsChosenUpTo = IsChosen cmp all Q
+
+  pub chosen_none : (found : List X) → found ≡ [] → IsChosenUpTo 0 found
+  chosen_none found e = listing_none cmp _ found e (λ x p. absurd p.0)
+
+  pub chosen_more : (i : ℕ) (z : X) (found new : List X) → take (i + 1) all ≡ take i all ++ z ∷ [] → Q z
+      → IsChosenUpTo i found → new ≡ found ++ z ∷ [] → IsChosenUpTo (i + 1) new
+  chosen_more i z found new t q l e =
+      listing_more cmp _ _ found new z l e (λ w p. before_taken cmp all i z w rises t p.0)
+      (λ x p. ⊎_elim (λ old. inl (old, p.1)) (λ last. ⊎_elim (λ same. inr same) (λ n. absurd n) last)
+      (among_append x (take i all) (z ∷ []) (subst (Among x) t p.0)))
+      (λ x p. (subst (Among x) (sym t) (among_left x (take i all) (z ∷ []) p.0), p.1))
+      (subst (Among z) (sym t) (among_right z (take i all) (z ∷ []) (inl refl)), q)
+
+  pub chosen_skip : (i : ℕ) (z : X) (found new : List X) → take (i + 1) all ≡ take i all ++ z ∷ [] → (Q z → ⊥)
+      → IsChosenUpTo i found → new ≡ found → IsChosenUpTo (i + 1) new
+  chosen_skip i z found new t none l e =
+      subst (IsChosenUpTo (i + 1)) (sym e) (listing_as cmp _ _ found
+      (λ x p. (subst (Among x) (sym t) (among_left x (take i all) (z ∷ []) p.0), p.1))
+      (λ x p. ⊎_elim (λ old. (old, p.1)) (λ last. ⊎_elim (λ same. absurd (none (subst Q same p.1))) (λ n. absurd n)
+      last) (among_append x (take i all) (z ∷ []) (subst (Among x) t p.0))) l)
+
+  pub chosen_whole : (P : X → Type 0) (i : ℕ) (found : List X) → IsListing cmp P all → length all ≤ i
+      → ((x : X) → Q x → P x) → IsChosenUpTo i found → IsListing cmp Q found
+  chosen_whole P i found listed long has l =
+      listing_as cmp _ Q found (λ x p. p.1)
+      (λ x q. (subst (Among x) (sym (take_all i all long)) (among_from x all (listed.complete x (has x q))), q)) l

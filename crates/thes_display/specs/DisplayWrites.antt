@@ -1,0 +1,33 @@
+-- Displays that are written to a pipe, and why one isn't.
+use Rattle.std.specs.Prelude.{◌≡◌, ℕ, List, Option}
+use Rattle.std.specs.Io.KnownBytes.{Appends}
+use Rattle.thes_base.specs.declared.data.Resource.{Resource}
+use Rattle.thes_base.specs.declared.fault.Fault.TheVariants.{OutOfMemory}
+use Rattle.thes_base.specs.declared.fault.PipeFault.{PipeFault}
+use Rattle.thes_base.specs.declared.fault.PipeFault.TheVariants as pipe
+use Rattle.thes_base.specs.declared.fault.Refusal.{Refusal}
+use Rattle.thes_base.specs.declared.fault.Refusal.TheVariants as no
+use Rattle.thes_base.specs.declared.pipe.Pipe.{Pipe}
+use Rattle.thes_base.specs.Pipe.{IsPartialWrite, written_bytes}
+use Rattle.thes_base.specs.Resources.{Exists, IsScheme}
+use Rattle.thes_display.specs.declared.writing.DisplayOutcome.{DisplayOutcome}
+use Rattle.thes_display.specs.declared.writing.DisplayOutcome.TheVariants.{Written, No}
+
+-- The refusal of a number that isn't a scheme's.
+abbrev pub IsNoScheme : List Resource → ℕ → Refusal → Type 0
+IsNoScheme resources n no.UnknownResource = Exists resources n → ⊥
+IsNoScheme resources n no.WrongKind = Exists resources n × (IsScheme resources n → ⊥)
+IsNoScheme resources n _ = ⊥
+
+module _ {W : Type 0} (contents : W → Option (List ℕ)) where
+  -- The display of the scheme was written; or the scheme was refused, and nothing was written.
+  abbrev pub IsDisplayWritten : List Resource → ℕ → (List ℕ → Type 0) → Pipe W → Pipe W → DisplayOutcome → Type 0
+  IsDisplayWritten resources scheme IsText old new Written = IsScheme resources scheme
+      × ((text : List ℕ) × IsText text × Appends (written_bytes contents old) (written_bytes contents new) text)
+  IsDisplayWritten resources scheme IsText old new (No refusal) = IsNoScheme resources scheme refusal × (new ≡ old)
+
+  -- A prefix of the display was written; nothing where memory ran out.
+  abbrev pub IsDisplayStopped : (List ℕ → Type 0) → Pipe W → Pipe W → PipeFault → Type 0
+  IsDisplayStopped IsText old new (pipe.Fault OutOfMemory) = new ≡ old
+  IsDisplayStopped IsText old new (pipe.Fault _) = ⊥
+  IsDisplayStopped IsText old new fault = (text : List ℕ) × IsText text × IsPartialWrite contents text old new fault

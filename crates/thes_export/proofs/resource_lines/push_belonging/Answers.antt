@@ -1,0 +1,7 @@
+use Rattle.thes_export.proofs.TopicLemmas.{belonging_line}
+use Rattle.thes_export.proofs.resource_lines.push_belonging.Goals as goal
+
+pub returns-in_ok-push_node-in-Some : goal.returns-in_ok-push_node-in-Some
+returns-in_ok-push_node-in-Some c = belonging_line c.args.about.now.core.now c.args.about.now.n
+    c.args.about.now.resource.now c.in-Some.scheme _ _ c.args.about.now.found c.in-Some.ensures
+    c.in_ok-push_node-in-Some.ensures

@@ -1,0 +1,19 @@
+//! A resource and its core, as a source of lines.
+ghost use Rattle.std.specs.Prelude.{◌≡◌, false, Some};
+ghost use Rattle.thes_base.specs.Resources.{entry_at};
+
+use std::alloc::Global;
+use thes_base::data::Resource;
+use thes_base::number::ResNo;
+use thes_core::Core;
+
+/// A resource to make lines of, with the core that has it.
+#[derive(Clone, Copy)]
+pub struct LineSource<'a> {
+    pub alloc: Global,
+    pub core: &'a Core,
+    pub n: ResNo,
+    pub resource: &'a Resource,
+    ghost unspent: { core.now.spent ≡ false },
+    ghost found: { entry_at core.now.resources n ≡ Some resource.now },
+}

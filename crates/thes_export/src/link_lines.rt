@@ -1,0 +1,130 @@
+//! Lines of a concept's links.
+ghost use Rattle.std.specs.Prelude.{◌≡◌, Bool, false, OnOk};
+ghost use Rattle.thes_base.specs.Links.{is_symmetric};
+ghost use Rattle.thes_export.specs.Topics.{Adds, AddsTopic, IsLineOf, IsMatch, MapsOne};
+
+use crate::line::TripleLine;
+use crate::line_source::LineSource;
+use crate::push::{push_node, push_nodes};
+use crate::resource_lines::is_concept;
+use crate::topic::Topic;
+use std::alloc::AllocError;
+use thes_base::data::{Link, LinkKind};
+use thes_base::number::ResNo;
+use thes_base::triple::Property;
+
+pub(crate) fn push_broader(
+    about: &LineSource,
+    lines: &mut Vec<TripleLine>,
+) -> Result<(), AllocError>
+    ensures { OnOk result (AddsTopic about.now Topic.Broader lines.old.items lines.new.items) }
+{
+    let broader = about.core.broader_of(about.alloc, about.n)?;
+    push_nodes(about, lines, Property::Broader, broader.as_slice())?;
+    Ok(())
+}
+
+pub(crate) fn push_narrower(
+    about: &LineSource,
+    lines: &mut Vec<TripleLine>,
+) -> Result<(), AllocError>
+    ensures { OnOk result (AddsTopic about.now Topic.Narrower lines.old.items lines.new.items) }
+{
+    let narrower = about.core.narrower_of(about.alloc, about.n)?;
+    push_nodes(about, lines, Property::Narrower, narrower.as_slice())?;
+    Ok(())
+}
+
+pub(crate) fn push_related(
+    about: &LineSource,
+    lines: &mut Vec<TripleLine>,
+) -> Result<(), AllocError>
+    ensures { OnOk result (AddsTopic about.now Topic.Related lines.old.items lines.new.items) }
+{
+    let related = about.core.related_of(about.alloc, about.n)?;
+    push_nodes(about, lines, Property::Related, related.as_slice())?;
+    Ok(())
+}
+
+// Adds the line of a broader or a narrower match, if the link has this direction; otherwise its other end has the line.
+fn push_match(
+    about: &LineSource,
+    lines: &mut Vec<TripleLine>,
+    kind: LinkKind,
+    object: ResNo,
+    property: Property,
+) -> Result<(), AllocError>
+    requires { (outside : Bool) → is_symmetric outside kind ≡ false }
+    ensures { let is_match = IsMatch about.now.core.now kind about.now.n property object in
+        OnOk result (Adds (IsLineOf is_match) lines.old.items lines.new.items) }
+{
+    let link = Link {
+        kind,
+        a: about.n,
+        b: object,
+    };
+    if !about.core.has(&link) {
+        return Ok(());
+    }
+    push_node(about, lines, about.n, property, object)?;
+    Ok(())
+}
+
+// Adds the lines of one mapping.
+fn push_mapping(
+    about: &LineSource,
+    lines: &mut Vec<TripleLine>,
+    kind: LinkKind,
+    object: ResNo,
+) -> Result<(), AllocError>
+    ensures { let maps = MapsOne about.now.core.now about.now.n (kind, object) in
+        OnOk result (Adds (IsLineOf maps) lines.old.items lines.new.items) }
+{
+    match kind {
+        LinkKind::Exact => push_node(about, lines, about.n, Property::ExactMatch, object),
+        LinkKind::Close => push_node(about, lines, about.n, Property::CloseMatch, object),
+        LinkKind::RelMatch => push_node(about, lines, about.n, Property::RelatedMatch, object),
+        LinkKind::Broad => {
+            push_match(about, lines, LinkKind::Broad, object, Property::BroadMatch)
+        }
+        LinkKind::Narrow => {
+            push_match(
+                about,
+                lines,
+                LinkKind::Narrow,
+                object,
+                Property::NarrowMatch,
+            )
+        }
+        _ => Ok(()),
+    }
+}
+
+pub(crate) fn push_mappings(
+    about: &LineSource,
+    lines: &mut Vec<TripleLine>,
+) -> Result<(), AllocError>
+    ensures { OnOk result (AddsTopic about.now Topic.Mappings lines.old.items lines.new.items) }
+{
+    if !is_concept(about.resource) {
+        return Ok(());
+    }
+    let mappings = about.core.mappings(about.alloc, about.n)?;
+    for (kind, object) in &mappings {
+        push_mapping(about, lines, *kind, *object)?;
+    }
+    Ok(())
+}
+
+pub(crate) fn push_memberships(
+    about: &LineSource,
+    lines: &mut Vec<TripleLine>,
+) -> Result<(), AllocError>
+    ensures { OnOk result (AddsTopic about.now Topic.Memberships lines.old.items lines.new.items) }
+{
+    let collections = about.core.collections_of(about.alloc, about.n)?;
+    for collection in &collections {
+        push_node(about, lines, *collection, Property::Member, about.n)?;
+    }
+    Ok(())
+}

@@ -1,0 +1,49 @@
+//! Adds lines to a list.
+ghost use Rattle.std.specs.Prelude.{◌≡◌, ℕ, List, Contains, OnOk};
+ghost use Rattle.thes_export.specs.Topics.{Adds, IsLineOf, IsNode, Nodes};
+
+use crate::line::TripleLine;
+use crate::line_source::LineSource;
+use std::alloc::AllocError;
+use thes_base::number::ResNo;
+use thes_base::triple::Property;
+
+/// Adds a line.
+pub(crate) fn push_line(lines: &mut Vec<TripleLine>, line: TripleLine) -> Result<(), AllocError>
+    ensures { OnOk result (Adds (λ (l : List ℕ). l ≡ line) lines.old.items lines.new.items) }
+{
+    lines.push(line)?;
+    Ok(())
+}
+
+/// Adds the line of a triple whose object is a resource.
+pub(crate) fn push_node(
+    about: &LineSource,
+    lines: &mut Vec<TripleLine>,
+    subject: ResNo,
+    property: Property,
+    object: ResNo,
+) -> Result<(), AllocError>
+    ensures { let is_node = IsNode about.now.core.now subject property object in
+        OnOk result (Adds (IsLineOf is_node) lines.old.items lines.new.items) }
+{
+    let line = TripleLine::of_node(about.alloc, about.core, subject, property, object)?;
+    push_line(lines, line)?;
+    Ok(())
+}
+
+/// Adds a line for each object.
+pub(crate) fn push_nodes(
+    about: &LineSource,
+    lines: &mut Vec<TripleLine>,
+    property: Property,
+    objects: &[ResNo],
+) -> Result<(), AllocError>
+    ensures { let is_node = Nodes about.now.core.now property (Contains objects.now) about.now.n in
+        OnOk result (Adds (IsLineOf is_node) lines.old.items lines.new.items) }
+{
+    for object in objects {
+        push_node(about, lines, about.n, property, *object)?;
+    }
+    Ok(())
+}

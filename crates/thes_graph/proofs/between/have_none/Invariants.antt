@@ -1,8 +1,0 @@
-use Rattle.std.proofs.Common.{◌<◌, ℕ, get_or}
-use Rattle.thes_graph.specs.declared.relation.Relation.TheVariants.{Related}
-use Rattle.thes_graph.specs.Sight.{WouldBe}
-use Rattle.thes_graph.specs.Steps.{Steps}
-use Rattle.thes_graph.proofs.between.have_none.Given as goal
-
-abbrev pub invariant-loop-x : goal.invariant-loop-x
-invariant-loop-x g l = (k : ℕ) → k < l.x-index → (y : ℕ) → Steps Related (WouldBe l.sight (g.L.Links.held l.links)) (get_or l.xs k 0) y → ⊥

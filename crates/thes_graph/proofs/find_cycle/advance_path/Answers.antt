@@ -1,0 +1,74 @@
+use Rattle.std.proofs.Common.{◌≡◌, ◌-◌, ◌++◌, ◌∷◌, [], take, refl, ap, ◌∙◌, arith}
+use Rattle.thes_base.specs.Links.{HeldIn}
+use Rattle.thes_graph.proofs.CycleSearchLemmas.{GrowsBy-keeps, GrowsBy-longer, IsCycleSearch-done}
+use Rattle.thes_graph.proofs.CycleSearchLemmas.{IsCycleSearch-fewer, IsSomeCycle-met, IsCycleSearch-more}
+use Rattle.thes_graph.proofs.CycleSearchLemmas.{search_measure-done, search_measure-fewer, search_measure-more}
+use Rattle.thes_graph.proofs.CycleSearchLemmas.{none_above, last_above, all_but_last, done_or_left, left_above}
+use Rattle.thes_graph.proofs.CycleSearchLemmas.{fewer_left}
+use Rattle.thes_graph.proofs.find_cycle.advance_path.Given.{Over}
+use Rattle.thes_graph.proofs.find_cycle.advance_path.Goals as goal
+use Rattle.thes_graph.proofs.find_cycle.advance_path.Goals.{After-pop}
+
+-- The pop leaves all waiting nodes but the last.
+popped : (g : Over) (c : After-pop g) → c.args.last.above.items ≡ c.pop.new.self.items ++ c.in-Some.high ∷ []
+popped g c =
+    all_but_last c.args.last.above.items c.pop.new.self.items c.in-Some.high
+    (c.in-Some.ensures ∙ rw c.deref.ensures.value at c.last.ensures.value)
+    (c.pop.ensures.rest ∙ ap (λ n. take (n - 1) c.args.last.above.items) c.args.last.above.ok.0)
+
+pub returns-in_default-clause-found : goal.returns-in_default-clause-found
+returns-in_default-clause-found g c =
+    IsCycleSearch-done (HeldIn (g.L.Links.held c.args.links.now)) c.args.met.now c.args.done.now
+    c.args.stack.now.items c.args.last c.requires c.meet.new.self
+    (none_above c.args.last.above.items c.copied.result (c.copied.ensures ∙ rw c.deref.ensures.value
+    at c.last.ensures.value) c.in_default.not-Some)
+    c.in_ok-meet.ensures.grows
+
+pub returns-in_default-clause-less : goal.returns-in_default-clause-less
+returns-in_default-clause-less g c _ = search_measure-done c.args.met.now c.args.stack.now.items c.args.last
+
+pub returns-then-has-clause-found : goal.returns-then-has-clause-found
+returns-then-has-clause-found g c =
+    let all = popped g (goal.at.returns-then-has-clause-found g c).After-pop in
+    rw c.in_ok-push.ensures.items
+    (IsCycleSearch-fewer (HeldIn (g.L.Links.held c.args.links.now)) c.args.met.now c.args.done.now
+    c.args.stack.now.items c.args.last c.requires _ refl
+    (done_or_left c.args.last.above.items c.pop.new.self.items c.in-Some.high all c.args.done.now
+    (rw c.if-has.true at c.has.ensures))
+    (left_above c.args.last.above.items c.pop.new.self.items c.in-Some.high all))
+
+pub returns-then-has-clause-less : goal.returns-then-has-clause-less
+returns-then-has-clause-less g c _ =
+    let all = popped g (goal.at.returns-then-has-clause-less g c).After-pop in
+    rw c.in_ok-push.ensures.items (search_measure-fewer c.args.met.now c.args.stack.now.items c.args.last _
+    (fewer_left c.args.last.above.items c.pop.new.self.items c.in-Some.high all))
+
+pub returns-then-has-2-clause-found : goal.returns-then-has-2-clause-found
+returns-then-has-2-clause-found g c =
+    IsSomeCycle-met (HeldIn (g.L.Links.held c.args.links.now)) c.args.met.now c.args.done.now c.args.stack.now.items
+    c.args.last c.requires c.in-Some.high
+    (last_above c.args.last.above.items c.in-Some.high (c.in-Some.ensures ∙ rw c.deref.ensures.value
+    at c.last.ensures.value))
+    (rw c.if-has-2.true at c.has-2.ensures) (rw c.if-has.false at c.has.ensures)
+
+pub returns-clause-met : goal.returns-clause-met
+returns-clause-met g c = GrowsBy-keeps c.args.met.now c.meet-2.new.self (λ n. c.in-Some.high ≡ n)
+    c.in_ok-meet-2.ensures.grows
+
+pub returns-clause-found : goal.returns-clause-found
+returns-clause-found g c =
+    rw (c.in_ok-push-3.ensures.items, c.in_ok-push-2.ensures.items)
+    (IsCycleSearch-more (HeldIn (g.L.Links.held c.args.links.now)) c.args.met.now c.args.done.now
+    c.args.stack.now.items c.args.last c.requires c.meet-2.new.self c.in_ok-next.next
+    (rw c.in_ok-next.ensures.node (last_above c.args.last.above.items c.in-Some.high
+    (c.in-Some.ensures ∙ rw c.deref.ensures.value at c.last.ensures.value)))
+    (rw c.in_ok-next.ensures.node c.in_ok-meet-2.ensures.grows)
+    (rw c.in_ok-next.ensures.node c.in_ok-next.ensures.above))
+
+pub returns-clause-less : goal.returns-clause-less
+returns-clause-less g c _ =
+    rw (c.in_ok-push-3.ensures.items, c.in_ok-push-2.ensures.items)
+    (search_measure-more c.args.met.now c.meet-2.new.self c.args.stack.now.items c.args.last c.in_ok-next.next
+    (GrowsBy-longer c.args.met.now c.meet-2.new.self c.in-Some.high c.in_ok-meet-2.ensures.grows
+    (rw c.if-has-2.false at c.has-2.ensures))
+    c.in_ok-meet-2.ensures.small (omega (arith, c.in_ok-next.next.above.small)))

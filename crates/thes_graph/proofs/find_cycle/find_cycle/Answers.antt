@@ -1,0 +1,30 @@
+use Rattle.std.proofs.Common.{[], ◌∷◌, ℕ, List, sym, subst, ◌∙◌}
+use Rattle.std.proofs.lemmas.List.{nil_from_length}
+use Rattle.thes_base.specs.Links.{HeldIn}
+use Rattle.thes_base.proofs.ListMemberLemmas.{Contains-head}
+use Rattle.thes_graph.specs.CycleSearch.{IsCycleSearch}
+use Rattle.thes_graph.specs.declared.find_cycle.PathNode.{PathNode}
+use Rattle.thes_graph.proofs.CycleSearchLemmas.{IsCycleSearch-start, IsCycleSearch-end}
+use Rattle.thes_graph.proofs.find_cycle.find_cycle.Goals as goal
+
+pub loop-last-init : goal.loop-last-init
+loop-last-init g c = record {
+  held = c.in_ok-first.ensures.held;
+  climbs =
+      rw (c.in_ok-stack.ensures.items, c.in_ok-met.ensures)
+      (subst (λ (n : ℕ). IsCycleSearch (HeldIn (g.L.Links.held c.args.links.now)) (n ∷ []) c.args.done.now
+      (c.in_ok-first.first ∷ [])) c.in_ok-first.ensures.node
+      (IsCycleSearch-start (HeldIn (g.L.Links.held c.args.links.now)) c.args.done.now c.in_ok-first.first c.requires
+      (rw c.in_ok-first.ensures.node c.in_ok-first.ensures.above)));
+  start = rw c.in_ok-met.ensures (Contains-head c.args.start []);
+  extends = λ n has. has;
+}
+
+pub returns-clause-found : goal.returns-clause-found
+returns-clause-found g c =
+    IsCycleSearch-end (HeldIn (g.L.Links.held c.args.links.now)) c.loop-last.met c.loop-last.done
+    (subst (λ (stack : List PathNode). IsCycleSearch (HeldIn (g.L.Links.held c.args.links.now)) c.loop-last.met
+    c.loop-last.done stack)
+    (nil_from_length c.loop-last.stack.items (sym c.loop-last.stack.ok.0 ∙ c.in_default.ensures.cases.0))
+    c.loop-last.invariant.climbs)
+    c.args.start c.loop-last.invariant.start

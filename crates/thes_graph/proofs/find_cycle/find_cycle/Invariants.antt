@@ -1,0 +1,15 @@
+use Rattle.std.proofs.Common.{◌≡◌, ℕ, Contains}
+use Rattle.thes_base.specs.Links.{HeldIn}
+use Rattle.thes_graph.specs.CycleSearch.{IsCycleSearch, search_measure}
+use Rattle.thes_graph.proofs.find_cycle.find_cycle.Given as goal
+
+abbrev pub invariant-loop-last : goal.invariant-loop-last
+invariant-loop-last g l = record {
+  held : g.L.Links.held l.links ≡ g.L.Links.held l.fn.links;
+  climbs : IsCycleSearch (HeldIn (g.L.Links.held l.fn.links)) l.met l.done l.stack.items;
+  start : Contains l.met l.fn.start;
+  extends : (n : ℕ) → Contains l.fn.done n → Contains l.done n;
+}
+
+abbrev pub decreases-loop-last : goal.decreases-loop-last
+decreases-loop-last g l = search_measure l.met l.stack.items

@@ -1,9 +1,0 @@
-use Rattle.std.proofs.Common.{ap, ◌∙◌}
-use Rattle.thes_graph.specs.Net.{Net, standings_at}
-use Rattle.thes_graph.proofs.IndexLemmas.{row_is}
-use Rattle.thes_graph.proofs.graph.Graph.at.Goals as goal
-
-pub returns-clause-row : goal.returns-clause-row
-returns-clause-row c =
-    c.at.ensures ∙ c.self.invariant.rows c.args.n ∙ row_is c.self.inside.held.keys c.args.n c.self.invariant.ordered
-    ∙ ap (λ (net : Net). standings_at net.links c.args.n) c.self.view_is

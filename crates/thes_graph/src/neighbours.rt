@@ -1,0 +1,58 @@
+//! The neighbours of a concept that are listed: concepts of its scheme, and collections.
+ghost use Rattle.std.specs.Prelude.{◌≡◌, OnOk};
+ghost use Rattle.std.specs.BTreeSet.{insert_key};
+ghost use Rattle.std.specs.List.Sorted.{IsStrictlySortedBy};
+ghost use Rattle.thes_base.specs.Links as links;
+ghost use Rattle.thes_graph.specs.Neighbours.{neighbour_direction};
+
+use crate::relation::{Relation, direction};
+use std::alloc::AllocError;
+use thes_base::data::{Direction, LinkForm, LinkKind};
+
+/// The neighbours of a concept that a list shall have.
+#[derive(Clone, Copy)]
+pub enum Neighbours {
+    Broader,
+    Narrower,
+    Related,
+    Collections,
+}
+
+// Returns whether links of this kind stay within a scheme, are mappings or are memberships.
+fn form_of(kind: LinkKind) -> LinkForm
+    ensures { result ≡ links.form_of kind }
+{
+    match kind {
+        LinkKind::Broader | LinkKind::Related => LinkForm::Within,
+        LinkKind::BroaderGeneric | LinkKind::BroaderPartitive | LinkKind::BroaderInstantial => {
+            LinkForm::Within
+        }
+        LinkKind::Member => LinkForm::Membership,
+        _ => LinkForm::Mapping,
+    }
+}
+
+/// Returns the direction in which a link of this kind leads to a neighbour to list.
+pub fn direction_to(neighbours: Neighbours, kind: LinkKind) -> Direction
+    ensures { result ≡ neighbour_direction neighbours kind }
+{
+    match (form_of(kind), neighbours) {
+        (LinkForm::Within, Neighbours::Broader) => direction(Relation::Broader, kind),
+        (LinkForm::Within, Neighbours::Narrower) => direction(Relation::Narrower, kind),
+        (LinkForm::Within, Neighbours::Related) => direction(Relation::Related, kind),
+        (LinkForm::Membership, Neighbours::Collections) => Direction::Backward,
+        _ => Direction::Never,
+    }
+}
+
+/// Inserts the value at its place in a sorted list, unless it is there.
+pub fn list_in<T: Ord + Drop>(list: &mut Vec<T>, x: T) -> Result<(), AllocError>
+    requires { IsStrictlySortedBy T.cmp list.old.items }
+    ensures { OnOk result (list.new.items ≡ insert_key T.cmp list.old.items x) }
+{
+    match list.binary_search(&x) {
+        Ok(_) => {}
+        Err(place) => list.insert(place, x)?,
+    }
+    Ok(())
+}

@@ -1,0 +1,229 @@
+//! Checks a link up from a low node to a high one by two searches that alternate, up from the high node and down from
+//! the low one. The search that ends first has all nodes of its side; the other one is finished if a related link
+//! leads from there.
+ghost use Rattle.std.specs.Prelude.{◌≡◌, ◌+◌, ◌-◌, ◌*◌, ◌≤◌, ◌<◌, ℕ, true, false, List, Contains, OnOk, IfOk, MatchBool, length};
+ghost use Rattle.thes_base.specs.declared.data.Link.{Link};
+ghost use Rattle.thes_base.specs.Links.{HeldIn};
+ghost use Rattle.thes_graph.specs.declared.relation.Relation.TheVariants.{Related};
+ghost use Rattle.thes_graph.specs.declared.side.Side.TheVariants.{Sideways};
+ghost use Rattle.thes_graph.specs.Reading.{HaveTwoEnds};
+ghost use Rattle.thes_graph.specs.Side.{IsOneSided};
+ghost use Rattle.thes_graph.specs.Steps.{Steps, Reaches};
+ghost use Rattle.thes_graph.specs.LinkEdit.{HeldAfter, IsValidEdit, CoversAt, IsNoEdit};
+ghost use Rattle.thes_graph.specs.SideSearch.{read_cost, IsHierarchy, IsSideSearch, AreAlternating, HaveMet, AreTied, IsSecondResult, IsBrokenBetween, CoversBetween};
+
+use crate::edit::LinkEdit;
+use crate::ends::is_end_after;
+use crate::links::Links;
+use crate::nodes::Nodes;
+use crate::relation::Relation;
+use crate::side_search::{SideSearch, follow_after_edit};
+use std::alloc::{AllocError, Global};
+use thes_base::fault::Refusal;
+use thes_base::number::ResNo;
+
+// Advances the search that would then have read less, and returns whether it found a goal. A search has read about as
+// much as it has met, so none reads the many links of a broad node while the other has few.
+fn advance_in_turn<L: Links>(
+    links: &mut L,
+    edit: &LinkEdit,
+    up: &mut SideSearch,
+    down: &mut SideSearch,
+    lows: &Nodes,
+    highs: &Nodes,
+) -> Result<bool, AllocError>
+    requires fit { IsValidEdit edit.now }
+    requires up { up.old.next < length up.old.nodes }
+    requires down { down.old.next < length down.old.nodes }
+    ensures held { L.held links.new ≡ L.held links.old }
+    ensures outside { L.outside links.new ≡ L.outside links.old }
+    ensures rows { L.links_of links.new ≡ L.links_of links.old }
+    ensures two_ends { OnOk result
+        (IsNoEdit edit.now → HaveTwoEnds (HeldIn (L.held links.old))) }
+    ensures next { OnOk result (up.new.next + down.new.next ≡ up.old.next + down.old.next + 1) }
+    ensures goes { IfOk result (λ found. (low high from : ℕ)
+        → AreAlternating edit.now (L.held links.old) lows.now highs.now low high up.old down.old
+        from (L.count links.old)
+        → MatchBool found
+        (HaveMet edit.now (L.held links.old) lows.now highs.now low high from (L.count links.new))
+        (AreAlternating edit.now (L.held links.old) lows.now highs.now low high up.new down.new from
+        (L.count links.new))) }
+{
+    let up_part = up.next_part(links, Relation::Broader);
+    let down_part = down.next_part(links, Relation::Narrower);
+    let up_read = up.nodes.as_slice().len().saturating_add(up_part.size());
+    let down_read = down.nodes.as_slice().len().saturating_add(down_part.size());
+    if up_read <= down_read {
+        let found = up.advance(links, edit, Relation::Broader, lows)?;
+        return Ok(found);
+    }
+    let found = down.advance(links, edit, Relation::Narrower, highs)?;
+    Ok(found)
+}
+
+// Advances the searches alternately until one is done or has found a goal. Returns whether a goal was found.
+fn search_in_turns<L: Links>(
+    links: &mut L,
+    edit: &LinkEdit,
+    up: &mut SideSearch,
+    down: &mut SideSearch,
+    lows: &Nodes,
+    highs: &Nodes,
+) -> Result<bool, AllocError>
+    requires fit { IsValidEdit edit.now }
+    requires new { (up.old.next ≡ 0) × (down.old.next ≡ 0) }
+    ensures held { L.held links.new ≡ L.held links.old }
+    ensures outside { L.outside links.new ≡ L.outside links.old }
+    ensures rows { L.links_of links.new ≡ L.links_of links.old }
+    ensures two_ends { OnOk result (IsNoEdit edit.now → 0 < up.new.next + down.new.next
+        → HaveTwoEnds (HeldIn (L.held links.old))) }
+    ensures turns { IfOk result (λ found. found ≡ true → 0 < up.new.next + down.new.next) }
+    ensures done { IfOk result (λ found. found ≡ false → up.new.next < length up.new.nodes
+        → length down.new.nodes ≤ down.new.next) }
+    ensures goes { IfOk result (λ found. (low high from : ℕ)
+        → AreAlternating edit.now (L.held links.old) lows.now highs.now low high up.old down.old
+        from (L.count links.old)
+        → MatchBool found
+        (HaveMet edit.now (L.held links.old) lows.now highs.now low high from (L.count links.new))
+        (AreAlternating edit.now (L.held links.old) lows.now highs.now low high up.new down.new from
+        (L.count links.new))) }
+{
+    'turns: while !up.is_done() && !down.is_done() {
+        if advance_in_turn(links, edit, up, down, lows, highs)? {
+            return Ok(true);
+        }
+    }
+    Ok(false)
+}
+
+// Returns true if certainly no related link leads from any of the nodes after the edit. Reads no link.
+fn have_none<L: Links>(links: &L, edit: &LinkEdit, xs: &Nodes) -> bool
+    ensures { result ≡ true → (x y : ℕ) → Contains xs.now x
+        → Steps Related (HeldAfter edit.now (L.held links.now)) x y → ⊥ }
+{
+    for x in xs.as_slice() {
+        if !is_end_after(links, edit, *x, Relation::Related) {
+            return false;
+        }
+    }
+    true
+}
+
+// Checks whether a related link leads from one of `xs` to one of `ys` after the edit.
+fn are_tied<L: Links>(
+    alloc: Global,
+    links: &mut L,
+    edit: &LinkEdit,
+    xs: &Nodes,
+    ys: &Nodes,
+) -> Result<bool, AllocError>
+    requires { IsValidEdit edit.now }
+    ensures held { L.held links.new ≡ L.held links.old }
+    ensures outside { L.outside links.new ≡ L.outside links.old }
+    ensures rows { L.links_of links.new ≡ L.links_of links.old }
+    ensures tied { IfOk result
+        (λ found. MatchBool found (AreTied edit.now (L.held links.old) xs.now ys.now)
+        (AreTied edit.now (L.held links.old) xs.now ys.now → ⊥)) }
+    ensures count { OnOk result ((ns : List Link)
+        → ((n : ℕ) → Contains xs.now n → CoversAt edit.now (L.held links.old) n ns)
+        → L.count links.new ≤ L.count links.old + read_cost edit.now Sideways xs.now ns) }
+{
+    let mut met = Nodes::none(alloc);
+    for x in xs.as_slice() {
+        if follow_after_edit(links, &mut met, edit, Relation::Related, *x, ys)? {
+            return Ok(true);
+        }
+    }
+    Ok(false)
+}
+
+// Finishes the other search where the first has met all of its nodes, and returns which of Cycle and S27 would be
+// broken, if either.
+fn check_second_search<L: Links>(
+    alloc: Global,
+    links: &mut L,
+    edit: &LinkEdit,
+    ended: &Nodes,
+    other: &mut SideSearch,
+    relation: Relation,
+    goals: &Nodes,
+) -> Result<Option<Refusal>, AllocError>
+    requires fit { IsValidEdit edit.now }
+    requires walked { IsHierarchy relation }
+    ensures held { L.held links.new ≡ L.held links.old }
+    ensures outside { L.outside links.new ≡ L.outside links.old }
+    ensures rows { L.links_of links.new ≡ L.links_of links.old }
+    ensures rest { IfOk result (λ answer. (start read : ℕ)
+        → IsSideSearch edit.now (L.held links.old) relation goals.now start other.old read
+        → IsSecondResult edit.now (L.held links.old) relation goals.now ended.now start answer) }
+    ensures count { OnOk result ((start read : ℕ) (ns : List Link)
+        → IsSideSearch edit.now (L.held links.old) relation goals.now start other.old read
+        → ((n : ℕ) → Reaches (Steps relation (HeldAfter edit.now (L.held links.old))) start n
+        → CoversAt edit.now (L.held links.old) n ns)
+        → ((n : ℕ) → Contains ended.now n → CoversAt edit.now (L.held links.old) n ns)
+        → read + L.count links.new
+        ≤ L.count links.old + 2 * length ns + read_cost edit.now Sideways ended.now ns) }
+{
+    if have_none(links, edit, ended) {
+        return Ok(None);
+    }
+    if other.finish(links, edit, relation, goals)? {
+        return Ok(Some(Refusal::Cycle));
+    }
+    if are_tied(alloc, links, edit, ended, &other.nodes)? {
+        return Ok(Some(Refusal::S27));
+    }
+    Ok(None)
+}
+
+/// Returns which of Cycle and S27 a link up from the low node to the high one would break in the links after the edit,
+/// if either.
+pub fn check_upward_link<L: Links>(
+    alloc: Global,
+    links: &mut L,
+    edit: &LinkEdit,
+    low: ResNo,
+    high: ResNo,
+) -> Result<Option<Refusal>, AllocError>
+    requires { IsValidEdit edit.now }
+    ensures held { L.held links.new ≡ L.held links.old }
+    ensures outside { L.outside links.new ≡ L.outside links.old }
+    ensures rows { L.links_of links.new ≡ L.links_of links.old }
+    ensures two_ends { OnOk result
+        (IsNoEdit edit.now → HaveTwoEnds (HeldIn (L.held links.old))) }
+    ensures broken { IfOk result
+        (IsBrokenBetween (HeldAfter edit.now (L.held links.old)) low high) }
+    ensures count { OnOk result
+        ((ns : List Link) → CoversBetween edit.now (L.held links.old) low high ns
+        → L.count links.new ≤ L.count links.old + 4 * length ns) }
+{
+    let lows = Nodes::singleton(alloc, low)?;
+    let highs = Nodes::singleton(alloc, high)?;
+    let mut up = SideSearch::start(alloc, high)?;
+    let mut down = SideSearch::start(alloc, low)?;
+    if search_in_turns(links, edit, &mut up, &mut down, &lows, &highs)? {
+        return Ok(Some(Refusal::Cycle));
+    }
+    if up.is_done() {
+        let rest = check_second_search(
+            alloc,
+            links,
+            edit,
+            &up.nodes,
+            &mut down,
+            Relation::Narrower,
+            &highs,
+        )?;
+        return Ok(rest);
+    }
+    let rest = check_second_search(
+        alloc,
+        links,
+        edit,
+        &down.nodes,
+        &mut up,
+        Relation::Broader,
+        &lows,
+    )?;
+    Ok(rest)
+}

@@ -1,0 +1,47 @@
+-- Proves that what is read from the spans of a head is what the head asks for.
+use Rattle.std.proofs.Common.{◌≡◌, ◌∙◌, sym, ap, refl, ℕ, ◌≤◌, List, length, take, drop, map, Result, Ok, Err, IfOk}
+use Rattle.std.proofs.Common.{arith}
+use Rattle.httparse.specs.Spans.{header_bytes, span_bytes}
+use Rattle.httparse.specs.declared.spans.HeaderSpan.{HeaderSpan}
+use Rattle.httparse.specs.declared.spans.RequestSpans.{RequestSpans}
+use Rattle.thes_http_request.specs.declared.problem.Problem.{Problem}
+use Rattle.thes_http_request.specs.Heads.{head_limit, Parts, parts_of}
+use Rattle.thes_http_request.specs.Inbox.{IsHeadAt, HeadOutcome}
+use Rattle.thes_http_request.specs.HeadRequests.{HeadRequest, head_request_of}
+
+-- The parts of a head, read from spans.
+abbrev pub parts_at : List ℕ → List HeaderSpan → RequestSpans → Parts
+parts_at bytes headers spans = record {
+  method = span_bytes bytes spans.method;
+  target = span_bytes bytes spans.path;
+  fields = map (header_bytes bytes) (take spans.headers headers);
+}
+
+-- The parts read from the spans are those of the head, so they ask for the same.
+head_outcome_from : (bytes : List ℕ) (headers : List HeaderSpan) (spans : RequestSpans) (p : Parts)
+    (outcome : Result HeadRequest Problem)
+    → IsHeadAt bytes headers spans → length bytes ≤ head_limit → p ≡ parts_at bytes headers spans → head_request_of p
+    ≡ outcome → HeadOutcome bytes (drop spans.len bytes) outcome
+head_outcome_from bytes headers spans p outcome a l e w =
+    let is : parts_at bytes headers spans ≡ parts_of a.head = rw (a.at.method, a.at.path, a.at.fields) refl in
+    let fits = a.within.section.len_fits in
+    let len = a.at.len in
+    record {
+      head = a.head;
+      has = record { reads = a.at.reads; short = omega (arith, fits, len, l); few = a.few };
+      wants = ap head_request_of (sym (e ∙ is)) ∙ w;
+    }
+
+pub head_outcome_ok : {A E : Type 0} (r : Result A E) (f : A → HeadRequest) (bytes : List ℕ)
+    (headers : List HeaderSpan) (spans : RequestSpans) (p : Parts)
+    → IsHeadAt bytes headers spans → length bytes ≤ head_limit → p ≡ parts_at bytes headers spans
+    → IfOk r (λ w. head_request_of p ≡ Ok (f w))
+    → IfOk r (λ w. HeadOutcome bytes (drop spans.len bytes) (Ok (f w)))
+head_outcome_ok (Ok x) f bytes headers spans p a l e w = head_outcome_from bytes headers spans p (Ok (f x)) a l e w
+head_outcome_ok (Err x) f bytes headers spans p a l e w = tt
+
+pub head_outcome_err : (bytes : List ℕ) (headers : List HeaderSpan) (spans : RequestSpans) (p : Parts)
+    (problem : Problem)
+    → IsHeadAt bytes headers spans → length bytes ≤ head_limit → p ≡ parts_at bytes headers spans → head_request_of p
+    ≡ Err problem → HeadOutcome bytes (drop spans.len bytes) (Err problem)
+head_outcome_err bytes headers spans p problem a l e w = head_outcome_from bytes headers spans p (Err problem) a l e w

@@ -1,0 +1,70 @@
+//! The outcome of a row, as a line.
+ghost use Rattle.std.specs.Prelude.{◌≡◌, ◌≤◌, ◌+◌, ◌++◌, length, vec_capacity, vec_len};
+ghost use Rattle.thes_import.specs.Outcomes.{outcome_line, outcome_number, outcome_word};
+
+use itoa::Buffer;
+use thes_base::fault::FormFault;
+use thes_base::request::Answer;
+
+/// The outcome of a row of a posting file.
+#[derive(Clone, Copy, Debug, PartialEq, Eq)]
+pub enum Outcome {
+    /// The answer to a row that is a posting.
+    Reply(Answer),
+    /// The fault of a row that isn't a posting.
+    Bad(FormFault),
+}
+
+impl Outcome {
+    // Returns the keyword of the outcome; it is empty for answers that no posting has.
+    fn word(self) -> &'static str
+        ensures word { result.now ≡ outcome_word self }
+        ensures short { length result.now ≤ 16 }
+    {
+        match self {
+            Outcome::Reply(Answer::Number(_)) => "new",
+            Outcome::Reply(Answer::Again(_)) => "again",
+            Outcome::Reply(Answer::No(refusal)) => refusal.name(),
+            Outcome::Reply(Answer::Done | Answer::Moved(_) | Answer::Parted(..)) => "",
+            Outcome::Bad(fault) => fault.name(),
+        }
+    }
+
+    // Returns the number of the posting that the row made or repeats.
+    fn number(self) -> Option<u32>
+        ensures { result ≡ outcome_number self }
+    {
+        match self {
+            Outcome::Reply(Answer::Number(n) | Answer::Again(n)) => Some(n),
+            _ => None,
+        }
+    }
+
+    /// Appends the line of the outcome without allocating.
+    pub(crate) fn push_line(self, row: usize, text: &mut Vec<u8>)
+        requires { vec_len text.old + LINE_LIMIT ≤ vec_capacity text.old }
+        ensures { text.new.items ≡ text.old.items ++ outcome_line row self }
+    {
+        push_text(text, Buffer::new().format(row));
+        push_text(text, ",");
+        push_text(text, self.word());
+        push_text(text, ",");
+        if let Some(number) = self.number() {
+            push_text(text, Buffer::new().format(number));
+        }
+        push_text(text, "\n");
+    }
+}
+
+/// The most bytes of a line.
+pub(crate) const LINE_LIMIT: usize = 64;
+
+// Appends a text without allocating.
+fn push_text(text: &mut Vec<u8>, more: &str)
+    requires { vec_len text.old + length more.now ≤ vec_capacity text.old }
+    ensures items { text.new.items ≡ text.old.items ++ more.now }
+    ensures len { vec_len text.new ≡ vec_len text.old + length more.now }
+    ensures room { vec_capacity text.old ≤ vec_capacity text.new }
+{
+    text.extend_from_slice(more.as_bytes()).unwrap();
+}

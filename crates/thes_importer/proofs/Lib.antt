@@ -1,5 +1,0 @@
-pub mod TellingLemmas
-pub mod ImportLemmas
-pub mod BetweenLemmas
-pub mod AgainLemmas
-pub mod WholeLemmas

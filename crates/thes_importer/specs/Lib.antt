@@ -1,5 +1,0 @@
-pub mod Outcomes
-pub mod Imports
-pub mod Again
-pub mod Whole
-pub mod Engine

@@ -1,0 +1,60 @@
+-- Proves that the counts of rows of table posting are those of the histories.
+use Rattle.std.proofs.Common.{◌≡◌, ℕ, ◌+◌, length, List, [], ◌∷◌, ◌++◌, map, refl, sym, ap, ◌∙◌, inl, inr, arith}
+use Rattle.std.proofs.Common.{Bool, cond, not, ◌&&◌, eqb, length-append}
+use Rattle.std.specs.Prelude.{count_by}
+use Rattle.std.proofs.lemmas.List.Sums.{sum_by_push, sum_by-cons}
+use Rattle.std.proofs.lemmas.List.{length-map}
+use Rattle.thes_base.specs.declared.data.Resource.{Resource}
+use Rattle.thes_base.specs.declared.data.History.{History}
+use Rattle.thes_base.specs.Postings.{is_assigned_to}
+use Rattle.thes_tables.specs.declared.rows.PostingRow.{PostingRow}
+use Rattle.thes_tables.specs.declared.rows.MoveRow.{MoveRow}
+use Rattle.thes_tables.specs.Tables.{is_assigned_row}
+use Rattle.thes_post.specs.PostingCounts.{PostingCounts, ArePostingCounts, CountsAfterTally}
+use Rattle.thes_load_rules.specs.Rules.{EachRow, PostingRule, MoveRule, history_of}
+use Rattle.thes_load_rules.proofs.LoadedStateLemmas.{row_count_of_moves}
+use Rattle.thes_load_rows.specs.PostingCounts.{AreSumsOf}
+
+abbrev number_of : Bool → ℕ
+number_of b = cond b 1 0
+
+-- The counts after one more row.
+pub sums_push : (rows : List PostingRow) (p : PostingRow) (old new : PostingCounts) → AreSumsOf rows old
+    → CountsAfterTally p.place p.withdrawn old new → AreSumsOf (rows ++ p ∷ []) new
+sums_push rows p old new are told = record {
+  standing = λ n. told.standing n ∙ ap (λ k. k + number_of (is_assigned_row n p)) (are.standing n)
+      ∙ sym (sum_by_push (λ (x : PostingRow). number_of (is_assigned_row n x)) rows p);
+  accepted = (let a = told.accepted in let b = are.accepted in let l = length-append rows (p ∷ []) in
+      omega (arith, a, b, l));
+  withdrawn = told.withdrawn ∙ ap (λ k. k + number_of p.withdrawn) are.withdrawn
+      ∙ sym (sum_by_push (λ (x : PostingRow). number_of x.withdrawn) rows p);
+  moves = told.moves ∙ are.moves;
+}
+
+-- Counting histories is counting their rows.
+
+same_count : (P : History → Bool) (Q : PostingRow → Bool) (history : PostingRow → History) (rows : List PostingRow)
+    → EachRow (λ row. P (history row) ≡ Q row) rows → count_by P (map history rows) ≡ count_by Q rows
+same_count P Q history [] each = refl
+same_count P Q history (x ∷ rows) each =
+    let a = sum_by-cons (λ (h : History). number_of (P h)) (history x) (map history rows) in
+    let b = sum_by-cons (λ (row : PostingRow). number_of (Q row)) x rows in
+    let ih = same_count P Q history rows (λ row h. each row (inr h)) in
+    let e = ap number_of (each x (inl refl)) in
+    omega (arith, a, b, ih, e)
+
+module _ (rs : List Resource) (postings : List PostingRow) (moves : List MoveRow) (rule : PostingRule rs postings)
+    (all : MoveRule rs postings moves) where
+  abbrev hs : List History
+  hs = map (history_of moves) postings
+
+  pub sums_of_histories : (sums : PostingCounts) (taken : ℕ) → AreSumsOf postings sums → length moves ≡ taken
+      → ArePostingCounts hs (record sums { moves = taken })
+  sums_of_histories sums taken are count = record {
+    standing = λ n. are.standing n ∙ sym (same_count (is_assigned_to n) (is_assigned_row n) (history_of moves)
+        postings (λ row h. ap (λ k. not row.withdrawn && eqb k n) (all.places row h)));
+    accepted = are.accepted ∙ sym (length-map postings (history_of moves));
+    withdrawn = are.withdrawn ∙ sym (same_count (λ h. h.withdrawn) (λ row. row.withdrawn) (history_of moves) postings
+        (λ row h. refl));
+    moves = sym count ∙ row_count_of_moves rs postings moves rule all;
+  }

@@ -1,0 +1,101 @@
+-- Proves what a parsed row means for all typed rows with the same first cells.
+use Rattle.std.proofs.Common.{◌≡◌, ◌≢◌, ℕ, ◌+◌, length, List, [], ◌∷◌, ◌++◌, map, refl, sym, ap, ◌∙◌, subst, arith}
+use Rattle.std.proofs.Common.{Bool, true, false}
+use Rattle.std.proofs.lemmas.List.{map-append}
+use Rattle.std.specs.Prelude.{Some}
+use Rattle.thes_base.specs.declared.data.Resource.{Resource}
+use Rattle.thes_tables.specs.declared.cells.Cell.{Cell}
+use Rattle.thes_tables.specs.Cells.{resource_cells, resource_rows}
+use Rattle.thes_tables.proofs.CellLemmas.{head_one, tail_one, number_one, resources_one}
+use Rattle.thes_base.specs.Resources.{entry_at}
+use Rattle.thes_load_rules.specs.Rules.{ResourceRule}
+use Rattle.thes_load_rows.specs.declared.rows.ResourceRow.{ResourceRow}
+use Rattle.thes_load_rows.specs.Forms.{HasResourceForm}
+use Rattle.thes_load_rows.specs.CellSpelling.{row_cells}
+use Rattle.thes_load_rows.specs.ResourceChecks.{IsNextResource}
+use Rattle.thes_load_rows.proofs.NextRowLemmas.{numbered_next}
+use Rattle.thes_load_rows.proofs.RowFormLemmas.{resource_form}
+use Rattle.thes_load_rows.specs.RowsSoFar.{TakeResult}
+use Rattle.thes_load_rows.specs.ReadResults.{ReadResult}
+
+module _ {A : Type 0} (f : A → List Cell) where
+  -- Typed rows whose cells continue those of others with these cells begin with a row of these cells.
+  pub goes_on : ((x y : A) → f x ≡ f y → x ≡ y) → (rows : List A) (cells : List Cell) (more : List (List Cell))
+      (others : List A) → map f others ≡ (map f rows ++ cells ∷ []) ++ more
+      → (y : A) × (rest : List A) × (others ≡ rows ++ y ∷ rest) × (cells ≡ f y)
+  goes_on one [] cells more [] e = absurd (cc)
+  goes_on one [] cells more (y ∷ rest) e = (y, rest, refl, sym (head_one e))
+  goes_on one (x ∷ rows) cells more [] e = absurd (cc)
+  goes_on one (x ∷ rows) cells more (y ∷ others) e =
+      let r = goes_on one rows cells more others (tail_one e) in
+      (r.0, r.1, (λ i. one y x (head_one e) i ∷ r.2 i), r.3)
+
+  module _ (one : (x y : A) → f x ≡ f y → x ≡ y) (Has Rule : List A → Type 0) (rows : List A) (cells : List Cell) where
+    -- Cells of a typed row.
+    pub reads_row : (x : A) → cells ≡ f x → (good : Bool) → TakeResult Has Rule rows x good → ReadResult (map f) Has
+        Rule rows cells good
+    reads_row x spelled true has =
+        (x, map-append f rows (x ∷ []) ∙ ap (λ (c : List Cell). map f rows ++ c ∷ []) (sym spelled), has)
+    reads_row x spelled false none = λ more others e rule.
+        let r = goes_on one rows cells more others e in
+        let same = one r.0 x (sym r.3 ∙ spelled) in
+        none r.1 (subst Rule (r.2 ∙ ap (λ (y : A). rows ++ y ∷ r.1) same) rule)
+
+    -- Cells of no typed row.
+    pub reads_none : (Form : A → Type 0) → ((x : A) → Form x → cells ≢ f x)
+        → ((y : A) (rest : List A) → Rule (rows ++ y ∷ rest) → Form y) → ReadResult (map f) Has Rule rows cells false
+    reads_none Form none form = λ more others e rule.
+        let r = goes_on one rows cells more others e in
+        none r.0 (form r.0 r.1 (subst Rule r.2 rule)) r.3
+
+-- Rows of table resource, which are numbered.
+
+pub resources_push : (n : ℕ) (rs : List Resource) (r : Resource) → resource_rows n (rs ++ r ∷ []) ≡ resource_rows n rs
+    ++ resource_cells (n + length rs) r ∷ []
+resources_push n [] r = ap (λ k. resource_cells k r ∷ []) (let z : n ≡ n + 0 = omega arith in z)
+resources_push n (x ∷ rs) r =
+    ap (λ (l : List (List Cell)). resource_cells n x ∷ l) (resources_push (n + 1) rs r
+    ∙ ap (λ k. resource_rows (n + 1) rs ++ resource_cells k r ∷ []) (let z : n + 1 + length rs ≡ n + length (x ∷ rs) =
+    omega arith in z))
+
+pub resources_on : (n : ℕ) (rs : List Resource) (cells : List Cell) (more : List (List Cell)) (others : List Resource)
+    → resource_rows n others ≡ (resource_rows n rs ++ cells ∷ []) ++ more
+    → (y : Resource) × (rest : List Resource) × (others ≡ rs ++ y ∷ rest) × (cells ≡ resource_cells (n + length rs) y)
+resources_on n [] cells more [] e = absurd (cc)
+resources_on n [] cells more (y ∷ rest) e =
+    (y, rest, refl, sym (head_one e) ∙ ap (λ k. resource_cells k y) (let z : n ≡ n + 0 = omega arith in z))
+resources_on n (x ∷ rs) cells more [] e = absurd (cc)
+resources_on n (x ∷ rs) cells more (y ∷ others) e =
+    let r = resources_on (n + 1) rs cells more others (tail_one e) in
+    let same : y ≡ x = head_one (resources_one n n (y ∷ []) (x ∷ []) (ap (λ (c : List Cell). c ∷ []) (head_one e))) in (
+      r.0,
+      r.1,
+      (λ i. same i ∷ r.2 i),
+      r.3 ∙ ap (λ k. resource_cells k r.0) (let z : n + 1 + length rs ≡ n
+          + length (x ∷ rs) = omega arith in z),
+    )
+
+module _ (rs : List Resource) (cells : List Cell) where
+  pub resource_read : (row : ResourceRow) → cells ≡ row_cells row → (new : List Resource) (good : Bool)
+      → IsNextResource rs new row good → ReadResult (resource_rows 1) (λ rows. rows ≡ new) ResourceRule rs cells good
+  resource_read row spelled new true (number, is) = (
+    row.resource,
+    resources_push 1 rs row.resource ∙ ap (λ (c : List Cell). resource_rows 1 rs ++ c ∷ [])
+        (ap (λ k. resource_cells k row.resource) (let z : 1 + length rs ≡ length rs + 1 = omega arith in
+        z ∙ sym number) ∙ sym spelled),
+    sym is,
+  )
+  resource_read row spelled new false differ = λ more others e rule.
+      let r = resources_on 1 rs cells more others e in
+      let same = number_one (head_one (sym r.3 ∙ spelled)) in
+      differ (let z : row.number ≡ length rs + 1 = omega (arith, same) in z)
+
+  pub resource_unread : ((x : ResourceRow) → HasResourceForm x → cells ≢ row_cells x) → (new : List Resource)
+      → ReadResult (resource_rows 1) (λ rows. rows ≡ new) ResourceRule rs cells false
+  resource_unread none new = λ more others e rule.
+      let r = resources_on 1 rs cells more others e in
+      let at : entry_at others (length rs + 1) ≡ Some r.0 = ap (λ (l : List Resource). entry_at l (length rs + 1)) r.2
+      ∙ numbered_next rs r.0 r.1 in
+      none (record { number = length rs + 1; resource = r.0 })
+      (resource_form others (length rs + 1) r.0 rule at)
+      (r.3 ∙ ap (λ k. resource_cells k r.0) (let z : 1 + length rs ≡ length rs + 1 = omega arith in z))

@@ -1,0 +1,294 @@
+-- Proves what each stage knows after a row, which is kept or faulty.
+use Rattle.std.proofs.Common.{◌≡◌, ◌≢◌, ◌⊎◌, ◌<◌, ◌^◌, ℕ, length, List, [], ◌∷◌, ◌++◌, map, refl, sym, ap, ◌∙◌, subst}
+use Rattle.std.proofs.Common.{inl, inr, Bool, true, false, append_assoc}
+use Rattle.std.specs.Prelude.{None, Some, Err, option_map}
+use Rattle.std.proofs.lemmas.Option.{same_Some}
+use Rattle.thes_base.specs.declared.data.Resource.{Resource}
+use Rattle.thes_base.specs.declared.data.Link.{Link}
+use Rattle.thes_base.specs.declared.fault.Fault.{Fault}
+use Rattle.thes_base.specs.declared.fault.Fault.TheVariants.{BadStore}
+use Rattle.thes_base.specs.declared.fault.Table.{Table}
+use Rattle.thes_base.specs.declared.fault.Table.TheVariants as table
+use Rattle.thes_base.specs.Forms.{IsBase}
+use Rattle.thes_base.specs.Labels.{Label}
+use Rattle.thes_tables.specs.declared.cells.Cell.{Cell}
+use Rattle.thes_tables.specs.declared.rows.HierRow.{HierRow}
+use Rattle.thes_tables.specs.declared.rows.PostingRow.{PostingRow}
+use Rattle.thes_tables.specs.declared.rows.MoveRow.{MoveRow}
+use Rattle.thes_tables.specs.Tables.{Tables}
+use Rattle.thes_tables.specs.Cells.{Raw, RawTable, meta_cells, resource_rows, outside_cells, label_cells, link_cells}
+use Rattle.thes_tables.specs.Cells.{hier_cells, posting_cells, move_cells}
+use Rattle.thes_tables.proofs.CellLemmas.{head_one}
+use Rattle.thes_vocab.specs.Vocabulary.{Vocabulary}
+use Rattle.thes_load_rules.specs.Rules.{ResourceRule, OutsideRule, LabelRule, LinkRule, HierRule, PostingRule, MoveRule}
+use Rattle.thes_load_rules.specs.Verdicts.{HasVerdict}
+use Rattle.thes_load_rules.proofs.VerdictByTableLemmas.{verdict_by_table}
+use Rattle.thes_load_rows.specs.declared.meta.MetaRow.{MetaRow}
+use Rattle.thes_load_rows.specs.declared.stage.Stage.TheVariants as stage
+use Rattle.thes_load_rows.specs.declared.resources.ResourceLoad.{ResourceLoad}
+use Rattle.thes_load_rows.specs.declared.names.OutsideLoad.{OutsideLoad}
+use Rattle.thes_load_rows.specs.declared.linked_vocab.LinkedVocab.{LinkedVocab}
+use Rattle.thes_load_rows.specs.declared.postings.PlacedPostings.{PlacedPostings}
+use Rattle.thes_load_rows.specs.declared.postings.PostingLoad.{PostingLoad}
+use Rattle.thes_load_rows.specs.declared.moves.MoveLoad.{MoveLoad}
+use Rattle.thes_load_rows.specs.ReadResults.{ReadResult}
+use Rattle.thes_load_rows.specs.Version.{SpellsMeta, version_cells}
+use Rattle.thes_load_rows.specs.NamesSoFar.{HasOutside, HasLabels}
+use Rattle.thes_load_rows.specs.LinksSoFar.{HasLinks}
+use Rattle.thes_load_rows.specs.RowsSoFar.{HasPostings, HasMoves}
+use Rattle.thes_load_rows.specs.Progress.{Grows, Extends, raw_with_row, HasNames, ReadsRow}
+use Rattle.thes_load_rows.proofs.ProgressLemmas.{resource_fault, outside_fault, label_fault, link_fault, hier_fault}
+use Rattle.thes_load_rows.proofs.ProgressLemmas.{posting_fault, move_fault, outside_taken, label_taken, link_taken}
+use Rattle.thes_load_rows.proofs.ProgressLemmas.{hier_taken, posting_taken}
+
+-- Table meta.
+
+abbrev pub tables_with_base : List ℕ → Tables
+tables_with_base base = record {
+  base = base;
+  resource = [];
+  outside = [];
+  label = [];
+  link = [];
+  hier = [];
+  posting =
+      [];
+  move = [];
+}
+
+-- A row that isn't one of any version is the fault.
+pub meta_fault : (more : Raw)
+    → ((version : ℕ) (base : Cell) → (2 < version) ⊎ (version ≡ 1) → more.meta ≢ Some (version_cells version base ∷ []))
+    → ((base : List ℕ) → IsBase base → more.meta ≢ Some (meta_cells base ∷ []))
+    → HasVerdict more (Err (BadStore table.Meta))
+meta_fault more none no_base =
+    (verdict_by_table more (tables_with_base [])).meta (λ (v, b, lt, e). none v b (inl lt) e)
+    (λ (v, b, is, e). none v b (inr is) e) (λ base (e, form). no_base base form e)
+
+grown_is : (one cells : List Cell) (queried : RawTable) → Grows (Some (one ∷ [])) queried → queried
+    ≡ Some (cells ∷ []) → one ≡ cells
+grown_is one cells queried (inl none) e = let f = sym none ∙ e in absurd (cc)
+grown_is one cells queried (inr (more, is)) e = head_one (same_Some _ _ (sym is ∙ e))
+
+abbrev with_cells : List Cell → RawTable → RawTable
+with_cells cells queried = option_map (λ (rows : List (List Cell)). rows ++ cells ∷ []) queried
+
+pub meta_row : (row : MetaRow) (cells : List Cell) → SpellsMeta cells (Some row) → ReadsRow (stage.Meta None)
+    (stage.Meta (Some row)) cells true
+meta_row row cells spells = (refl, λ raw (none, after). ((cells, ap (with_cells cells) none, spells), after))
+
+pub meta_unread : (cells : List Cell) → SpellsMeta cells None → ReadsRow (stage.Meta None) (stage.Meta None) cells false
+meta_unread cells spells raw (none, after) more grown =
+    let grows = subst (λ (q : RawTable). Grows q more.meta) (ap (with_cells cells) none) grown in
+    meta_fault more (λ version base which e. spells.0 version base which (grown_is cells _ more.meta grows e))
+    (λ base form e. spells.1 base form (grown_is cells _ more.meta grows e))
+
+-- The other tables.
+
+-- A row of table resource.
+pub resource_row : (base : List ℕ) (old new : ResourceLoad) (cells : List Cell) (good : Bool)
+    → ReadResult (resource_rows 1) (λ rows. rows ≡ new.resources.items) ResourceRule old.resources.items cells good
+    → ReadsRow (stage.Resource base old) (stage.Resource base new) cells good
+resource_row base old new cells true reads = (
+  refl,
+  λ raw (t, passes, same, read, are, after).
+      let (x, e, has) =
+      subst (λ (rs : List Resource). ReadResult (resource_rows 1) (λ rows. rows ≡ new.resources.items)
+      ResourceRule rs cells true) (sym are) reads in (
+        record t { resource = t.resource ++ x ∷ [] },
+        passes,
+        same,
+        ap (with_cells cells) read
+            ∙ ap (λ (rows : List (List Cell)). Some rows) (sym e),
+        has,
+        after,
+      ),
+)
+resource_row base old new cells false reads = λ raw (t, passes, same, read, are, after).
+    resource_fault raw t cells passes read
+    (subst (λ (rs : List Resource). ReadResult (resource_rows 1) (λ rows. rows ≡ new.resources.items) ResourceRule
+    rs cells false) (sym are) reads)
+
+pub outside_row : (old new : OutsideLoad) (cells : List Cell) (good : Bool)
+    → ((base : List ℕ) (rs : List Resource) (rows : List (ℕ × List ℕ)) → length rs < 2 ^ 32
+    → HasOutside base rs old.vocab old.last rows → ReadResult (map outside_cells)
+    (HasOutside base rs new.vocab new.last) (OutsideRule base rs) rows cells good)
+    → ReadsRow (stage.Outside old) (stage.Outside new) cells good
+outside_row old new cells true reads = (
+  refl,
+  λ raw (t, passes, read, has, after). outside_taken raw t cells new passes read
+      (reads t.base t.resource t.outside passes.1.1.few has) after,
+)
+outside_row old new cells false reads = λ raw (t, passes, read, has, after). outside_fault raw t cells passes read
+    (reads t.base t.resource t.outside passes.1.1.few has)
+
+pub label_row : (old new : Vocabulary) (cells : List Cell) (good : Bool)
+    → ((base : List ℕ) (rs : List Resource) (outside : List (ℕ × List ℕ)) (rows : List Label) → length rs < 2 ^ 32
+    → HasLabels base rs outside old rows → ReadResult (map label_cells) (HasLabels base rs outside new)
+    (LabelRule rs) rows cells good)
+    → ReadsRow (stage.Label old) (stage.Label new) cells good
+label_row old new cells true reads = (
+  refl,
+  λ raw (t, passes, read, has, after). label_taken raw t cells new passes read
+      (reads t.base t.resource t.outside t.label passes.0.1.1.few has) after,
+)
+label_row old new cells false reads = λ raw (t, passes, read, has, after). label_fault raw t cells passes read
+    (reads t.base t.resource t.outside t.label passes.0.1.1.few has)
+
+-- The resources of the vocabulary are those of the table.
+same_resources : (vocab : Vocabulary) (rs : List Resource) (t : Tables) → rs ≡ vocab.resources → HasNames vocab t → rs
+    ≡ t.resource
+same_resources vocab rs t e names = e ∙ ap (λ (v : Vocabulary). v.resources) names
+
+module _ (rs : List Resource) (cells : List Cell) where
+  pub link_row : (old new : LinkedVocab) (good : Bool) → rs ≡ old.vocab.resources → new.vocab ≡ old.vocab
+      → ((rows : List Link) → HasLinks rs old.links.graph rows [] → ReadResult (map link_cells)
+      (λ more. HasLinks rs new.links.graph more []) (LinkRule rs) rows cells good)
+      → ReadsRow (stage.Link old) (stage.Link new) cells good
+  link_row old new good is same reads = by good reads
+    where
+      of_table : (g : Bool) (r : (rows : List Link) → HasLinks rs old.links.graph rows []
+          → ReadResult (map link_cells) (λ more. HasLinks rs new.links.graph more []) (LinkRule rs) rows cells g)
+          (t : Tables) → HasNames old.vocab t → HasLinks t.resource old.links.graph t.link []
+          → ReadResult (map link_cells) (λ more. HasLinks t.resource new.links.graph more []) (LinkRule t.resource)
+          t.link cells g
+      of_table g r t names has = subst (λ (l : List Resource). (rows : List Link) → HasLinks l old.links.graph rows []
+          → ReadResult (map link_cells) (λ more. HasLinks l new.links.graph more []) (LinkRule l) rows cells g)
+          (same_resources old.vocab rs t is names) r t.link has
+
+      by : (g : Bool) → ((rows : List Link) → HasLinks rs old.links.graph rows [] → ReadResult (map link_cells)
+          (λ more. HasLinks rs new.links.graph more []) (LinkRule rs) rows cells g) → ReadsRow (stage.Link old)
+          (stage.Link new) cells g
+      by true r = (
+        refl,
+        λ raw (t, passes, names, read, has, after). link_taken raw t cells new passes (same ∙ names)
+            read (of_table true r t names has) after,
+      )
+      by false r = λ raw (t, passes, names, read, has, after). link_fault raw t cells passes read
+          (of_table false r t names has)
+
+  pub hier_row : (old new : LinkedVocab) (good : Bool) → rs ≡ old.vocab.resources → new.vocab ≡ old.vocab
+      → ((links : List Link) (rows : List HierRow) → HasLinks rs old.links.graph links rows
+      → ReadResult (map hier_cells) (HasLinks rs new.links.graph links) (HierRule rs links) rows cells good)
+      → ReadsRow (stage.Hier old) (stage.Hier new) cells good
+  hier_row old new good is same reads = by good reads
+    where
+      of_table : (g : Bool) (r : (links : List Link) (rows : List HierRow) → HasLinks rs old.links.graph links rows
+          → ReadResult (map hier_cells) (HasLinks rs new.links.graph links) (HierRule rs links) rows cells g)
+          (t : Tables) → HasNames old.vocab t → HasLinks t.resource old.links.graph t.link t.hier
+          → ReadResult (map hier_cells) (HasLinks t.resource new.links.graph t.link) (HierRule t.resource t.link)
+          t.hier cells g
+      of_table g r t names has = subst (λ (l : List Resource). (links : List Link) (rows : List HierRow)
+          → HasLinks l old.links.graph links rows → ReadResult (map hier_cells) (HasLinks l new.links.graph links)
+          (HierRule l links) rows cells g) (same_resources old.vocab rs t is names) r t.link t.hier has
+
+      by : (g : Bool) → ((links : List Link) (rows : List HierRow) → HasLinks rs old.links.graph links rows
+          → ReadResult (map hier_cells) (HasLinks rs new.links.graph links) (HierRule rs links) rows cells g)
+          → ReadsRow (stage.Hier old) (stage.Hier new) cells g
+      by true r = (
+        refl,
+        λ raw (t, passes, names, read, has, after). hier_taken raw t cells new passes (same ∙ names)
+            read (of_table true r t names has) after,
+      )
+      by false r = λ raw (t, passes, names, read, has, after). hier_fault raw t cells passes read
+          (of_table false r t names has)
+
+module _ (linked_vocab : LinkedVocab) (rs : List Resource) (is : rs ≡ linked_vocab.vocab.resources)
+    (cells : List Cell) where
+  pub posting_row : (old new : PostingLoad) (good : Bool)
+      → ((rows : List PostingRow) → HasPostings rs old.keys.keys old.firsts.items old.stored_places.items old.tally
+      rows → ReadResult (map posting_cells) (HasPostings rs new.keys.keys new.firsts.items new.stored_places.items
+      new.tally) (PostingRule rs) rows cells good)
+      → ReadsRow (stage.Posting linked_vocab old) (stage.Posting linked_vocab new) cells good
+  posting_row old new good reads = by good reads
+    where
+      of_table : (g : Bool) (r : (rows : List PostingRow) → HasPostings rs old.keys.keys old.firsts.items
+          old.stored_places.items old.tally rows → ReadResult (map posting_cells)
+          (HasPostings rs new.keys.keys new.firsts.items new.stored_places.items new.tally) (PostingRule rs) rows
+          cells g) (t : Tables) → HasNames linked_vocab.vocab t → HasPostings t.resource old.keys.keys
+          old.firsts.items old.stored_places.items old.tally t.posting → ReadResult (map posting_cells)
+          (HasPostings t.resource new.keys.keys new.firsts.items new.stored_places.items new.tally)
+          (PostingRule t.resource) t.posting cells g
+      of_table g r t names has = subst (λ (l : List Resource). (rows : List PostingRow) → HasPostings l old.keys.keys
+          old.firsts.items old.stored_places.items old.tally rows → ReadResult (map posting_cells)
+          (HasPostings l new.keys.keys new.firsts.items new.stored_places.items new.tally) (PostingRule l) rows cells
+          g) (same_resources linked_vocab.vocab rs t is names) r t.posting has
+
+      by : (g : Bool) → ((rows : List PostingRow) → HasPostings rs old.keys.keys old.firsts.items
+          old.stored_places.items old.tally rows → ReadResult (map posting_cells)
+          (HasPostings rs new.keys.keys new.firsts.items new.stored_places.items new.tally) (PostingRule rs) rows
+          cells g) → ReadsRow (stage.Posting linked_vocab old) (stage.Posting linked_vocab new) cells g
+      by true r = (
+        refl,
+        λ raw (t, passes, names, links, read, has, after). posting_taken raw t cells linked_vocab new
+            passes names links read (of_table true r t names has) after,
+      )
+      by false r = λ raw (t, passes, names, links, read, has, after). posting_fault raw t cells passes read
+          (of_table false r t names has)
+
+  -- A row of table move.
+  pub move_row : (placed : PlacedPostings) (old new : MoveLoad) (good : Bool)
+      → ((postings : List PostingRow) (rows : List MoveRow) → PostingRule rs postings → HasMoves rs postings old.taken
+      old.places.items rows → ReadResult (map move_cells) (HasMoves rs postings new.taken new.places.items)
+      (MoveRule rs postings) rows cells good)
+      → ReadsRow (stage.Move linked_vocab placed old) (stage.Move linked_vocab placed new) cells good
+  move_row placed old new good reads = by good reads
+    where
+      of_table : (g : Bool) (r : (postings : List PostingRow) (rows : List MoveRow) → PostingRule rs postings
+          → HasMoves rs postings old.taken old.places.items rows → ReadResult (map move_cells)
+          (HasMoves rs postings new.taken new.places.items) (MoveRule rs postings) rows cells g) (t : Tables)
+          → HasNames linked_vocab.vocab t → PostingRule t.resource t.posting → HasMoves t.resource t.posting old.taken
+          old.places.items t.move → ReadResult (map move_cells)
+          (HasMoves t.resource t.posting new.taken new.places.items) (MoveRule t.resource t.posting) t.move cells g
+      of_table g r t names rule has = subst (λ (l : List Resource). (postings : List PostingRow) (rows : List MoveRow)
+          → PostingRule l postings → HasMoves l postings old.taken old.places.items rows → ReadResult (map move_cells)
+          (HasMoves l postings new.taken new.places.items) (MoveRule l postings) rows cells g)
+          (same_resources linked_vocab.vocab rs t is names) r t.posting t.move rule has
+
+      by : (g : Bool) → ((postings : List PostingRow) (rows : List MoveRow) → PostingRule rs postings
+          → HasMoves rs postings old.taken old.places.items rows → ReadResult (map move_cells)
+          (HasMoves rs postings new.taken new.places.items) (MoveRule rs postings) rows cells g)
+          → ReadsRow (stage.Move linked_vocab placed old) (stage.Move linked_vocab placed new) cells g
+      by true r = (
+        refl,
+        λ raw (t, passes, names, links, are, read, has).
+            let (x, e, next) = of_table true r t names passes.1.1 has in (
+              record t { move = t.move ++ x ∷ [] },
+              passes,
+              names,
+              links,
+              are,
+              ap (with_cells cells) read
+                  ∙ ap (λ (rows : List (List Cell)). Some rows) (sym e),
+              next,
+            ),
+      )
+      by false r = λ raw (t, passes, names, links, are, read, has). move_fault raw t cells passes read
+          (of_table false r t names passes.1.1 has)
+
+-- A stopped stage.
+
+less_grown : (cells : List Cell) (rows queried : RawTable) → Grows (with_cells cells rows) queried → Grows rows queried
+less_grown cells None queried grows = grows
+less_grown cells (Some rows) queried (inl none) = inl none
+less_grown cells (Some rows) queried (inr (more, is)) =
+    inr (cells ∷ more, is ∙ ap (λ (l : List (List Cell)). Some l) (append_assoc rows (cells ∷ []) more))
+
+without_row : (at : Table) (cells : List Cell) (raw more : Raw) → Extends at (raw_with_row at cells raw) more
+    → Extends at raw more
+without_row table.Meta cells raw more grows = less_grown cells raw.meta more.meta grows
+without_row table.Resource cells raw more (e0, grows) = (e0, less_grown cells raw.resource more.resource grows)
+without_row table.Outside cells raw more (e0, e1, grows) = (e0, e1, less_grown cells raw.outside more.outside grows)
+without_row table.Label cells raw more (e0, e1, e2, grows) = (e0, e1, e2, less_grown cells raw.label more.label grows)
+without_row table.Link cells raw more (e0, e1, e2, e3, grows) =
+    (e0, e1, e2, e3, less_grown cells raw.link more.link grows)
+without_row table.Hier cells raw more (e0, e1, e2, e3, e4, grows) =
+    (e0, e1, e2, e3, e4, less_grown cells raw.hier more.hier grows)
+without_row table.Posting cells raw more (e0, e1, e2, e3, e4, e5, grows) =
+    (e0, e1, e2, e3, e4, e5, less_grown cells raw.posting more.posting grows)
+without_row table.Move cells raw more (e0, e1, e2, e3, e4, e5, e6, grows) =
+    (e0, e1, e2, e3, e4, e5, e6, less_grown cells raw.move more.move grows)
+
+pub stopped_row : (fault : Fault) (at : Table) (cells : List Cell) → ReadsRow (stage.Stopped fault at)
+    (stage.Stopped fault at) cells true
+stopped_row fault at cells = (refl, λ raw stays more extends. stays more (without_row at cells raw more extends))

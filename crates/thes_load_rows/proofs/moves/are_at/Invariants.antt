@@ -1,7 +1,0 @@
-use Rattle.std.proofs.Common.{◌≡◌, ◌<◌, ℕ}
-use Rattle.std.specs.Prelude.{Some, slice_get}
-use Rattle.thes_load_rows.proofs.moves.are_at.Given as goal
-
--- those so far are
-abbrev pub invariant-loop-i : goal.invariant-loop-i
-invariant-loop-i l = (j : ℕ) (y : ℕ) → j < l.i → slice_get l.ats j ≡ Some y → slice_get l.places j ≡ Some y

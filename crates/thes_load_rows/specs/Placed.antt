@@ -1,9 +1,0 @@
--- Where rows of posting have the postings.
-use Rattle.std.specs.Prelude.{◌≡◌, List, map}
-use Rattle.thes_tables.specs.declared.rows.PostingRow.{PostingRow}
-use Rattle.thes_load_rows.specs.declared.postings.PlacedPostings.{PlacedPostings}
-use Rattle.thes_load_rows.specs.Counted.{AreSumsOf}
-
--- the places and the sums are those of the rows
-abbrev pub ArePlaced : PlacedPostings → List PostingRow → Type 0
-ArePlaced placed rows = (placed.ats.items ≡ map (λ (row : PostingRow). row.place) rows) × AreSumsOf rows placed.tally

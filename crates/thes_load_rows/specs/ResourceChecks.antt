@@ -1,0 +1,62 @@
+-- The checks of table resource, one resource after another.
+use Rattle.std.specs.Prelude.{◌≡◌, ◌≢◌, ◌≤◌, ◌+◌, ℕ, List, [], ◌∷◌, ◌++◌, length, Bool, true, false, Option, Some, None}
+use Rattle.thes_base.specs.declared.data.Resource.{Resource}
+use Rattle.thes_base.specs.declared.data.ResourceKind.{ResourceKind}
+use Rattle.thes_base.specs.declared.data.ResourceKind.TheVariants.{Scheme, Concept, Collection, Outside}
+use Rattle.thes_base.specs.declared.data.Link.{Link}
+use Rattle.thes_base.specs.declared.data.LinkKind.TheVariants.{Broader}
+use Rattle.thes_base.specs.declared.fault.Refusal.{Refusal}
+use Rattle.thes_base.specs.declared.fault.Refusal.TheVariants as no
+use Rattle.thes_base.specs.Resources.{entry_at, IsScheme, IsConcept, IsReplacedBy, scheme_of, replacement_of}
+use Rattle.thes_base.specs.Resources.{is_concept_kind}
+use Rattle.thes_base.specs.Links.{Links, HeldIn, Chain}
+use Rattle.thes_load_rows.specs.declared.rows.ResourceRow.{ResourceRow}
+
+-- The row has the next number, and its resource is appended; or it has another number.
+abbrev pub IsNextResource : List Resource → List Resource → ResourceRow → Bool → Type 0
+IsNextResource old new row true = (row.number ≡ length old + 1) × (new ≡ old ++ row.resource ∷ [])
+IsNextResource old new row false = row.number ≢ length old + 1
+
+-- Concepts and collections have a scheme, other resources none.
+abbrev pub SchemeFits : List Resource → ResourceKind → Option ℕ → Type 0
+SchemeFits resources Scheme scheme = scheme ≡ None
+SchemeFits resources Outside scheme = scheme ≡ None
+SchemeFits resources Concept None = ⊥
+SchemeFits resources Concept (Some m) = IsScheme resources m
+SchemeFits resources Collection None = ⊥
+SchemeFits resources Collection (Some m) = IsScheme resources m
+
+-- A replaced concept isn't live, and its replacement is another concept of the same scheme.
+abbrev pub ReplacementFits : List Resource → ℕ → Resource → Option ℕ → Type 0
+ReplacementFits resources n r None = Unit {0}
+ReplacementFits resources n r (Some m) = (r.live ≡ false) × (m ≢ n) × IsConcept resources m
+    × (scheme_of resources m ≡ r.scheme)
+
+-- A resource has the scheme, the status and the replacement that its kind requires.
+abbrev pub ResourceFits : List Resource → ℕ → Resource → Type 0
+ResourceFits resources n r = SchemeFits resources r.kind r.scheme
+    × (r.live ≡ false → is_concept_kind r.kind ≡ true) × ReplacementFits resources n r r.replaced
+
+-- Each resource does.
+abbrev pub EachResourceFits : List Resource → Type 0
+EachResourceFits resources = (n : ℕ) (r : Resource) → entry_at resources n ≡ Some r → ResourceFits resources n r
+
+-- Whether the first broken rule is that links have no cycle.
+abbrev pub is_cycle : Option Refusal → Bool
+is_cycle (Some no.Cycle) = true
+is_cycle _ = false
+
+-- No resource replaces itself.
+abbrev pub AreApart : List Resource → Type 0
+AreApart resources = (n m : ℕ) → replacement_of resources n ≡ Some m → n ≢ m
+
+-- The flag says whether replacements have a cycle.
+abbrev pub HasReturn : List Resource → Bool → Type 0
+HasReturn resources true = (n : ℕ) × Chain (IsReplacedBy resources) n n
+HasReturn resources false = (n : ℕ) → Chain (IsReplacedBy resources) n n → ⊥
+
+-- The links are those from the first `most` resources to their replacements.
+pub record HasReplacements (resources : List Resource) (most : ℕ) (links : Links) : Type 0 where
+  pub sound : (l : Link) → HeldIn links l → (l.kind ≡ Broader) × IsReplacedBy resources l.a l.b
+  pub complete : (m n : ℕ) → m ≤ most → IsReplacedBy resources m n
+      → HeldIn links (record { kind = Broader; a = m; b = n })

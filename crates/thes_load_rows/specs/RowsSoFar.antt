@@ -1,0 +1,83 @@
+-- What is known of the rows of a table so far, by what is kept of them in memory.
+use Rattle.std.specs.Prelude.{◌≡◌, ◌≢◌, ◌<◌, ◌^◌, ◌+◌, ℕ, List, [], ◌∷◌, ◌++◌, Bool, true, false, cond, not, Some}
+use Rattle.std.specs.Prelude.{length, map, slice_get}
+use Rattle.std.specs.List.{list_any}
+use Rattle.std.specs.Ordering.{nat_cmp, eq_by_cmp}
+use Rattle.std.specs.Cmp.Lexicographic.{slice_cmp}
+use Rattle.thes_base.specs.declared.data.Resource.{Resource}
+use Rattle.thes_base.specs.Resources.{entry_at, IsConcept, is_live_concept}
+use Rattle.thes_base.specs.Postings.{place, IsWellFormed}
+use Rattle.thes_tables.specs.declared.rows.PostingRow.{PostingRow}
+use Rattle.thes_tables.specs.declared.rows.MoveRow.{MoveRow}
+use Rattle.thes_post.specs.PostingCounts.{PostingCounts}
+use Rattle.thes_load_rules.specs.Rules.{EachRow, AreInOrder, PostingRule, history_of}
+use Rattle.thes_load_rows.specs.PostingCounts.{AreSumsOf}
+
+-- The next row is kept; or no rows that begin with these and it meet the rule.
+abbrev pub TakeResult : {A : Type 0} → (List A → Type 0) → (List A → Type 0) → List A → A → Bool → Type 0
+TakeResult Has Rule rows x true = Has (rows ++ x ∷ [])
+TakeResult {A} Has Rule rows x false = (more : List A) → Rule (rows ++ x ∷ more) → ⊥
+
+-- Postings.
+
+-- Whether the key is one of the keys.
+abbrev pub has_key : List (List ℕ) → List ℕ → Bool
+has_key keys q = list_any (eq_by_cmp (slice_cmp nat_cmp) q) keys
+
+-- The key is inserted, and the flag says whether it is new.
+abbrev pub KeyIsTaken : List (List ℕ) → List (List ℕ) → List ℕ → Bool → Type 0
+KeyIsTaken old new key fresh =
+    (fresh ≡ not (has_key old key))
+    × ((q : List ℕ) → has_key new q ≡ cond (eq_by_cmp (slice_cmp nat_cmp) key q) true (has_key old q))
+
+-- The rows meet the rule, and the keys, first concepts, places and counts are theirs.
+pub record HasPostings (resources : List Resource) (keys : List (List ℕ)) (firsts stored_places : List ℕ)
+    (sums : PostingCounts) (rows : List PostingRow) : Type 0 where
+  pub rule : PostingRule resources rows
+  pub keys_are : (q : List ℕ) → has_key keys q ≡ has_key (map (λ (row : PostingRow). row.key) rows) q
+  pub firsts_are : firsts ≡ map (λ (row : PostingRow). row.first) rows
+  pub stored_places_are : stored_places ≡ map (λ (row : PostingRow). row.place) rows
+  pub sums_are : AreSumsOf rows sums
+
+-- The row meets the rule as the next one, but for the uniqueness of its key.
+pub record IsNextPosting (resources : List Resource) (taken : ℕ) (row : PostingRow) : Type 0 where
+  pub number : row.number ≡ taken + 1
+  pub first : IsConcept resources row.first
+  pub place : IsConcept resources row.place
+  pub live : row.withdrawn ≡ false → is_live_concept resources row.place ≡ true
+
+-- Moves.
+
+-- The rows meet the rule, but for the final places of the postings.
+pub record MovesSoFar (resources : List Resource) (postings : List PostingRow) (rows : List MoveRow) : Type 0 where
+  pub few : length rows < 2 ^ 32
+  pub numbers : AreInOrder (λ (row : MoveRow). row.number) rows
+  pub known : EachRow (λ row. (posting : PostingRow) × (entry_at postings row.posting ≡ Some posting)) rows
+  pub ends : EachRow (λ row. IsConcept resources row.target × (row.source ≢ row.target)) rows
+  pub well_formed : EachRow (λ posting. IsWellFormed (history_of rows posting)) postings
+
+-- The places are those after the moves so far.
+pub record ArePlacesAfterMoves (postings : List PostingRow) (rows : List MoveRow) (places : List ℕ) : Type 0 where
+  pub fit : length places ≡ length postings
+  pub place_is :
+      (n : ℕ) (p : PostingRow) → entry_at postings n ≡ Some p
+      → entry_at places n ≡ Some (place (history_of rows p))
+
+-- The rows meet the rule so far, their number is `taken`, and the places are those after them.
+pub record HasMoves (resources : List Resource) (postings : List PostingRow) (taken : ℕ)
+    (places : List ℕ) (rows : List MoveRow) : Type 0 where
+  pub order : AreInOrder (λ (posting : PostingRow). posting.number) postings
+  pub so_far : MovesSoFar resources postings rows
+  pub count : length rows ≡ taken
+  pub place_is : ArePlacesAfterMoves postings rows places
+
+-- The row meets the rule as the next one, given the places before it.
+pub record IsNextMove (resources : List Resource) (places : List ℕ) (taken : ℕ) (row : MoveRow) : Type 0 where
+  pub number : row.number ≡ taken + 1
+  pub source_place : entry_at places row.posting ≡ Some row.source
+  pub two : row.source ≢ row.target
+  pub target_concept : IsConcept resources row.target
+
+-- The lists of places agree.
+abbrev pub AreSamePlaces : List ℕ → List ℕ → Type 0
+AreSamePlaces places stored_places = (i : ℕ) (y : ℕ) → slice_get stored_places i ≡ Some y → slice_get places i ≡ Some y

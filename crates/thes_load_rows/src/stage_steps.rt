@@ -1,0 +1,87 @@
+//! The steps of a load: a row, a table that can't be queried, and the end.
+ghost use Rattle.std.specs.Prelude.{◌≤◌, IfOk};
+ghost use Rattle.thes_tables.specs.Cells.{Raw};
+ghost use Rattle.thes_load_rows.specs.declared.stage.Stage.TheVariants as stage;
+ghost use Rattle.thes_load_rows.specs.Progress.{stage_table, table_no, HasRead, HasRow, HasUnqueried};
+ghost use Rattle.thes_load_rows.specs.LoadResults.{LoadResult};
+
+use crate::linked_vocab::LinkedVocab;
+use crate::moves::MoveLoad;
+use crate::postings::PlacedPostings;
+use crate::stage::Stage;
+use std::alloc::{AllocError, Global};
+use thes_base::fault::{Fault, Table};
+use thes_post::book::Book;
+use thes_tables::cells::Cell;
+
+/// The parts of a state, from rows that load: the vocabulary with its links, and the counts of postings.
+#[derive(Drop)]
+pub struct LoadedParts {
+    pub linked_vocab: LinkedVocab,
+    pub book: Book,
+}
+
+impl Stage {
+    /// Parses a row of a table and keeps it, or stops with the fault. Closes the tables before it first.
+    pub fn row(self, alloc: Global, table: Table, cells: &[Cell]) -> Result<Stage, AllocError>
+        requires { table_no (stage_table self) ≤ table_no table }
+        ensures { IfOk result (λ next. HasRow self next table cells.now) }
+    {
+        let mut stage = self.reach(alloc, table)?;
+        match stage.read(alloc, cells) {
+            Ok(true) => Ok(stage),
+            Ok(false) => {
+                drop(stage);
+                Ok(Stage::Stopped(Fault::BadStore(table), table))
+            }
+            Err(error) => {
+                drop(stage);
+                Err(error)
+            }
+        }
+    }
+
+    /// Stops with the fault of a table that can't be queried, unless there is one before it. Closes those tables first.
+    pub fn unqueried(self, alloc: Global, table: Table) -> Result<Stage, AllocError>
+        requires { table_no (stage_table self) ≤ table_no table }
+        ensures { IfOk result (λ next. HasUnqueried self next table) }
+    {
+        let stage = self.reach(alloc, table)?;
+        if stage.is_stopped() {
+            return Ok(stage);
+        }
+        drop(stage);
+        Ok(Stage::Stopped(Fault::BadStore(table), table))
+    }
+
+    /// Closes all tables, and returns the parts of the state, or the first fault.
+    pub fn finish(self, alloc: Global) -> Result<Result<LoadedParts, Fault>, AllocError>
+        ensures { IfOk result (λ answer. (raw : Raw) → HasRead self raw → LoadResult raw answer) }
+    {
+        match self.reach(alloc, Table::Move)? {
+            Stage::Move(linked_vocab, placed, load) => Ok(close_moves(linked_vocab, placed, load)),
+            Stage::Stopped(fault, _) => Ok(Err(fault)),
+            other => {
+                drop(other);
+                Ok(Err(Fault::BadStore(Table::Move)))
+            }
+        }
+    }
+}
+
+// Checks table move, the last one, as a whole.
+fn close_moves(
+    linked_vocab: LinkedVocab,
+    placed: PlacedPostings,
+    load: MoveLoad,
+) -> Result<LoadedParts, Fault>
+    ensures { (raw : Raw) → HasRead (stage.Move linked_vocab placed load) raw
+        → LoadResult raw result }
+{
+    if load.close(placed.stored_places.as_slice()) {
+        let book = placed.tally.close(load.taken);
+        Ok(LoadedParts { linked_vocab, book })
+    } else {
+        Err(Fault::BadStore(Table::Move))
+    }
+}

@@ -1,5 +1,0 @@
-use Rattle.thes_load_rules.proofs.Holding.{held_loads}
-use Rattle.thes_load_rules.proofs.laws.legal_loads.Goals as goal
-
-pub returns : goal.returns
-returns c = held_loads

@@ -1,8 +1,0 @@
-pub mod Making
-pub mod Tables
-pub mod Following
-pub mod Turns
-pub mod Members
-pub mod Rising
-pub mod Orders
-pub mod Arranging

@@ -1,6 +1,0 @@
-pub mod Reading
-pub mod Loaded
-pub mod Feeding
-pub mod Handed
-pub mod Sorted
-pub mod Arranged

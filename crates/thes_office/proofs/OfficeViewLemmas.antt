@@ -1,0 +1,273 @@
+-- Proves that each call keeps the invariant of an office, and what it does to the tables.
+use Rattle.std.proofs.Common.{◌≡◌, ◌⊎◌, ◌++◌, ◌∷◌, [], ℕ, List, Bool, true, false, refl, sym, ap, subst, ◌∙◌, inl}
+use Rattle.std.proofs.Common.{inr, append_assoc, append-nil, take, drop, take-append-drop, length, length-drop, arith}
+use Rattle.std.proofs.Common.{◌<◌, ◌≤◌}
+use Rattle.std.specs.Prelude.{Result, Ok, Err}
+use Rattle.std.specs.Borrow.{Bor}
+use Rattle.thes_base.specs.declared.data.Limits.{Limits}
+use Rattle.thes_base.specs.declared.fault.Fault.{Fault}
+use Rattle.thes_base.specs.declared.fault.Fault.TheVariants as faults
+use Rattle.thes_base.specs.declared.request.Answer.{Answer}
+use Rattle.thes_base.specs.declared.request.Command.{Command}
+use Rattle.thes_base.specs.Headline.{IsConsistentState}
+use Rattle.thes_base.specs.Machine.{Run, Step}
+use Rattle.thes_base.specs.Refusals.{Setting}
+use Rattle.thes_base.specs.State.{State}
+use Rattle.thes_base.proofs.MachineLemmas.{legal_is_consistent}
+use Rattle.thes_tables.specs.Cells.{Raw}
+use Rattle.thes_core.specs.CoreView as core
+use Rattle.thes_store.specs.Causes.{HasCause, IsCounted}
+use Rattle.thes_load_rules.specs.Verdicts.{HasVerdict}
+use Rattle.thes_office.specs.QueryFrames.{LoadFrame}
+use Rattle.thes_office.specs.Office.{AreLimits, FaultBehaviour, TablesAfterRun, IsConsistent, IsCopy, OfficeView}
+use Rattle.thes_office.specs.Office.{PerformResult, CompleteRun, PartialRun, ReadyResult, SameTables, TablesAfterStep}
+use Rattle.thes_office.specs.Office.{setting}
+use Rattle.thes_office.specs.TablesOfState.{TablesOfState}
+use Rattle.thes_office.proofs.StateTableLemmas.{faulty_has_no_state, state_is_unique, same_tables_same_state}
+use Rattle.thes_office.proofs.StepLemmas.{copies_over}
+
+-- A run without requests.
+pub empty_run : (limits : Limits) (raw : Raw) (base : List ℕ) (s : State) → TablesOfState raw base s
+    → IsConsistentState base s → TablesAfterRun limits raw [] [] raw
+empty_run limits raw base s shows in_order = record {
+  base = base;
+  before = s;
+  after = s;
+  tables_before = shows;
+  run = refl;
+  shows = shows;
+  in_order = in_order;
+}
+
+-- The count of failures never decreases.
+pub never_falls : {T : Type 0} (before now : ℕ) (result : Result T Fault) → HasCause before now result → before ≤ now
+never_falls before now (Ok x) cause = omega (arith, cause)
+never_falls before now (Err fault) (inl (memory, same)) = omega (arith, same)
+never_falls before now (Err fault) (inr (store, inl more)) = omega (arith, more)
+never_falls before now (Err fault) (inr (store, inr (at_most, same))) = omega (arith, same)
+
+-- A fault of the store is counted.
+pub has_failed : (before now : ℕ) (fault : Fault) → IsCounted before now fault → fault ≡ faults.Store → 0 < now
+has_failed before now fault (inl (memory, same)) is = absurd (cc)
+has_failed before now fault (inr (e, inl more)) is = omega (arith, more)
+has_failed before now fault (inr (e, inr (at_most, same))) is = omega (arith, at_most, same)
+
+module _ {K : Type 0} (rows : K → Raw) (is_up : K → Type 0) (failed : K → ℕ) where
+  -- The invariant after a load.
+  pub consistent_after_load : (old new : K) (copy : core.CoreView) (limits : Limits) → AreLimits limits → copy.spent
+      ≡ false → (is_up new → IsCopy (rows old) limits copy) → (is_up new → rows new ≡ rows old)
+      → IsConsistent rows is_up failed new copy limits false
+  consistent_after_load old new copy limits few unspent copies same = record {
+    few = few;
+    shows = λ up. let is = here up in (copy.setting.base, is.state, is.shows);
+    unspent = λ e. unspent;
+    copies = λ e. here;
+    why = λ e. absurd (cc);
+  }
+    where
+      here : is_up new → IsCopy (rows new) limits copy
+      here up = copies_over (rows old) (rows new) limits copy (same up) (copies up)
+
+  -- The invariant after a call that changes neither the tables nor the copy.
+  pub consistent_after_query : (old new : K) (copy : core.CoreView) (limits : Limits) (stale stale' : Bool)
+      → IsConsistent rows is_up failed old copy limits stale → failed old ≤ failed new
+      → (stale' ≡ true → (stale ≡ true) ⊎ (0 < failed new)) → (stale' ≡ false → stale ≡ false)
+      → (is_up new → is_up old) → (is_up new → rows new ≡ rows old) → IsConsistent rows is_up failed new copy limits
+      stale'
+  consistent_after_query old new copy limits stale stale' kept later cause fresh was same = record {
+    few = kept.few;
+    shows = λ up. let x = kept.shows (was up) in
+        (x.0, x.1, same_tables_same_state (rows old) (rows new) x.0 x.1 (same up) x.2);
+    unspent = λ e. kept.unspent (fresh e);
+    copies = λ e up. copies_over (rows old) (rows new) limits copy (same up) (kept.copies (fresh e) (was up));
+    why = λ e. so (cause e);
+  }
+    where
+      still : (copy.spent ≡ true) ⊎ (0 < failed old) → (copy.spent ≡ true) ⊎ (0 < failed new)
+      still (inl spent) = inl spent
+      still (inr once) = inr (omega (arith, once, later))
+
+      so : (stale ≡ true) ⊎ (0 < failed new) → (copy.spent ≡ true) ⊎ (0 < failed new)
+      so (inl e) = still (kept.why e)
+      so (inr once) = inr once
+
+  -- The invariant after a request is answered.
+  pub consistent_after_answer : (new : K) (copy copy' : core.CoreView) (limits : Limits) (stale : Bool) (old : Raw)
+      (command : Command) (answer : Answer) → AreLimits limits → (is_up new → copy.setting.limits ≡ limits) → stale
+      ≡ copy'.spent
+      → (is_up new → TablesAfterStep copy.setting.limits old command answer (rows new))
+      → (is_up new → copy'.spent ≡ false → IsCopy (rows new) copy.setting.limits copy') → IsConsistent rows is_up
+      failed new copy' limits stale
+  consistent_after_answer new copy copy' limits stale old command answer few set is steps copies = record {
+    few = few;
+    shows = λ up. let x = steps up in (x.base, x.after, x.shows);
+    unspent = λ e. sym is ∙ e;
+    copies = λ e up. subst (λ (l : Limits). IsCopy (rows new) l copy') (set up) (copies up (sym is ∙ e));
+    why = λ e. inl (sym is ∙ e);
+  }
+
+  -- The effect of a load that fails, although the tables encode a state.
+  pub behaviour_of_load_fault : (old new : K) (copy : core.CoreView) (limits : Limits) (stale : Bool) (fault : Fault)
+      (office_view : OfficeView K) → LoadFrame rows is_up failed old new (let x : Result core.CoreView Fault =
+      Err fault in x)
+      → (is_up new → (fault ≡ faults.OutOfMemory) ⊎ ((fault ≡ faults.Store) ⊎ HasVerdict (rows old) (Err fault)))
+      → IsConsistent rows is_up failed old copy limits stale → stale ≡ true
+      → record { keeper = old; limits = limits; stale = stale } ≡ office_view
+      → FaultBehaviour rows is_up failed office_view (record { keeper = new; limits = limits; stale = stale })
+      (let x : Result (Unit {0}) Fault = Err fault in x)
+  behaviour_of_load_fault old new copy limits stale fault office_view read none kept is same =
+      subst (λ (d : OfficeView K). FaultBehaviour rows is_up failed d
+      (record { keeper = new; limits = limits; stale = stale }) (let x : Result (Unit {0}) Fault = Err fault in
+      x)) same
+      record {
+        limits = refl;
+        was = read.was;
+        later = read.later;
+        count = tt;
+        store = read.store;
+        stale = λ e. is;
+        fault = λ up. only up (none up);
+      }
+    where
+      only : is_up new → (fault ≡ faults.OutOfMemory) ⊎ ((fault ≡ faults.Store) ⊎ HasVerdict (rows old) (Err fault))
+          → (fault ≡ faults.OutOfMemory) ⊎ (fault ≡ faults.Store)
+      only up (inl e) = inl e
+      only up (inr (inl e)) = inr e
+      only up (inr (inr faulty)) = let x = kept.shows (read.was up) in
+          absurd (faulty_has_no_state (rows old) fault faulty x.0 x.1 x.2)
+
+  -- The result of `ready`, after a reload.
+  pub ready_core : (old : OfficeView K) (keeper : K) (copy : core.CoreView) (limits : Limits) (stale : Bool)
+      (office_view : OfficeView K) (lent : Bor core.CoreView) → IsConsistent rows is_up failed keeper copy limits
+      stale → record { keeper = keeper; limits = limits; stale = stale } ≡ office_view
+      → FaultBehaviour rows is_up failed old office_view (let x : Result (Unit {0}) Fault = Ok tt in x)
+      → SameTables rows is_up old office_view → office_view.stale ≡ false → lent.now ≡ copy
+      → ReadyResult rows is_up failed old (Ok lent) (record { keeper = keeper; limits = limits; stale = stale })
+  ready_core old keeper copy limits stale office_view lent kept is goes same fresh lends =
+      subst (ReadyResult rows is_up failed old (Ok lent)) (sym is) record {
+        goes = record {
+          limits = goes.limits;
+          was = goes.was;
+          later = goes.later;
+          count = goes.count;
+          store =
+              tt;
+          stale = tt;
+          fault = λ up. tt;
+        };
+        same = same;
+        fresh = fresh;
+        shown = record {
+          unspent = ap (λ (k : core.CoreView). k.spent) lends ∙ kept.unspent now;
+          copies = λ up.
+              subst (λ (d : OfficeView K). IsCopy (rows d.keeper) d.limits lent.now) is
+              (subst (λ (k : core.CoreView). IsCopy (rows keeper) limits k) (sym lends)
+              (kept.copies now (subst (λ (d : OfficeView K). is_up d.keeper) (sym is) up)));
+        };
+      }
+    where
+      now : stale ≡ false
+      now = ap (λ (d : OfficeView K). d.stale) is ∙ fresh
+
+-- Runs.
+
+run_push : (s : Setting) (commands : List Command) (answers : List Answer) (a b c : State) (command : Command)
+    (answer : Answer) → Run s a commands answers b → Step s b command answer c → Run s a (commands ++ command ∷ [])
+    (answers ++ answer ∷ []) c
+run_push s [] [] a b c command answer run step = (c, subst (λ (x : State). Step s x command answer c) run step, refl)
+run_push s [] (x ∷ answers) a b c command answer run step = absurd run
+run_push s (x ∷ commands) [] a b c command answer run step = absurd run
+run_push s (x ∷ commands) (y ∷ answers) a b c command answer run step =
+    (run.0, run.1, run_push s commands answers run.0 b c command answer run.2 step)
+
+-- A run with one more request.
+pub run_of_one_more : (limits : Limits) (first mid last : Raw) (commands : List Command) (answers : List Answer)
+    (command : Command) (answer : Answer) → TablesAfterRun limits first commands answers mid → TablesAfterStep limits
+    mid command answer last → TablesAfterRun limits first (commands ++ command ∷ []) (answers ++ answer ∷ []) last
+run_of_one_more limits first mid last commands answers command answer run step =
+    let one = state_is_unique mid step.base run.base step.before run.after step.tables_before run.shows in
+    let shows = subst (λ (b : List ℕ). TablesOfState last b step.after) one.0 step.shows in
+    record {
+      base = run.base;
+      before = run.before;
+      after = step.after;
+      tables_before = run.tables_before;
+      run = run_push (setting run.base limits) commands answers run.before run.after step.after command answer run.run
+          (subst (λ (p : List ℕ × State). Step (setting p.0 limits) p.1 command answer step.after)
+          (λ i. (one.0 i, one.1 i)) step.step);
+      shows = shows;
+      in_order = legal_is_consistent run.base step.after shows.legal;
+    }
+
+module _ {K : Type 0} (rows : K → Raw) (is_up : K → Type 0) (failed : K → ℕ) where
+  -- The progress of a run: the requests done, and their answers.
+  pub record RunSoFar (old now : OfficeView K) (done : List Command) (before after : List Answer) : Type 0 where
+    pub limits : now.limits ≡ old.limits
+    pub was : is_up now.keeper → is_up old.keeper
+    pub count : failed now.keeper ≡ failed old.keeper
+    pub given : List Answer
+    pub kept : after ≡ before ++ given
+    pub goes_on : is_up now.keeper → TablesAfterRun old.limits (rows old.keeper) done given (rows now.keeper)
+
+  -- Before the first request.
+  pub run_starts : (keeper : K) (copy : core.CoreView) (limits : Limits) (stale : Bool) (office_view : OfficeView K)
+      (before : List Answer) → IsConsistent rows is_up failed keeper copy limits stale
+      → record { keeper = keeper; limits = limits; stale = stale } ≡ office_view → RunSoFar office_view office_view []
+      before before
+  run_starts keeper copy limits stale office_view before consistent is =
+      subst (λ (d : OfficeView K). RunSoFar d d [] before before) is record {
+        limits = refl;
+        was = λ up. up;
+        count = refl;
+        given = [];
+        kept = sym (append-nil before);
+        goes_on = λ up. let x = consistent.shows up in empty_run limits (rows keeper) x.0 x.1 x.2
+            (legal_is_consistent x.0 x.1 x.2.legal);
+      }
+
+  -- After one more request.
+  pub run_continues : (old mid new : OfficeView K) (done more : List Command) (before after last : List Answer)
+      (command : Command) (answer : Answer) → RunSoFar old mid done before after → FaultBehaviour rows is_up failed
+      mid new (let x : Result Answer Fault = Ok answer in x)
+      → PerformResult rows is_up mid command (Ok answer) new → last ≡ after ++ answer ∷ [] → more ≡ done ++ command
+      ∷ [] → RunSoFar old new more before last
+  run_continues old mid new done more before after last command answer r goes performed pushed grown = record {
+    limits = goes.limits ∙ r.limits;
+    was = λ up. r.was (goes.was up);
+    count = goes.count ∙ r.count;
+    given = r.given ++ answer ∷ [];
+    kept = pushed ∙ ap (λ (l : List Answer). l ++ answer ∷ []) r.kept ∙ append_assoc before r.given (answer ∷ []);
+    goes_on = λ up.
+        let step = subst (λ (l : Limits). TablesAfterStep l (rows mid.keeper) command answer (rows new.keeper))
+        r.limits (performed up) in
+        subst (λ (l : List Command). TablesAfterRun old.limits (rows old.keeper) l (r.given ++ answer ∷ [])
+        (rows new.keeper)) (sym grown)
+        (run_of_one_more old.limits (rows old.keeper) (rows mid.keeper) (rows new.keeper) done r.given command answer
+        (r.goes_on (goes.was up)) step);
+  }
+
+  -- After the last request.
+  pub run_completes : (old now : OfficeView K) (commands done : List Command) (before after : List Answer)
+      → RunSoFar old now done before after → done ≡ commands → CompleteRun rows is_up old commands before after now
+  run_completes old now commands done before after r same = record {
+    answers = r.given;
+    kept = r.kept;
+    goes_on = λ up. subst (λ (l : List Command). TablesAfterRun old.limits (rows old.keeper) l r.given
+        (rows now.keeper)) same (r.goes_on up);
+  }
+
+  -- A run that stops before a request.
+  pub run_stops : (old now last : OfficeView K) (commands : List Command) (n : ℕ) (before after told : List Answer)
+      → n < length commands → RunSoFar old now (take n commands) before after → (is_up last.keeper → is_up now.keeper)
+      → (is_up last.keeper → rows last.keeper ≡ rows now.keeper) → told ≡ after → PartialRun rows is_up old commands
+      before told last
+  run_stops old now last commands n before after told more r was same is = record {
+    done = take n commands;
+    left = drop n commands;
+    answers = r.given;
+    all = sym (take-append-drop n commands);
+    some = omega (arith, length-drop n commands, more);
+    kept = is ∙ r.kept;
+    goes_on = λ up. subst (λ (l : Raw). TablesAfterRun old.limits (rows old.keeper) (take n commands) r.given l)
+        (sym (same up)) (r.goes_on (was up));
+  }

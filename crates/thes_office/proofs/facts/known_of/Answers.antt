@@ -1,7 +1,0 @@
-use Rattle.std.proofs.lemmas.Result.{IfOk-weaker}
-use Rattle.thes_office.proofs.FactLemmas.{found_key}
-use Rattle.thes_office.proofs.facts.known_of.Goals as goal
-
-pub returns-clause-told : goal.returns-clause-told
-returns-clause-told g c =
-    IfOk-weaker c.find.result _ _ (λ found ok up base s x. found_key base s x.tables.posting c.args.key.now found x.legal x.holds.posting (ok up x.tables x.rows)) c.find.ensures.ok

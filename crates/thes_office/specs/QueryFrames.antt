@@ -1,0 +1,63 @@
+-- The results of queries to a keeper.
+use Rattle.std.specs.Prelude.{◌≡◌, ◌⊎◌, ◌<◌, ◌≤◌, ◌++◌, ℕ, List, [], ◌∷◌, map, Option, Result, Ok, Err, OnOk, IfErr}
+use Rattle.thes_base.specs.declared.fault.Fault.{Fault}
+use Rattle.thes_base.specs.declared.fault.Fault.TheVariants as faults
+use Rattle.thes_base.specs.declared.data.History.{History}
+use Rattle.thes_base.specs.declared.request.Command.{Command}
+use Rattle.thes_base.specs.Resources.{entry_at}
+use Rattle.thes_base.specs.State.{State}
+use Rattle.thes_tables.specs.Cells.{Raw}
+use Rattle.thes_tables.specs.declared.rows.PostingRow.{PostingRow}
+use Rattle.thes_core.specs.Facts.{AreFacts, IsRowOfKey, posting_row_at, standing_numbers}
+use Rattle.thes_core.specs.declared.facts.Facts.{Facts}
+use Rattle.thes_store.specs.Causes.{HasCause, max_failures}
+use Rattle.thes_office.specs.TablesOfState.{TablesOfState}
+
+-- What every query keeps: the tables stay the same, and a fault has its cause.
+pub record QueryFrame {K T : Type 0} (rows : K → Raw) (is_up : K → Type 0) (failed : K → ℕ) (old new : K)
+    (result : Result T Fault) : Type 0 where
+  pub same : is_up new → rows new ≡ rows old
+  pub was : is_up new → is_up old
+  pub cause : HasCause (failed old) (failed new) result
+
+-- What a load keeps: the tables stay the same, and a fault of the store has its cause.
+pub record LoadFrame {K T : Type 0} (rows : K → Raw) (is_up : K → Type 0) (failed : K → ℕ)
+    (old new : K) (result : Result T Fault) : Type 0 where
+  pub same : is_up new → rows new ≡ rows old
+  pub was : is_up new → is_up old
+  pub later : failed old ≤ failed new
+  pub count : OnOk result (failed new ≡ failed old)
+  pub store : IfErr result (λ f. f ≡ faults.Store → (failed old < failed new) ⊎ (failed old ≡ max_failures))
+
+-- The property holds in every state that the rows encode.
+abbrev pub InStateOfTables : Raw → (State → Type 0) → Type 0
+InStateOfTables raw P = (base : List ℕ) (s : State) → TablesOfState raw base s → P s
+
+-- The facts for a command are those of the rows.
+abbrev pub FactsInTables : Raw → Command → Facts → Type 0
+FactsInTables raw command facts = InStateOfTables raw (λ s. AreFacts command s.histories facts)
+
+-- The row found is that of the posting with this key, or there is none.
+abbrev pub KeyInTables : Raw → List ℕ → Option PostingRow → Type 0
+KeyInTables raw key found = InStateOfTables raw (λ s. IsRowOfKey key s.histories found)
+
+-- The row is that of the posting with this number, or there is none.
+abbrev pub RowInTables : Raw → ℕ → Option PostingRow → Type 0
+RowInTables raw n row = InStateOfTables raw (λ s. row ≡ posting_row_at s.histories n)
+
+-- The history is that of the posting with this number, or there is none.
+abbrev pub HistoryInTables : Raw → ℕ → Option History → Type 0
+HistoryInTables raw n told = InStateOfTables raw (λ s. told ≡ entry_at s.histories n)
+
+-- The rows are those of the postings with these numbers.
+abbrev pub RowsInTables : Raw → List ℕ → List (Option PostingRow) → Type 0
+RowsInTables raw ns rows = InStateOfTables raw (λ s. rows ≡ map (posting_row_at s.histories) ns)
+
+-- The numbers are those of the postings assigned to the concept.
+abbrev pub AssignedInTables : Raw → ℕ → List ℕ → Type 0
+AssignedInTables raw concept numbers = InStateOfTables raw (λ s. numbers ≡ standing_numbers concept s.histories)
+
+-- The number of the row is appended, or nothing on a fault.
+abbrev pub PushesNumber : List ℕ → PostingRow → Result (Unit {0}) Fault → List ℕ → Type 0
+PushesNumber old row (Ok done) new = new ≡ old ++ row.number ∷ []
+PushesNumber old row (Err fault) new = new ≡ old

@@ -1,0 +1,13 @@
+-- Tables that encode a state.
+use Rattle.std.specs.Prelude.{◌≡◌, ℕ, List}
+use Rattle.thes_base.specs.State.{State}
+use Rattle.thes_base.specs.Legal.{Legal}
+use Rattle.thes_tables.specs.Cells.{Raw, cells_of_tables}
+use Rattle.thes_tables.specs.Tables.{Tables, IsRowsOf}
+
+-- The rows encode this legal state, with this base.
+pub record TablesOfState (raw : Raw) (base : List ℕ) (s : State) : Type 0 where
+  pub tables : Tables
+  pub rows : raw ≡ cells_of_tables tables
+  pub holds : IsRowsOf base s tables
+  pub legal : Legal base s

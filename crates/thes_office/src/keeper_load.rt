@@ -1,0 +1,46 @@
+//! Builds a core of the tables of a keeper.
+ghost use Rattle.std.specs.Prelude.{◌≡◌, ◌≢◌, ◌⊎◌, false, Err, IfOk, IfErr};
+ghost use Rattle.thes_load_rules.specs.Verdicts.{HasVerdict};
+ghost use Rattle.thes_office.specs.QueryFrames.{LoadFrame};
+ghost use Rattle.thes_office.specs.Office.{IsCopy};
+
+use crate::loader::Loader;
+use std::alloc::Global;
+use thes_base::data::Limits;
+use thes_base::fault::{Fault, Table};
+use thes_core::Core;
+use thes_store::keeper::Keeper;
+
+/// Builds a core of the tables of a keeper. Any fault but OutOfMemory and Store is the verdict on their rows.
+pub fn load<K: Keeper>(alloc: Global, keeper: &mut K, limits: Limits) -> Result<Core, Fault>
+    ensures unspent { IfOk result (λ core. core.spent ≡ false) }
+    ensures copies { IfOk result (λ core. K.is_up keeper.new
+        → IsCopy (K.rows keeper.old) limits core) }
+    ensures verdict { IfErr result (λ fault. K.is_up keeper.new
+        → (fault ≡ Fault.OutOfMemory) ⊎ (fault ≡ Fault.Store)
+        ⊎ HasVerdict (K.rows keeper.old) (Err fault)) }
+    ensures reads { LoadFrame K.rows K.is_up K.failed keeper.old keeper.new result }
+{
+    let mut loader = Loader::new(alloc, limits);
+    match keeper.load(&mut loader) {
+        Ok(()) => match loader.finish() {
+            Ok(core) => Ok(core),
+            Err(fault) => Err(verdict(fault)),
+        },
+        Err(fault) => {
+            drop(loader);
+            Err(fault)
+        }
+    }
+}
+
+// The fault for a verdict on rows, which is never Store: only a keeper reports that one.
+fn verdict(fault: Fault) -> Fault
+    ensures same { fault ≢ Fault.Store → result ≡ fault }
+    ensures never { result ≢ Fault.Store }
+{
+    match fault {
+        Fault::Store => Fault::BadStore(Table::Meta),
+        other => other,
+    }
+}

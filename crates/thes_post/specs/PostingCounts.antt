@@ -1,0 +1,80 @@
+-- The counts of postings: those assigned to each concept, those accepted and withdrawn, and the moves.
+use Rattle.std.specs.Prelude.{◌≡◌, ◌≢◌, ◌<◌, ◌≤◌, ◌^◌, ◌+◌, ◌==◌, ◌&&◌, ℕ, List, Bool, not, cond, slice_index}
+use Rattle.thes_base.specs.Types.{Number}
+use Rattle.thes_base.specs.declared.data.History.{History}
+use Rattle.thes_base.specs.Postings.{accepted_count, withdrawn_count, assigned_count, move_count}
+
+-- The counts of postings: `counts` has at place n those assigned to concept n, and none past its end.
+pub record PostingCounts : Type 0 where
+  pub counts : List ℕ
+  pub accepted : ℕ
+  pub withdrawn : ℕ
+  pub moves : ℕ
+
+-- The number of postings assigned to the concept.
+abbrev pub count_of : PostingCounts → Number → ℕ
+count_of sums concept = slice_index sums.counts concept
+
+-- The counts are those of the histories.
+pub record ArePostingCounts (histories : List History) (sums : PostingCounts) : Type 0 where
+  pub standing : (concept : Number) → count_of sums concept ≡ assigned_count concept histories
+  pub accepted : sums.accepted ≡ accepted_count histories
+  pub withdrawn : sums.withdrawn ≡ withdrawn_count histories
+  pub moves : sums.moves ≡ move_count histories
+
+-- One more posting to the concept, after `steps` moves, keeps all counts below 2 ^ 32.
+pub record HasRoomForPost (concept : Number) (steps : ℕ) (sums : PostingCounts) : Type 0 where
+  pub here : count_of sums concept + 1 < 2 ^ 32
+  pub accepted : sums.accepted + 1 < 2 ^ 32
+  pub moves : sums.moves + steps < 2 ^ 32
+
+-- A posting that can be withdrawn is assigned to the concept.
+pub record HasPostingToWithdraw (concept : Number) (sums : PostingCounts) : Type 0 where
+  pub here : 0 < count_of sums concept
+  pub accepted : sums.withdrawn < sums.accepted
+
+-- At least `moved` postings are assigned to the source, and one move of each to the target keeps all counts below 2 ^
+-- 32.
+pub record HasRoomForMoves (source target : Number) (moved : ℕ) (sums : PostingCounts) : Type 0 where
+  pub standing : moved ≤ count_of sums source
+  pub there : count_of sums target + moved < 2 ^ 32
+  pub moves : sums.moves + moved < 2 ^ 32
+
+-- The counts after one more posting to the concept and `steps` moves.
+pub record CountsAfterPost (concept : Number) (steps : ℕ) (old new : PostingCounts) : Type 0 where
+  pub here : count_of new concept ≡ count_of old concept + 1
+  pub others : (n : Number) → n ≢ concept → count_of new n ≡ count_of old n
+  pub accepted : new.accepted ≡ old.accepted + 1
+  pub withdrawn : new.withdrawn ≡ old.withdrawn
+  pub moves : new.moves ≡ old.moves + steps
+
+-- The counts after a posting assigned to the concept is withdrawn.
+pub record CountsAfterWithdrawal (concept : Number) (old new : PostingCounts) : Type 0 where
+  pub here : count_of old concept ≡ count_of new concept + 1
+  pub others : (n : Number) → n ≢ concept → count_of new n ≡ count_of old n
+  pub accepted : new.accepted ≡ old.accepted
+  pub withdrawn : new.withdrawn ≡ old.withdrawn + 1
+  pub moves : new.moves ≡ old.moves
+
+-- The counts after `moved` postings move from the source to the target, by one move each.
+pub record CountsAfterMoves (source target : Number) (moved : ℕ) (old new : PostingCounts) : Type 0 where
+  pub at_source : count_of old source ≡ count_of new source + moved
+  pub at_target : count_of new target ≡ count_of old target + moved
+  pub others : (n : Number) → n ≢ source → n ≢ target → count_of new n ≡ count_of old n
+  pub accepted : new.accepted ≡ old.accepted
+  pub withdrawn : new.withdrawn ≡ old.withdrawn
+  pub moves : new.moves ≡ old.moves + moved
+
+-- The counts of a tally: no more postings are assigned to a concept, or withdrawn, than were accepted, and there are no
+-- moves.
+pub record AreTallyCounts (sums : PostingCounts) : Type 0 where
+  pub standing : (n : Number) → count_of sums n ≤ sums.accepted
+  pub withdrawn : sums.withdrawn ≤ sums.accepted
+  pub moves : sums.moves ≡ 0
+
+-- The counts after one more posting, which is withdrawn or assigned to the place.
+pub record CountsAfterTally (place : Number) (gone : Bool) (old new : PostingCounts) : Type 0 where
+  pub standing : (n : Number) → count_of new n ≡ count_of old n + cond (not gone && place == n) 1 0
+  pub accepted : new.accepted ≡ old.accepted + 1
+  pub withdrawn : new.withdrawn ≡ old.withdrawn + cond gone 1 0
+  pub moves : new.moves ≡ old.moves

@@ -1,0 +1,112 @@
+-- Proves that a run of the machine leads an office through a script.
+use Rattle.std.proofs.Common.{◌≡◌, ◌∙◌, inl, inr, sym, refl, subst, ℕ, List, [], ◌∷◌, ◌++◌, Option, Result, Ok, Err}
+use Rattle.std.proofs.Common.{arith}
+use Rattle.std.specs.Prelude.{IfOk, IfErr}
+use Rattle.thes_base.specs.declared.data.Limits.{Limits}
+use Rattle.thes_base.specs.declared.fault.Fault.{Fault}
+use Rattle.thes_base.specs.declared.fault.PipeFault.{PipeFault}
+use Rattle.thes_base.specs.declared.request.Answer.{Answer}
+use Rattle.thes_base.specs.declared.request.Command.{Command}
+use Rattle.thes_base.specs.Headline.{IsConsistentState}
+use Rattle.thes_base.specs.State.{State}
+use Rattle.thes_tables.specs.Cells.{Raw}
+use Rattle.thes_office.specs.Office.{FaultBehaviour, TablesAfterRun, OfficeView, SameTables, TablesAfterStep}
+use Rattle.thes_office.specs.TablesOfState.{TablesOfState}
+use Rattle.thes_office.proofs.OfficeViewLemmas.{run_of_one_more, empty_run}
+use Rattle.thes_exchange.specs.declared.answer.Reply.TheVariants as reply
+use Rattle.thes_exchange.specs.declared.serve.LineAnswer.{LineAnswer}
+use Rattle.thes_exchange.specs.declared.serve.LineAnswer.TheVariants.{Reply, View}
+use Rattle.thes_exchange.specs.declared.script.Ended.{Ended}
+use Rattle.thes_exchange.specs.Script.{LineOutcome, Skipped, Unheld, Answered, StepLine, RunLines, Session, Completes}
+use Rattle.thes_exchange.specs.Script.{Stops}
+use Rattle.thes_service.specs.OfficeRequests.{IsReachedByRun, OfficeServes, is_always_open}
+
+module _ {K : Type 0} (rows : K → Raw) (is_up : K → Type 0) (failed : K → ℕ) where
+  -- Before the first line.
+  pub led_start : (office : OfficeView K) → (is_up office.keeper → (base : List ℕ) × (s : State)
+      × TablesOfState (rows office.keeper) base s × IsConsistentState base s) → IsReachedByRun rows is_up failed
+      office office
+  led_start office shows = record {
+    limits = refl;
+    was = λ up. up;
+    later = omega arith;
+    goes_on = λ up. let x = shows up in ([], [], empty_run office.limits (rows office.keeper) x.0 x.1 x.2 x.3);
+  }
+
+  -- A call that leaves the tables as they were.
+  pub led_same : {T : Type 0} (old mid new : OfficeView K) (result : Result T Fault) → IsReachedByRun rows is_up
+      failed old mid → FaultBehaviour rows is_up failed mid new result → SameTables rows is_up mid new
+      → IsReachedByRun rows is_up failed old new
+  led_same old mid new result reached step_reached same = record {
+    limits = step_reached.limits ∙ reached.limits;
+    was = λ up. reached.was (step_reached.was up);
+    later = omega (arith, reached.later, step_reached.later);
+    goes_on = λ up. let x = reached.goes_on (step_reached.was up) in
+        (x.0, x.1, subst (λ (r : Raw). TablesAfterRun old.limits (rows old.keeper) x.0 x.1 r) (sym (same up)) x.2);
+  }
+
+  -- A request that is answered.
+  pub led_step : (old mid new : OfficeView K) (command : Command) (answer : Answer) → IsReachedByRun rows is_up failed
+      old mid → FaultBehaviour rows is_up failed mid new (let x : Result Answer Fault = Ok answer in x)
+      → (is_up new.keeper → TablesAfterStep mid.limits (rows mid.keeper) command answer (rows new.keeper))
+      → IsReachedByRun rows is_up failed old new
+  led_step old mid new command answer reached step_reached steps = record {
+    limits = step_reached.limits ∙ reached.limits;
+    was = λ up. reached.was (step_reached.was up);
+    later = omega (arith, reached.later, step_reached.later);
+    goes_on = λ up. let x = reached.goes_on (step_reached.was up) in
+        let step = subst (λ (l : Limits). TablesAfterStep l (rows mid.keeper) command answer (rows new.keeper))
+        reached.limits (steps up) in (
+          x.0 ++ command ∷ [],
+          x.1 ++ answer ∷ [],
+          run_of_one_more old.limits (rows old.keeper) (rows mid.keeper)
+              (rows new.keeper) x.0 x.1 command answer x.2 step,
+        );
+  }
+
+  pub led_kept : (old mid new : OfficeView K) → IsReachedByRun rows is_up failed old mid → new ≡ mid
+      → IsReachedByRun rows is_up failed old new
+  led_kept old mid new reached same = subst (IsReachedByRun rows is_up failed old) (sym same) reached
+
+  line_reached : (line : List ℕ) (o : LineAnswer) (old mid new : OfficeView K) → OfficeServes rows is_up failed mid
+      line o new → IsReachedByRun rows is_up failed old mid → IsReachedByRun rows is_up failed old new
+  line_reached line (Reply (reply.Answer a)) old mid new (inl p) reached = led_step old mid new p.0 a reached p.2.goes
+      p.2.performed
+  line_reached line (Reply (reply.Answer a)) old mid new (inr p) reached = led_same old mid new _ reached p.3.goes
+      p.3.same
+  line_reached line (Reply (reply.Bad f)) old mid new p reached = led_kept old mid new reached p.1
+  line_reached line (Reply (reply.Fault f)) old mid new (inl p) reached = led_kept old mid new reached p.1
+  line_reached line (Reply (reply.Fault f)) old mid new (inr (inl p)) reached =
+      led_same old mid new _ reached p.2.goes p.2.performed
+  line_reached line (Reply (reply.Fault f)) old mid new (inr (inr p)) reached =
+      led_same old mid new _ reached p.2.goes p.2.same
+  line_reached line (View text) old mid new p reached = led_same old mid new _ reached p.2.goes p.2.same
+
+  step_reached : (line : List ℕ) (f : LineOutcome) (old mid new : OfficeView K)
+      → StepLine (OfficeServes rows is_up failed) mid line f new → IsReachedByRun rows is_up failed old mid
+      → IsReachedByRun rows is_up failed old new
+  step_reached line Skipped old mid new p reached = led_kept old mid new reached p.1
+  step_reached line Unheld old mid new p reached = led_kept old mid new reached p
+  step_reached line (Answered o) old mid new p reached = line_reached line o old mid new p.1 reached
+
+  reached : (lines : List (List ℕ)) (line_outcomes : List LineOutcome) (old mid new : OfficeView K)
+      → RunLines (OfficeServes rows is_up failed) mid lines line_outcomes new → IsReachedByRun rows is_up failed old
+      mid → IsReachedByRun rows is_up failed old new
+  reached [] [] old mid new r so_far = led_kept old mid new so_far r
+  reached [] (f ∷ line_outcomes) old mid new r so_far = absurd r
+  reached (line ∷ more) [] old mid new r so_far = absurd r
+  reached (line ∷ more) (f ∷ line_outcomes) old mid new r so_far = reached more line_outcomes old r.0 new r.2
+      (step_reached line f old mid r.0 r.1 so_far)
+
+  -- A script, whether or not it was stopped.
+  pub script_leads : {R W : Type 0} (remaining : R → Option (List ℕ)) (contents : W → Option (List ℕ))
+      (result : Result Ended PipeFault) (old new : Session R W (OfficeView K))
+      → (is_up old.handler.keeper → (base : List ℕ) × (s : State) × TablesOfState (rows old.handler.keeper) base s
+      × IsConsistentState base s)
+      → IfOk result (Completes remaining contents (OfficeServes rows is_up failed) is_always_open old new)
+      → IfErr result (Stops remaining contents (OfficeServes rows is_up failed) is_always_open old new)
+      → IsReachedByRun rows is_up failed old.handler new.handler
+  script_leads remaining contents (Ok ended) old new shows f g = let l = f.lines in
+      reached _ f.line_outcomes old.handler old.handler new.handler l.run (led_start old.handler shows)
+  script_leads remaining contents (Err fault) old new shows f g = let l = g.lines in
+      reached _ g.line_outcomes old.handler old.handler new.handler l.run (led_start old.handler shows)

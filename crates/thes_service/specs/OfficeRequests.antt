@@ -1,0 +1,46 @@
+-- The effect of requests and queries on an office, and of a whole script.
+use Rattle.std.specs.Prelude.{◌≡◌, ◌≤◌, ℕ, Bool, true, List, Result, Ok, IfOk}
+use Rattle.thes_base.specs.declared.fault.Fault.{Fault}
+use Rattle.thes_base.specs.declared.request.Answer.{Answer}
+use Rattle.thes_base.specs.declared.request.Command.{Command}
+use Rattle.thes_tables.specs.Cells.{Raw}
+use Rattle.thes_office.specs.QueryFrames.{InStateOfTables}
+use Rattle.thes_office.specs.Office.{FaultBehaviour, TablesAfterRun, OfficeView, PerformResult, SameTables}
+use Rattle.thes_exchange.specs.declared.handler.QueryAnswer.{QueryAnswer}
+use Rattle.thes_exchange.specs.declared.request.Query.{Query}
+use Rattle.thes_exchange.specs.Viewing.{IsQueryAnswer}
+use Rattle.thes_exchange.specs.Serving.{Serving, Serves}
+
+-- An office may be called at any time: a stale copy of its tables is reloaded first.
+abbrev pub is_always_open : {K : Type 0} → OfficeView K → Bool
+is_always_open office = true
+
+module _ {K : Type 0} (rows : K → Raw) (is_up : K → Type 0) (failed : K → ℕ) where
+  -- A request is a step of the machine, and the tables show the state after it; a fault leaves them as they were.
+  pub record OfficePerforms (old : OfficeView K) (command : Command) (result : Result Answer Fault)
+      (new : OfficeView K) : Type 0 where
+    pub goes : FaultBehaviour rows is_up failed old new result
+    pub performed : PerformResult rows is_up old command result new
+
+  -- The query is answered by the line of its view, or the refusal, in the state that the tables show; they stay as they
+  -- were.
+  pub record OfficeShows (old : OfficeView K) (query : Query) (result : Result QueryAnswer Fault)
+      (new : OfficeView K) : Type 0 where
+    pub goes : FaultBehaviour rows is_up failed old new result
+    pub same : SameTables rows is_up old new
+    pub viewed : IfOk result (λ v. is_up new.keeper →
+        InStateOfTables (rows new.keeper) (λ s. IsQueryAnswer s query (Ok v)))
+
+  -- A line is answered by a step of the machine, by a view of the state, or by the fault for input that isn't a
+  -- request.
+  abbrev pub OfficeServes : Serving (OfficeView K)
+  OfficeServes = Serves OfficePerforms OfficeShows
+
+  -- A run of the machine leads from the old tables to the new ones. In the state that these show, each posting that
+  -- isn't withdrawn is assigned to exactly one live concept, the counts add up, and the triples meet the conditions.
+  pub record IsReachedByRun (old new : OfficeView K) : Type 0 where
+    pub limits : new.limits ≡ old.limits
+    pub was : is_up new.keeper → is_up old.keeper
+    pub later : failed old.keeper ≤ failed new.keeper
+    pub goes_on : is_up new.keeper → (commands : List Command) × (answers : List Answer)
+        × TablesAfterRun old.limits (rows old.keeper) commands answers (rows new.keeper)

@@ -1,0 +1,334 @@
+-- Proves what an INSERT of one row makes of a table.
+use Rattle.std.proofs.Common.{arith, ◌≡◌, inl, inr, ℕ, ℤ, ◌+ℤ◌, suc, pos, List, [], ◌∷◌, ◌++◌, ◌<◌, ◌+◌, ◌/◌, length}
+use Rattle.std.proofs.Common.{map, filter, fold, slice_get, Bool, cond, false, Option, None, Some, Ok, Err, Result}
+use Rattle.std.proofs.Common.{OnOk, refl, sym, ap, subst, ◌∙◌}
+use Rattle.std.proofs.lemmas.Int.{ints}
+use Rattle.std.specs.Prelude.{IsUtf8}
+use Rattle.sqlite.specs.declared.types.Value.{Value}
+use Rattle.sqlite.specs.declared.types.Value.TheVariants.{Null, Int}
+use Rattle.sqlite.specs.Order.{Row}
+use Rattle.sqlite.specs.Term.{Term}
+use Rattle.sqlite.specs.Command.TheVariants.{Insert}
+use Rattle.sqlite.specs.Source.TheVariants.{Values}
+use Rattle.sqlite.specs.Edit.{edit_of, edited}
+use Rattle.sqlite_rules.specs.Edit.{with_rowid, next_rowid, id_in}
+use Rattle.sqlite_rules.specs.Cast.{cast_row}
+use Rattle.sqlite_rules.specs.Lists.{Has}
+use Rattle.sqlite.specs.Rowids.TheVariants.{Chosen}
+use Rattle.sqlite.specs.Rows.{stamped}
+use Rattle.sqlite.specs.Effect.{value_rows}
+use Rattle.sqlite.specs.Cast.{cast}
+use Rattle.sqlite.specs.Kind.TheVariants.{Integer}
+use Rattle.sqlite.specs.Tree.{put_row}
+use Rattle.sqlite_trees.specs.Tree.{rowid}
+use Rattle.sqlite.specs.Table.{Table}
+use Rattle.sqlite.specs.Listing.{understood}
+use Rattle.sqlite.specs.State.{State, Executes, ExecutesInside}
+use Rattle.sqlite.specs.declared.error.Error.{Error}
+use Rattle.sqlite.proofs.Callers.{statement_of, runs_as}
+use Rattle.sqlite_keyed.proofs.ListLemmas.{filter-map}
+use Rattle.thes_base.specs.declared.data.Resource.{Resource}
+use Rattle.thes_base.specs.declared.data.Link.{Link}
+use Rattle.thes_base.specs.Labels.{Label, label_kind_no}
+use Rattle.thes_base.specs.Links.{link_kind_no}
+use Rattle.thes_tables.specs.declared.rows.HierRow.{HierRow}
+use Rattle.thes_tables.specs.declared.rows.PostingRow.{PostingRow}
+use Rattle.thes_tables.specs.declared.rows.MoveRow.{MoveRow}
+use Rattle.thes_tables.specs.declared.change.Change.{Change}
+use Rattle.thes_tables.specs.declared.change.Change.TheVariants as change
+use Rattle.thes_tables.specs.Tables.{Tables, IsIn}
+use Rattle.thes_tables.specs.Rows.{tables_after_change, ChangeFits}
+use Rattle.thes_sql.specs.TransactionEffects.{AppliesChange}
+use Rattle.thes_tables.specs.Cells.{resource_kind_no, optional_cell, hier_type_no, resource_cells, outside_cells}
+use Rattle.thes_tables.specs.Cells.{posting_cells, move_cells}
+use Rattle.thes_sql.specs.Schema.{resource, outside, label, link, hier, posting, move, store_schema}
+use Rattle.thes_sql.specs.StoredRows.{Keeps, NumbersRiseAbove, AreKeyed, AreHidden, ArePostingsNumbered, hidden_row}
+use Rattle.thes_sql.specs.StoredRows.{values, numbered_from, stored_resource, stored_outside, stored_posting}
+use Rattle.thes_sql.specs.StoredRows.{stored_move, label_values, link_values, hier_values, value_of, IsSpelledOutside}
+use Rattle.thes_sql.specs.StoredRows.{IsSpelledLabel, IsSpelledPosting}
+use Rattle.thes_sql.proofs.StatementTextLemmas.{IsCommandText}
+use Rattle.thes_sql.proofs.StatementTextLemmas as text
+use Rattle.thes_sql.proofs.WriteEffectLemmas.{IsQuietTable, insert_effect, cast_int, cast_null}
+use Rattle.thes_sql.proofs.KeyedRowLemmas.{keyed_push}
+use Rattle.sqlite_trees.proofs.ListLemmas.{all-append}
+use Rattle.thes_sql.proofs.StatementLemmas.{Rewrites, rewrites_as}
+use Rattle.thes_sql.proofs.HeldTableLemmas.{keeps_resource, keeps_outside, keeps_label, keeps_link, keeps_hier}
+use Rattle.thes_sql.proofs.HeldTableLemmas.{keeps_posting, keeps_move}
+
+-- The text with these parameters makes the change in any tables that the database keeps and the change fits.
+abbrev pub Makes : List ℕ → Row → Change → Type 1
+Makes text params c = (old new : State) (t : Tables) (count : ℕ) → Keeps old.now t → ChangeFits c t
+    → Executes text params old new (Ok count) → Keeps new.now (tables_after_change c t)
+
+pub applies_change : (text : List ℕ) (params : Row) (c : Change) → Makes text params c
+    → (old new : State) (r : Result ℕ Error)
+    → ExecutesInside 0 text params old new r → OnOk r (AppliesChange c old new)
+applies_change text params c makes old new (Err e) h = tt
+applies_change text params c makes old new (Ok count) h = record {
+  rows =
+      λ t kept fits. makes old new t count kept fits h.0;
+  inside = h.1.mode;
+  is_open = h.1.is_open;
+}
+
+-- One row is put into the tree, with a new rowid if it has none.
+pub inserts_row : (at : ℕ) (table : Table) (sql : List ℕ) (terms : List Term) (width : ℕ) (params source : Row)
+    (new : List Row → Row)
+    → slice_get store_schema.tables at ≡ Some table → table.is_counted ≡ false → IsQuietTable store_schema table
+    → IsCommandText sql (Insert at (Values terms width))
+    → value_rows (stamped table params) width (length terms / width) terms ≡ source ∷ []
+    → ((rows : List Row) → with_rowid Chosen rows (cast_row table source) ≡ new rows)
+    → (old next : State) (count : ℕ) → old.now.schema ≡ store_schema → Executes sql params old next (Ok count)
+    → Rewrites table.tree (λ tree. tree ≡ put_row (new (old.now.trees table.tree)) (old.now.trees table.tree)) old next
+inserts_row at table sql terms width params source new is_at uncounted quiet is given numbers old next count has h =
+    let db = old.now.trees in
+    let w = runs_as sql params old next store_schema has (Insert at (Values terms width)) is.0 is.1 count h in
+    let it = insert_effect store_schema at table params (statement_of sql (understood store_schema sql)) old next
+    count has
+    is_at quiet (Values terms width) uncounted w in
+    record {
+      schema = it.2;
+      rows = it.3.rows ∙ ap (λ all. edited db (edit_of db table [] Chosen 0 all)) (it.1.1 ∙ given)
+          ∙ ap (λ row. put_row row (db table.tree)) (numbers (db table.tree));
+      others = it.3.tables;
+    }
+
+-- Tables whose rows have their own numbers as rowids.
+
+-- A row with a greater number than all others is appended.
+pub adds_keyed : {X : Type 0} (num : X → ℕ) (stored : X → Row) → ((x : X) → rowid (stored x) ≡ Int (pos (num x)))
+    → (at : ℕ) (table : Table) (sql : List ℕ) (terms : List Term) (width : ℕ) (params : Row) (x : X)
+    → slice_get store_schema.tables at ≡ Some table → table.is_counted ≡ false → IsQuietTable store_schema table
+    → IsCommandText sql (Insert at (Values terms width))
+    → value_rows (stamped table params) width (length terms / width) terms ≡ stored x ∷ []
+    → ((rows : List Row) → with_rowid Chosen rows (cast_row table (stored x)) ≡ stored x)
+    → (old new : State) (xs : List X) (count : ℕ) → old.now.schema ≡ store_schema
+    → AreKeyed stored num xs (old.now.trees table.tree) → 0 < num x → ((y : X) → Has xs y → num y < num x)
+    → Executes sql params old new (Ok count) → Rewrites table.tree (AreKeyed stored num (xs ++ x ∷ [])) old new
+adds_keyed num stored is_num at table sql terms width params x is_at uncounted quiet is given casts old new xs count
+    has held least below h =
+    rewrites_as table.tree old new (λ e. subst (AreKeyed stored num (xs ++ x ∷ [])) (sym e)
+    (keyed_push num stored is_num x xs (old.now.trees table.tree) held least below))
+    (inserts_row at table sql terms width params (stored x) (λ rows. stored x) is_at uncounted quiet is given casts
+    old new
+    count has h)
+
+-- Tables whose rows get rowids from the database.
+
+abbrev next_id : {A : Type 0} → ℕ → List (ℕ × A) → ℕ
+next_id n [] = n
+next_id n (l ∷ ls) = next_id (l.0 + 1) ls
+
+one_more : (n : ℕ) → pos n +ℤ pos 1 ≡ pos (n + 1)
+one_more n = grind (arith, ints)
+
+module _ {A : Type 0} (of : A → List Value) where
+  next_is : (n : ℕ) (ls : List (ℕ × A)) → fold (λ _ r. id_in (rowid r) +ℤ pos 1) (pos n)
+      (map (hidden_row of) ls) ≡ pos (next_id n ls)
+  next_is n [] = refl
+  next_is n (l ∷ ls) = subst (λ z. fold (λ _ r. id_in (rowid r) +ℤ pos 1) z (map (hidden_row of) ls) ≡ pos
+      (next_id (l.0 + 1) ls)) (sym (one_more l.0)) (next_is (l.0 + 1) ls)
+
+  above_next : (a n : ℕ) (ls : List (ℕ × A)) → NumbersRiseAbove (λ (row : ℕ × A). row.0) a ls → a < n → a < next_id n ls
+  above_next a n [] up lt = lt
+  above_next a n (l ∷ ls) up lt = let more = above_next l.0 (l.0 + 1) ls up.1 (omega arith) in let first = up.0 in
+      omega (arith, more, first)
+
+  below_next : (a n : ℕ) (ls : List (ℕ × A)) → NumbersRiseAbove (λ (row : ℕ × A). row.0) a ls → (y : ℕ × A) → Has ls y
+      → y.0 < next_id n ls
+  below_next a n [] up y h = absurd h
+  below_next a n (l ∷ ls) up y (inl e) = subst (λ (z : ℕ × A). z.0 < next_id (l.0 + 1) ls) (sym e)
+      (above_next l.0 (l.0 + 1) ls up.1 (omega arith))
+  below_next a n (l ∷ ls) up y (inr h) = below_next l.0 (l.0 + 1) ls up.1 y h
+
+  shown_push : (ls : List (ℕ × A)) (row : ℕ × A) → map (λ (row : ℕ × A). row.1) (ls ++ row ∷ []) ≡ map (λ (row : ℕ
+      × A). row.1) ls ++ row.1 ∷ []
+  shown_push [] row = refl
+  shown_push (l ∷ ls) row = ap (λ rest. l.1 ∷ rest) (shown_push ls row)
+
+  -- A row put under the next rowid is the last row of the table.
+  pub hidden_push : (x : A) (xs : List A) (tree : List Row) → AreHidden of xs tree
+      → AreHidden of (xs ++ x ∷ []) (put_row (Int (next_rowid tree) ∷ of x) tree)
+  hidden_push x xs tree h =
+      let n = next_id 1 h.given in
+      let is : next_rowid tree ≡ pos n = ap next_rowid h.held.rows ∙ next_is 1 h.given in
+      let held = keyed_push (λ (row : ℕ × A). row.0) (hidden_row of) (λ row. refl) (n, x) h.given tree h.held
+      (above_next 0 1 h.given h.held.rises (omega arith)) (below_next 0 1 h.given h.held.rises) in
+      record {
+        given = h.given ++ (n, x) ∷ [];
+        same = shown_push h.given (n, x) ∙ ap (λ l. l ++ x ∷ []) h.same;
+        held = subst (λ (z : ℤ). AreKeyed (hidden_row of) (λ (row : ℕ × A). row.0) (h.given ++ (n, x) ∷ [])
+            (put_row (Int z ∷ of x) tree)) (sym is) held;
+      }
+
+  -- A row is appended.
+  pub adds_hidden : (at : ℕ) (table : Table) (sql : List ℕ) (terms : List Term) (width : ℕ) (x : A)
+      → slice_get store_schema.tables at ≡ Some table → table.is_counted ≡ false → IsQuietTable store_schema table
+      → IsCommandText sql (Insert at (Values terms width))
+      → value_rows (stamped table (of x)) width (length terms / width) terms ≡ (Null ∷ of x) ∷ []
+      → ((rows : List Row) → with_rowid Chosen rows (cast_row table (Null ∷ of x)) ≡ Int (next_rowid rows) ∷ of x)
+      → (old new : State) (xs : List A) (count : ℕ) → old.now.schema ≡ store_schema
+      → AreHidden of xs (old.now.trees table.tree) → Executes sql (of x) old new (Ok count)
+      → Rewrites table.tree (AreHidden of (xs ++ x ∷ [])) old new
+  adds_hidden at table sql terms width x is_at uncounted quiet is given casts old new xs count has held h =
+      rewrites_as table.tree old new (λ e. subst (AreHidden of (xs ++ x ∷ [])) (sym e)
+      (hidden_push x xs (old.now.trees table.tree) held))
+      (inserts_row at table sql terms width (of x) (Null ∷ of x) (λ rows. Int (next_rowid rows) ∷ of x) is_at
+      uncounted quiet
+      is given casts old new count has h)
+
+  -- Rows that pass a test remain, under their rowids.
+  pub hidden_drop : (q : A → Bool) (xs : List A) (old tree : List Row) (h : AreHidden of xs old)
+      → AreKeyed (hidden_row of) (λ (row : ℕ × A). row.0) (filter (λ (row : ℕ × A). q row.1) h.given) tree
+      → AreHidden of (filter q xs) tree
+  hidden_drop q xs old tree h held = record {
+    given = filter (λ (row : ℕ × A). q row.1) h.given;
+    same = sym (filter-map q (λ (row : ℕ × A). row.1) h.given) ∙ ap (filter q) h.same;
+    held = held;
+  }
+
+-- The tables whose rows have numbers.
+
+pub in_has : {A : Type 0} (xs : List A) (x : A) → Has xs x → IsIn x xs
+in_has [] x h = absurd h
+in_has (y ∷ ys) x (inl e) = inl e
+in_has (y ∷ ys) x (inr h) = inr (in_has ys x h)
+
+numbered_push : {A : Type 0} (n : ℕ) (xs : List A) (x : A) → numbered_from n (xs ++ x ∷ []) ≡ numbered_from n xs ++
+    (n + length xs, x) ∷ []
+numbered_push n [] x = ap (λ m. (m, x) ∷ []) (let e : n ≡ n + 0 = omega arith in e)
+numbered_push n (y ∷ ys) x = ap (λ rest. (n, y) ∷ rest) (numbered_push (n + 1) ys x
+    ∙ ap (λ m. numbered_from (n + 1) ys ++ (m, x) ∷ []) (let e : n + 1 + length ys ≡ n + suc (length ys) =
+    omega arith in e))
+
+numbered_below : {A : Type 0} (n : ℕ) (xs : List A) (y : ℕ × A) → Has (numbered_from n xs) y → y.0 < n + length xs
+numbered_below n [] y h = absurd h
+numbered_below {A} n (x ∷ xs) y (inl e) = let k = ap (λ (z : ℕ × A). z.0) e in omega (arith, k)
+numbered_below n (x ∷ xs) y (inr h) = let k = numbered_below (n + 1) xs y h in omega (arith, k)
+
+postings_push : (first : ℕ) (rows : List PostingRow) (x : PostingRow) → ArePostingsNumbered first rows
+    → x.number ≡ first + length rows → ArePostingsNumbered first (rows ++ x ∷ [])
+postings_push first [] x num e = ((let q = e in omega (arith, q)), tt)
+postings_push first (r ∷ rows) x num e = (num.0, postings_push (first + 1) rows x num.1 (omega (arith, e)))
+
+postings_below : (first : ℕ) (rows : List PostingRow) (y : PostingRow) → ArePostingsNumbered first rows → Has rows y
+    → y.number < first + length rows
+postings_below first [] y num h = absurd h
+postings_below first (r ∷ rows) y num (inl e) = let n = num.0 in let q = ap (λ (z : PostingRow). z.number) e in
+    omega (arith, n, q)
+postings_below first (r ∷ rows) y num (inr h) = let k = postings_below (first + 1) rows y num.1 h in omega (arith, k)
+
+cast_held : (o : Option ℕ) → cast Integer (value_of (optional_cell o)) ≡ value_of (optional_cell o)
+cast_held None = cast_null
+cast_held (Some n) = cast_int (pos n)
+
+-- Column types leave a row of resource as it is.
+pub cast_resource : (row : ℕ × Resource) → cast_row (record resource { tree = 1 })
+    (stored_resource row) ≡ stored_resource row
+cast_resource row = rw (
+  cast_null,
+  cast_int (pos row.0),
+  cast_int (pos (resource_kind_no row.1.kind)),
+  cast_held row.1.scheme,
+  cast_int (pos (cond row.1.live 1 0)),
+  cast_held row.1.replaced,
+) refl
+
+-- The INSERT of a resource makes the change AddResource.
+pub makes_resource : (n : ℕ) (r : Resource) → Makes text.add_resource_text (values (resource_cells n r))
+    (change.AddResource n r)
+makes_resource n r old new t count kept next h =
+    let is : numbered_from 1 t.resource ++ (n, r) ∷ [] ≡ numbered_from 1 (t.resource ++ r ∷ []) =
+    ap (λ m. numbered_from 1 t.resource ++ (m, r) ∷ []) (let e : n ≡ 1 + length t.resource = omega (arith, next) in e)
+    ∙ sym (numbered_push 1 t.resource r) in
+    keeps_resource old new t kept (t.resource ++ r ∷ []) (rewrites_as 1 old new
+    (subst (λ l. AreKeyed stored_resource (λ (row : ℕ × Resource). row.0) l (new.now.trees 1)) is)
+    (adds_keyed (λ (row : ℕ × Resource). row.0) stored_resource (λ row. refl) 1 (record resource { tree = 1 })
+    text.add_resource_text text.add_resource_terms 6 (values (resource_cells n r)) (n, r) refl refl
+    (λ olds news. refl) text.add_resource_is refl (λ rows. ap (with_rowid Chosen rows) (cast_resource (n, r))) old new
+    (numbered_from 1 t.resource) count kept.schema kept.hold.resource (omega (arith, next))
+    (λ y k. let b = numbered_below 1 t.resource y k in omega (arith, b, next)) h))
+
+cast_outside : (row : ℕ × List ℕ) → cast_row (record outside { tree = 2 }) (stored_outside row) ≡ stored_outside row
+cast_outside row = rw (cast_null, cast_int (pos row.0)) refl
+
+-- The INSERT of an outside concept makes the change AddOutside.
+pub makes_outside : (n : ℕ) (iri : List ℕ) → 0 < n → IsUtf8 iri → Makes text.add_outside_text
+    (values (outside_cells (n, iri)))
+    (change.AddOutside n iri)
+makes_outside n iri least spelled old new t count kept below h =
+    keeps_outside old new t kept (t.outside ++ (n, iri) ∷ [])
+    (adds_keyed (λ (row : ℕ × List ℕ). row.0) stored_outside (λ row. refl) 2 (record outside { tree = 2 })
+    text.add_outside_text text.add_outside_terms 3 (values (outside_cells (n, iri))) (n, iri) refl refl
+    (λ olds news. refl)
+    text.add_outside_is refl (λ rows. ap (with_rowid Chosen rows) (cast_outside (n, iri))) old new t.outside count
+    kept.schema kept.hold.outside least (λ y k. below y (in_has t.outside y k)) h)
+    (all-append IsSpelledOutside t.outside ((n, iri) ∷ []) kept.hold.spelled.1.0 (spelled, tt))
+
+pub cast_posting : (p : PostingRow) → cast_row (record posting { tree = 8 }) (stored_posting p) ≡ stored_posting p
+cast_posting p = rw (
+  cast_null,
+  cast_int (pos p.number),
+  cast_int (pos p.first),
+  cast_int (pos p.place),
+  cast_int (pos (cond p.withdrawn 1 0)),
+) refl
+
+-- The INSERT of a posting makes the change AddPosting.
+pub makes_posting : (p : PostingRow) → IsSpelledPosting p
+    → Makes text.add_posting_text (values (posting_cells p)) (change.AddPosting p)
+makes_posting p spelled old new t count kept fits h =
+    let next = fits.0 in
+    keeps_posting old new t kept (t.posting ++ p ∷ [])
+    (adds_keyed (λ (row : PostingRow). row.number) stored_posting (λ row. refl) 5 (record posting { tree = 8 })
+    text.add_posting_text text.add_posting_terms 7 (values (posting_cells p)) p refl refl (λ olds news. refl)
+    text.add_posting_is refl (λ rows. ap (with_rowid Chosen rows) (cast_posting p)) old new t.posting count
+    kept.schema kept.hold.posting (omega (arith, next))
+    (λ y k. let b = postings_below 1 t.posting y kept.hold.numbered k in omega (arith, b, next)) h)
+    (postings_push 1 t.posting p kept.hold.numbered (omega (arith, next)))
+    (all-append IsSpelledPosting t.posting (p ∷ []) kept.hold.spelled.1.1.1 (spelled, tt))
+
+cast_move : (m : MoveRow) → cast_row (record move { tree = 10 }) (stored_move m) ≡ stored_move m
+cast_move m = rw (
+  cast_null,
+  cast_int (pos m.number),
+  cast_int (pos m.posting),
+  cast_int (pos m.source),
+  cast_int (pos m.target),
+) refl
+
+-- The INSERT of a move makes the change AddMove.
+pub makes_move : (m : MoveRow) → 0 < m.number → Makes text.add_move_text (values (move_cells m)) (change.AddMove m)
+makes_move m least old new t count kept below h =
+    keeps_move old new t kept (t.move ++ m ∷ [])
+    (adds_keyed (λ (row : MoveRow). row.number) stored_move (λ row. refl) 6 (record move { tree = 10 })
+    text.add_move_text text.add_move_terms 5 (values (move_cells m)) m refl refl (λ olds news. refl)
+    text.add_move_is refl (λ rows. ap (with_rowid Chosen rows) (cast_move m)) old new t.move count kept.schema
+    kept.hold.move least (λ y k. below y (in_has t.move y k)) h)
+
+-- The tables whose rows have none.
+
+-- The INSERT of a label makes the change AddLabel.
+pub makes_label : (l : Label) → IsSpelledLabel l → Makes text.add_label_text (label_values l) (change.AddLabel l)
+makes_label l spelled old new t count kept fits h = keeps_label old new t kept (t.label ++ l ∷ [])
+    (adds_hidden label_values 3 (record label { tree = 4 }) text.add_label_text text.add_label_terms 5 l refl refl
+    (λ olds news. refl) text.add_label_is refl
+    (λ rows. rw (cast_null, cast_int (pos l.owner), cast_int (pos (label_kind_no l.kind))) refl) old new t.label
+    count kept.schema kept.hold.label h)
+    (all-append IsSpelledLabel t.label (l ∷ []) kept.hold.spelled.1.1.0 (spelled, tt))
+
+-- The INSERT of a link makes the change AddLink.
+pub makes_link : (l : Link) → Makes text.add_link_text (link_values l) (change.AddLink l)
+makes_link l old new t count kept fits h = keeps_link old new t kept (t.link ++ l ∷ [])
+    (adds_hidden link_values 4 (record link { tree = 6 }) text.add_link_text text.add_link_terms 4 l refl refl
+    (λ olds news. refl) text.add_link_is refl
+    (λ rows. rw (cast_null, cast_int (pos (link_kind_no l.kind)), cast_int (pos l.a), cast_int (pos l.b)) refl) old
+    new t.link count kept.schema kept.hold.link h)
+
+-- The INSERT of a hierarchical link makes the change AddHier.
+pub makes_hier : (row : HierRow) → Makes text.add_hier_text (hier_values row) (change.AddHier row)
+makes_hier row old new t count kept fits h = keeps_hier old new t kept (t.hier ++ row ∷ [])
+    (adds_hidden hier_values 7 (record hier { tree = 11 }) text.add_hier_text text.add_hier_terms 4 row refl refl
+    (λ olds news. refl) text.add_hier_is refl
+    (λ rows. rw (cast_null, cast_int (pos row.a), cast_int (pos row.b), cast_int (pos (hier_type_no row.typ))) refl)
+    old new t.hier count kept.schema kept.hold.hier h)

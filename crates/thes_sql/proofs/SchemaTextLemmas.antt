@@ -1,0 +1,484 @@
+-- Proves that the statements of a new store or a migration define its schema.
+use Rattle.std.proofs.Common.{arith, ◌≡◌, ◌≢◌, Option, ℕ, suc, zero, ◌<◌, List, [], ◌∷◌, codes, length, take, drop}
+use Rattle.std.proofs.Common.{slice_get, Some, None, Ok, Err, Result, OnOk, inl, inr, refl, sym, ap, subst, subst₂}
+use Rattle.std.proofs.Common.{◌∙◌, ◌||◌, ◌++◌, true, false, lit<, IsTrue}
+use Rattle.std.specs.List.{AllByRecursion}
+use Rattle.sqlite.specs.Schema.{Schema}
+use Rattle.sqlite.specs.Table.{Table}
+use Rattle.sqlite_schema.specs.declared.schema.Index.{Index}
+use Rattle.sqlite.specs.Command.TheVariants.{CreateTable, CreateIndex}
+use Rattle.sqlite.specs.Compile.{table_defined_by}
+use Rattle.sqlite_resolve.specs.Compile.{index_defined_by}
+use Rattle.sqlite.specs.Change.{created, next_tree}
+use Rattle.sqlite_catalog.specs.Change.{KeepsRows, indexed}
+use Rattle.sqlite.specs.Does.{Tally, Does, Defines, MakesIndex, AtPlace, lacks_sequence}
+use Rattle.sqlite.specs.Tree.{Trees}
+use Rattle.sqlite.specs.declared.error.Error.{Error}
+use Rattle.sqlite_tied.specs.Compute.{everything}
+use Rattle.sqlite.specs.Listing.{understood}
+use Rattle.sqlite.specs.Effect.{Database, alter_error, is_query}
+use Rattle.sqlite.specs.State.{State, mode_of, Runs, RunsCommand, Executes, ExecutesIn, shows_rows, IsUnchanged}
+use Rattle.sqlite.specs.State.{IsNoStatement, ExecutesInside, IsNotRun}
+use Rattle.sqlite.specs.Clock.{timed}
+use Rattle.sqlite.specs.declared.run.Mode.{Mode}
+use Rattle.sqlite.specs.declared.error.Error.TheVariants.{SqlInputError}
+use Rattle.sqlite_resolve.specs.declared.error.CompileError.{CompileError}
+use Rattle.sqlite_catalog.specs.declared.error.Refusal.{Refusal}
+use Rattle.sqlite_catalog.specs.declared.error.Refusal.TheVariants as refusal
+use Rattle.sqlite_catalog.specs.Calls.{RefusesIndex}
+use Rattle.std.proofs.lemmas.Bool.{cases_Bool}
+use Rattle.sqlite.specs.Batch.{first_len, RunInTurn, ExecutesAllInside}
+use Rattle.sqlite.specs.Held.{Held, state}
+use Rattle.sqlite.specs.Command.{Command}
+use Rattle.sqlite_trees.specs.declared.store.Store.{Ghosts}
+use Rattle.sqlite.proofs.Callers.{IsPlain, command_of, statement_of, runs_as}
+use Rattle.sqlite_trees.proofs.ListLemmas.{all-append}
+use Rattle.thes_sql.specs.Schema.{meta, resource, outside, label, link, hier, posting, move, posting_at, move_posting}
+use Rattle.thes_sql.specs.Schema.{schema_0, schema_1, schema_2, schema_3, schema_4, schema_5, schema_6, schema_7}
+use Rattle.thes_sql.specs.Schema.{schema_8, schema_9, store_schema}
+use Rattle.thes_tables.specs.Tables.{Tables}
+use Rattle.thes_sql.specs.StoredRows.{HoldResources, HoldOutside, HoldPostings, HoldMoves, AreHidden, label_values}
+use Rattle.thes_sql.specs.StoredRows.{link_values}
+use Rattle.thes_sql.specs.OldStore.{old_schema, KeepsOld, KeepsAs, IsOldStore, HasEmptyHier}
+use Rattle.thes_sql.specs.TransactionEffects.{IsEmpty, Transforms, TransformsTables, ExtendsSchema}
+use Rattle.thes_sql.specs.TransactionEffects.{RunsOrFailsToCompile}
+use Rattle.thes_sql.proofs.WriteEffectLemmas.{value_unstopped, same_value}
+use Rattle.thes_sql.proofs.ReadFrameLemmas.{no_cause}
+
+-- In this schema the text defines the table.
+abbrev MakesTable : Schema → List ℕ → Table → Type 0
+MakesTable schema text table =
+    (command_of (understood schema text) ≡ CreateTable)
+    × (table_defined_by (statement_of text (understood schema text)) ≡ Ok table) × IsPlain (understood schema text)
+
+-- In this schema the text defines the index of the table at this position.
+abbrev AddsIndex : Schema → List ℕ → ℕ → Table → Index → Type 0
+AddsIndex schema text at table index =
+    (command_of (understood schema text) ≡ CreateIndex at)
+    × (index_defined_by table (statement_of text (understood schema text)) ≡ Ok index)
+    × IsPlain (understood schema text)
+
+abbrev create_meta_text : List ℕ
+create_meta_text =
+    codes "CREATE TABLE meta (one INTEGER PRIMARY KEY, version INTEGER NOT NULL, base TEXT NOT NULL) STRICT;"
+
+create_meta_is : MakesTable schema_0 create_meta_text meta
+unfolding understood everything
+create_meta_is = (refl, refl, (refl, refl))
+
+abbrev create_resource_text : List ℕ
+create_resource_text =
+    codes "CREATE TABLE resource (num INTEGER PRIMARY KEY, kind INTEGER NOT NULL, scheme INTEGER, live INTEGER NOT NULL, replaced INTEGER) STRICT;"
+
+create_resource_is : MakesTable schema_1 create_resource_text resource
+unfolding understood everything
+create_resource_is = (refl, refl, (refl, refl))
+
+abbrev create_outside_text : List ℕ
+create_outside_text = codes "CREATE TABLE outside (num INTEGER PRIMARY KEY, iri TEXT NOT NULL UNIQUE) STRICT;"
+
+create_outside_is : MakesTable schema_2 create_outside_text outside
+unfolding understood everything
+create_outside_is = (refl, refl, (refl, refl))
+
+abbrev create_label_text : List ℕ
+create_label_text =
+    codes "CREATE TABLE label (owner INTEGER NOT NULL, kind INTEGER NOT NULL, tag TEXT NOT NULL, text TEXT NOT NULL, PRIMARY KEY (owner, kind, tag, text)) STRICT;"
+
+create_label_is : MakesTable schema_3 create_label_text label
+unfolding understood everything
+create_label_is = (refl, refl, (refl, refl))
+
+abbrev create_link_text : List ℕ
+create_link_text =
+    codes "CREATE TABLE link (kind INTEGER NOT NULL, a INTEGER NOT NULL, b INTEGER NOT NULL, PRIMARY KEY (kind, a, b)) STRICT;"
+
+create_link_is : MakesTable schema_4 create_link_text link
+unfolding understood everything
+create_link_is = (refl, refl, (refl, refl))
+
+abbrev create_hier_text : List ℕ
+create_hier_text =
+    codes "CREATE TABLE hier (a INTEGER NOT NULL, b INTEGER NOT NULL, typ INTEGER NOT NULL, PRIMARY KEY (a, b, typ)) STRICT;"
+
+create_hier_is : MakesTable schema_7 create_hier_text hier
+unfolding understood everything
+create_hier_is = (refl, refl, (refl, refl))
+
+abbrev create_posting_text : List ℕ
+create_posting_text =
+    codes "CREATE TABLE posting (num INTEGER PRIMARY KEY, pkey TEXT NOT NULL UNIQUE, record TEXT NOT NULL, first_at INTEGER NOT NULL, at INTEGER NOT NULL, withdrawn INTEGER NOT NULL) STRICT;"
+
+create_posting_is : MakesTable schema_5 create_posting_text posting
+unfolding understood everything
+create_posting_is = (refl, refl, (refl, refl))
+
+abbrev create_move_text : List ℕ
+create_move_text =
+    codes "CREATE TABLE move (num INTEGER PRIMARY KEY, posting INTEGER NOT NULL, source INTEGER NOT NULL, target INTEGER NOT NULL) STRICT;"
+
+create_move_is : MakesTable schema_6 create_move_text move
+unfolding understood everything
+create_move_is = (refl, refl, (refl, refl))
+
+abbrev index_posting_at_text : List ℕ
+index_posting_at_text = codes "CREATE INDEX IF NOT EXISTS posting_at ON posting (at)"
+
+index_posting_at_is : AddsIndex schema_8 index_posting_at_text 5 (record posting { tree = 8 }) posting_at
+unfolding understood everything
+index_posting_at_is = (refl, refl, (refl, refl))
+
+abbrev index_move_posting_text : List ℕ
+index_move_posting_text = codes "CREATE INDEX IF NOT EXISTS move_posting ON move (posting)"
+
+index_move_posting_is : AddsIndex schema_9 index_move_posting_text 6 (record move { tree = 10 }) move_posting
+unfolding understood everything
+index_move_posting_is = (refl, refl, (refl, refl))
+
+-- A statement of a batch ran as the command that its text means.
+ran_as : (text : List ℕ) (old new : State) (from : Schema) → old.now.schema ≡ from → (command : Command)
+    → is_query command ≡ false → command_of (understood from text) ≡ command → IsPlain (understood from text)
+    → (count : ℕ) → ExecutesIn true text [] old new (Ok count)
+    → Runs old new None command (statement_of text (understood from text)) [] count
+unfolding ExecutesIn
+ran_as text old new from has command unasked is plain count h =
+    let known = sym h.1.is ∙ ap (λ s. understood s text) has in
+    let bare = subst IsPlain (sym known) plain in
+    let same : h.0.command ≡ command = ap command_of known ∙ is in
+    let hidden : shows_rows true h.0 ≡ false = ap (λ k. is_query k || false) same ∙ rw unasked refl in
+    subst₂ (λ k t. Runs old new None k t [] count) same (ap (statement_of text) known)
+    (rw (bare.0, bare.1) at (rw hidden at h.2))
+
+-- A CREATE TABLE leaves the rows of the other tables as they are, and the new table is empty.
+made_table : (from : Schema) (text : List ℕ) (table : Table) → MakesTable from text table
+    → lacks_sequence (created from table) ≡ false
+    → (old new : State) (count : ℕ) → old.now.schema ≡ from → ExecutesIn true text [] old new (Ok count)
+    → (new.now.schema ≡ created from table) × KeepsRows from.tables old.now.trees new.now.trees
+    × (new.now.trees (next_tree from) ≡ [])
+made_table from text table is uncounted old new count has h =
+    let w = ran_as text old new from has CreateTable refl is.0 is.2 count h in
+    let all = value_unstopped w.changed in
+    let first = value_unstopped all.1 in
+    let made = first.1 in
+    let same : made.table ≡ table = same_value (sym made.defined ∙ is.1) in
+    let schema : first.0.schema ≡ created from table = made.is ∙ ap (λ s. created s made.table) has
+    ∙ ap (created from) same in
+    let plain : lacks_sequence first.0.schema ≡ false = ap lacks_sequence schema ∙ uncounted in
+    let now : new.now ≡ first.0 = ap (λ (p : Tally × Database). p.1) (same_value all.2)
+    ∙ same_value (rw plain at first.2) in
+    let kept : KeepsRows from.tables old.now.trees first.0.trees =
+    subst (λ s. KeepsRows s.tables old.now.trees first.0.trees) has made.others in
+    let last : first.0.trees (next_tree from) ≡ [] = subst (λ s. first.0.trees (next_tree s) ≡ []) has made.empty in
+    subst (λ (d : Database). (d.schema ≡ created from table) × KeepsRows from.tables old.now.trees d.trees
+    × (d.trees (next_tree from) ≡ [])) (sym now) (schema, kept, last)
+
+-- A CREATE INDEX leaves all rows as they are.
+made_index : (from : Schema) (text : List ℕ) (at : ℕ) (table : Table) (index : Index)
+    → AddsIndex from text at table index → slice_get from.tables at ≡ Some table
+    → (old new : State) (count : ℕ) → old.now.schema ≡ from → Executes text [] old new (Ok count)
+    → (new.now.schema ≡ indexed from table index) × KeepsRows from.tables old.now.trees new.now.trees
+made_index from text at table index is is_at old new count has h =
+    let w = runs_as text [] old new from has (CreateIndex at) is.0 is.2 count h in
+    let d1 = subst (λ s. Does old.step_limit (mode_of old) [] (record old.now { schema = s })
+    (statement_of text (understood from text)) None (CreateIndex at) (Ok (w.tally, new.now))) has w.changed in
+    let d2 : Defines (mode_of old) (MakesIndex (statement_of text (understood from text))
+    (record old.now { schema = from }) table) (Ok (w.tally, new.now)) =
+    subst (λ o. AtPlace (λ t. Defines (mode_of old) (MakesIndex (statement_of text (understood from text))
+    (record old.now { schema = from }) t)) o (Ok (w.tally, new.now))) is_at d1 in
+    let all = value_unstopped d2 in
+    let made = all.1 in
+    let same : made.index ≡ index = same_value (sym made.defined ∙ is.1) in
+    let schema : all.0.schema ≡ indexed from table index = made.is ∙ ap (indexed from table) same in
+    let now : new.now ≡ all.0 = ap (λ (p : Tally × Database). p.1) (same_value all.2) in
+    subst (λ (d : Database). (d.schema ≡ indexed from table index) × KeepsRows from.tables old.now.trees d.trees)
+    (sym now) (schema, made.rows)
+
+still_empty : (old next : Trees) (tables : List Table) → KeepsRows tables old next
+    → AllByRecursion (λ (t : Table). old t.tree ≡ []) tables → AllByRecursion (λ (t : Table). next t.tree ≡ []) tables
+still_empty old next [] kept none = tt
+still_empty old next (t ∷ tables) kept none = (kept.0 ∙ none.0, still_empty old next tables kept.1 none.1)
+
+-- If all tables are empty, a new table leaves all tables empty.
+defines_table : (from : Schema) (text : List ℕ) (table : Table) → MakesTable from text table
+    → lacks_sequence (created from table) ≡ false
+    → (old new : State) (count : ℕ) → IsEmpty from old.now → ExecutesIn true text [] old new (Ok count)
+    → IsEmpty (created from table) new.now
+defines_table from text table is uncounted old new count empty h =
+    let made = made_table from text table is uncounted old new count empty.0 h in (
+      made.0,
+      all-append (λ (t : Table). new.now.trees t.tree ≡ [])
+          from.tables (record table { tree = next_tree from } ∷ []) (still_empty _ _ from.tables made.1 empty.1)
+          (made.2, tt),
+    )
+
+-- The statements of a batch, in order.
+
+abbrev texts_6 : List ℕ
+texts_6 = create_move_text
+
+abbrev texts_5 : List ℕ
+texts_5 = create_posting_text ++ texts_6
+
+abbrev texts_4 : List ℕ
+texts_4 = create_link_text ++ texts_5
+
+abbrev texts_3 : List ℕ
+texts_3 = create_label_text ++ texts_4
+
+abbrev texts_2 : List ℕ
+texts_2 = create_outside_text ++ texts_3
+
+abbrev texts_1 : List ℕ
+texts_1 = create_resource_text ++ texts_2
+
+abbrev texts_0 : List ℕ
+texts_0 = create_meta_text ++ texts_1
+
+-- What follows if a batch of statements ran in order.
+module _ {S : Type 0} (g : Ghosts S) (new : Held S) {Goal : Type 0} where
+  -- If the first statement leads from one kind of database to another, the rest of the batch runs there.
+  first_made : (text one rest : List ℕ) (From To : Database → Type 0) (most : ℕ) (old : Held S)
+      → take (first_len text) text ≡ one → drop (first_len text) text ≡ rest → 0 < length text
+      → ((old new : State) (count : ℕ) → From old.now → ExecutesIn true one [] old new (Ok count)
+      → To new.now)
+      → From (state g old).now → RunInTurn g (Some 0) most text old new (Ok tt)
+      → ((mid : Held S) (less : ℕ) → To (state g mid).now → RunInTurn g (Some 0) less rest mid new (Ok tt)
+      → Goal)
+      → Goal
+  first_made [] one rest From To most old is left some makes was h then = absurd (omega (arith, some))
+  first_made (b ∷ text) one rest From To zero old is left some makes was h then = absurd h
+  first_made (b ∷ text) one rest From To (suc most) old is left some makes was (inl stopped) then =
+      absurd (let e = stopped.1 in cc)
+  first_made (b ∷ text) one rest From To (suc most) old is left some makes was (inr ran) then =
+      then ran.0 most
+      (makes (state g old) (state g ran.0) ran.1 was
+      (subst (λ t. ExecutesIn true t [] (state g old) (state g ran.0) (Ok ran.1)) is ran.2.runs))
+      (subst (λ t. RunInTurn g (Some 0) most t ran.0 new (Ok tt)) left ran.3)
+
+-- The indexed table exists, so the text compiles.
+module _ (text : List ℕ) (old new : State) (fault : CompileError) where
+  -- A text that doesn't compile changes nothing.
+  pub refused_unchanged : Executes text [] old new (Err (SqlInputError fault)) → IsUnchanged old new
+  unfolding ExecutesIn IsNotRun
+  refused_unchanged (inl (inl none)) = none.1
+  refused_unchanged (inl (inr fails)) = absurd (no_cause fault fails.0 fails.1)
+  refused_unchanged (inr h) = elim (cases_Bool (shows_rows false h.0)) [
+    | inl shows ↦ (rw shows at h.2).1
+    | inr runs ↦ elim (rw runs at h.2) [ inl refused ↦ refused.1 | inr fails ↦ absurd (no_cause fault fails.0 fails.1) ]
+  ]
+
+  module _ (from : Schema) (at : ℕ) (table : Table) (index : Index) (is : AddsIndex from text at table index)
+      (is_at : slice_get from.tables at ≡ Some table) (has : old.now.schema ≡ from) where
+    no_statement : IsNoStatement old text [] (SqlInputError fault) → ⊥
+    no_statement (inl h) = let k = sym (ap command_of h.1) ∙ ap (λ s. command_of (understood s text)) has ∙ is.0 in cc
+    no_statement (inr h) = elim h.2 [
+      | inl a ↦ let k = a.1 in cc
+      | inr more ↦ elim more [ inl b ↦ let k = b.1 in cc | inr c ↦ let k = c.1 in cc ]
+    ]
+
+    no_alter : (reason : Refusal) → RefusesIndex from old.now.trees table (statement_of text (understood from text))
+        reason
+        → SqlInputError fault ≢ alter_error reason
+    no_alter (refusal.Invalid e) h told = let k = sym h ∙ is.1 in cc
+    no_alter _ h told = cc
+
+    -- A CREATE INDEX on an existing table doesn't fail to compile when it is run.
+    not_made : (mode : Mode) → Does old.step_limit mode [] (record old.now { schema = from })
+        (statement_of text (understood from text)) None (CreateIndex at) (Err (Some (SqlInputError fault))) → ⊥
+    not_made mode d =
+        let it : Defines mode (MakesIndex (statement_of text (understood from text))
+        (record old.now { schema = from }) table)
+        (Err (Some (SqlInputError fault))) =
+        subst (λ o. AtPlace (λ t. Defines mode (MakesIndex (statement_of text (understood from text))
+        (record old.now { schema = from }) t)) o (Err (Some (SqlInputError fault)))) is_at d in
+        elim it [ inl stopped ↦ stops stopped.0 stopped.1 stopped.2 | inr made ↦ let k = made.2 in absurd (cc) ]
+      where
+        stops : (stop : Option Error) → MakesIndex (statement_of text (understood from text))
+            (record old.now { schema = from })
+            table (Err stop) → ◌≡◌ {A = Result (Tally × Database) (Option Error)} (Err (Some (SqlInputError fault)))
+            (Err stop) → ⊥
+        stops None h told = cc
+        stops (Some e) (inl bad) told = let k = bad.1 in cc
+        stops (Some e) (inr bad) told =
+            let same : SqlInputError fault ≡ e = cc in
+            no_alter bad.0 bad.1 (same ∙ bad.2)
+
+    -- A CREATE INDEX on an existing table doesn't fail to compile.
+    pub not_refused : Executes text [] old new (Err (SqlInputError fault)) → ⊥
+    unfolding ExecutesIn IsNotRun
+    not_refused (inl (inl none)) = no_statement none.0
+    not_refused (inl (inr fails)) = no_cause fault fails.0 fails.1
+    not_refused (inr h) =
+        let known = sym h.1.is ∙ ap (λ s. understood s text) has in
+        let bare = subst IsPlain (sym known) is.2 in
+        let same : h.0.command ≡ CreateIndex at = ap command_of known ∙ is.0 in
+        let ran : RunsCommand old new text h.0 (timed [] h.0.formats h.1.now) (Err (SqlInputError fault)) =
+        elim (cases_Bool (shows_rows false h.0)) [
+          | inl shows ↦ absurd (let e = (rw shows at h.2).0 in cc)
+          | inr runs ↦ rw runs at h.2
+        ] in
+        elim ran [
+          | inl refused ↦ elim refused.0 [
+            | inl misplaced ↦ elim misplaced [ inl a ↦ let k = a.0 in cc | inr b ↦ let k = b.0 in cc ]
+            | inr done ↦ not_made (mode_of old)
+                (subst₂ (λ s t. Does old.step_limit (mode_of old) [] (record old.now { schema = s }) t None
+                (CreateIndex at) (Err (Some (SqlInputError fault)))) has (ap (statement_of text) known)
+                (rw (bare.0, bare.1, same) at done.1))
+          ]
+          | inr fails ↦ no_cause fault fails.0 fails.1
+        ]
+
+pub tries_refused : (text : List ℕ) (old new : State) (fault : CompileError)
+    → ExecutesInside 0 text [] old new (Err (SqlInputError fault)) → IsTrue old.in_transaction
+    → RunsOrFailsToCompile text old new
+tries_refused text old new fault (inl h) inside = record {
+  ran = inr (fault, h.0);
+  inside = (refused_unchanged text old new fault h.0).0.mode ∙ inside;
+}
+tries_refused text old new fault (inr h) inside = absurd (let k = h.1 in cc)
+
+-- If the statement compiles, it defines the index.
+index_after_try : (from : Schema) (text : List ℕ) (at : ℕ) (table : Table) (index : Index) → AddsIndex from text
+    at table index
+    → slice_get from.tables at ≡ Some table → (old new : State) → RunsOrFailsToCompile text old new → old.now.schema
+    ≡ from
+    → (new.now.schema ≡ indexed from table index) × KeepsRows from.tables old.now.trees new.now.trees
+index_after_try from text at table index is is_at old new t has = elim t.ran [
+  | inl ran ↦ made_index from text at table index is is_at old new ran.0 has ran.1
+  | inr refused ↦ absurd (not_refused text old new refused.0 from at table index is is_at has refused.1)
+]
+
+keeps_rows_twice : (tables : List Table) (start mid next : Trees) → KeepsRows tables start mid
+    → KeepsRows tables mid next
+    → KeepsRows tables start next
+keeps_rows_twice [] start mid next a b = tt
+keeps_rows_twice (t ∷ tables) start mid next a b = (b.0 ∙ a.0, keeps_rows_twice tables start mid next a.1 b.1)
+
+pub both_indexes : (old mid new : State) → RunsOrFailsToCompile index_posting_at_text old mid
+    → RunsOrFailsToCompile index_move_posting_text mid new
+    → ExtendsSchema schema_8 store_schema [] old new
+both_indexes old mid new first second = record {
+  made = λ has.
+      let one = index_after_try schema_8 index_posting_at_text 5 (record posting { tree = 8 }) posting_at
+      index_posting_at_is refl old mid first has in
+      let two = index_after_try schema_9 index_move_posting_text 6 (record move { tree = 10 }) move_posting
+      index_move_posting_is refl mid new second one.0 in
+      (two.0, keeps_rows_twice schema_8.tables old.now.trees mid.now.trees new.now.trees one.1 two.1, tt);
+  inside = second.inside;
+}
+
+-- Table hier and both indexes together.
+module _ (old mid new : State) (first : ExtendsSchema old_schema schema_8 (11 ∷ []) old mid)
+    (second : ExtendsSchema schema_8 store_schema [] mid new) where
+  -- Hier and the indexes turn an empty store of version 1 into one of version 2.
+  pub newer_empty : Transforms (IsEmpty old_schema) (IsEmpty store_schema) old new
+  newer_empty = record {
+    made = λ empty.
+        let one = first.made empty.0 in
+        let two = second.made one.0 in
+        let none = still_empty old.now.trees mid.now.trees old_schema.tables one.1 empty.1 in (
+          two.0,
+          still_empty mid.now.trees new.now.trees schema_8.tables two.1
+              (all-append (λ (t : Table). mid.now.trees t.tree ≡ []) old_schema.tables (record hier { tree = 11 }
+              ∷ []) none (one.2.0, tt)),
+        );
+    inside = second.inside;
+  }
+
+  -- Hier and the indexes leave the tables of version 1 as they are, and hier is empty.
+  enlarged_rows : (t : Tables) → KeepsOld old.now t → KeepsAs 1 new.now (record t { hier = [] })
+  enlarged_rows t was =
+      let one = first.made was.schema in
+      let two = second.made one.0 in
+      let k = keeps_rows_twice old_schema.tables old.now.trees mid.now.trees new.now.trees one.1 (
+        two.1.0,
+        (
+          two.1.1.0,
+          (two.1.1.1.0, (two.1.1.1.1.0, (two.1.1.1.1.1.0, (two.1.1.1.1.1.1.0, (two.1.1.1.1.1.1.1.0, tt))))),
+        ),
+      ) in
+      let h = was.hold in
+      record {
+        schema = two.0;
+        hold = record {
+          meta = k.0 ∙ h.meta;
+          resource = subst (HoldResources t.resource) (sym k.1.0) h.resource;
+          outside = subst (HoldOutside t.outside) (sym k.1.1.0) h.outside;
+          label = subst (AreHidden label_values t.label) (sym k.1.1.1.0) h.label;
+          link = subst (AreHidden link_values t.link) (sym k.1.1.1.1.0) h.link;
+          posting = subst (HoldPostings t.posting) (sym k.1.1.1.1.1.0) h.posting;
+          numbered = h.numbered;
+          move = subst (HoldMoves t.move) (sym k.1.1.1.1.1.1.0) h.move;
+          spelled = h.spelled;
+        };
+        hier = record { given = []; same = refl; held = record { rises = tt; rows = two.1.1.1.1.1.1.1.1.0 ∙ one.2.0 } };
+      }
+
+  pub newer_enlarged : TransformsTables IsOldStore HasEmptyHier old new
+  newer_enlarged = record { made = enlarged_rows; inside = second.inside }
+
+module _ {S : Type 0} (g : Ghosts S) where
+  -- The first batch defines the seven tables.
+  all_defined : (old new : Held S) → IsEmpty schema_0 (state g old).now
+      → ExecutesAllInside g 0 texts_0 old new (Ok tt) → IsEmpty old_schema (state g new).now
+  unfolding ExecutesAllInside everything
+  all_defined old new empty h =
+      first_made g new texts_0 create_meta_text texts_1 (IsEmpty schema_0) (IsEmpty schema_1) (length texts_0) old
+      refl refl (lit< tt)
+      (defines_table schema_0 create_meta_text meta create_meta_is refl) empty h (λ at_1 most_1 empty_1 more_1.
+      first_made g new texts_1 create_resource_text texts_2 (IsEmpty schema_1) (IsEmpty schema_2) most_1 at_1 refl
+      refl (lit< tt)
+      (defines_table schema_1 create_resource_text resource create_resource_is refl) empty_1 more_1
+      (λ at_2 most_2 empty_2 more_2.
+      first_made g new texts_2 create_outside_text texts_3 (IsEmpty schema_2) (IsEmpty schema_3) most_2 at_2 refl refl
+      (lit< tt)
+      (defines_table schema_2 create_outside_text outside create_outside_is refl) empty_2 more_2
+      (λ at_3 most_3 empty_3 more_3.
+      first_made g new texts_3 create_label_text texts_4 (IsEmpty schema_3) (IsEmpty schema_4) most_3 at_3 refl refl
+      (lit< tt)
+      (defines_table schema_3 create_label_text label create_label_is refl) empty_3 more_3
+      (λ at_4 most_4 empty_4 more_4.
+      first_made g new texts_4 create_link_text texts_5 (IsEmpty schema_4) (IsEmpty schema_5) most_4 at_4 refl refl
+      (lit< tt)
+      (defines_table schema_4 create_link_text link create_link_is refl) empty_4 more_4 (λ at_5 most_5 empty_5 more_5.
+      first_made g new texts_5 create_posting_text texts_6 (IsEmpty schema_5) (IsEmpty schema_6) most_5 at_5 refl refl
+      (lit< tt)
+      (defines_table schema_5 create_posting_text posting create_posting_is refl) empty_5 more_5
+      (λ at_6 most_6 empty_6 more_6.
+      first_made g new texts_6 create_move_text [] (IsEmpty schema_6) (IsEmpty schema_7) most_6 at_6 refl refl (lit< tt)
+      (defines_table schema_6 create_move_text move create_move_is refl) empty_6 more_6 (λ at_7 most_7 empty_7 more_7.
+      subst (λ h. IsEmpty old_schema (state g h).now) (sym more_7.1) empty_7)))))))
+
+  pub does_define : (old new : Held S) (r : Result (Unit {0}) Error) → ExecutesAllInside g 0 texts_0 old new r
+      → OnOk r ((state g new).in_transaction ≡ (state g old).in_transaction) → IsTrue (state g old).in_transaction
+      → OnOk r (Transforms (IsEmpty schema_0) (IsEmpty old_schema) (state g old) (state g new))
+  does_define old new (Err e) h same inside = tt
+  does_define old new (Ok done) h same inside = record {
+    made = λ empty. all_defined old new empty h;
+    inside = same ∙ inside;
+  }
+
+  -- The rows are as before, and hier is empty.
+  abbrev HasHier : Trees → Database → Type 0
+  HasHier start db = (db.schema ≡ schema_8) × KeepsRows schema_7.tables start db.trees × ((db.trees 11 ≡ []) × Unit {0})
+
+  -- The batch that creates hier extends the schema of version 1.
+  gets_hier : (old new : Held S) → ExecutesAllInside g 0 create_hier_text old new (Ok tt) → (state g old).now.schema
+      ≡ old_schema
+      → HasHier (state g old).now.trees (state g new).now
+  unfolding ExecutesAllInside everything
+  gets_hier old new h has =
+      let start = (state g old).now.trees in
+      first_made g new create_hier_text create_hier_text [] (λ db. (db.schema ≡ schema_7) × (db.trees ≡ start))
+      (HasHier start)
+      (length create_hier_text) old refl refl (lit< tt)
+      (λ was is count from ran.
+      let m = made_table schema_7 create_hier_text hier create_hier_is refl was is count from.0 ran in
+      (m.0, subst (λ (db : Trees). KeepsRows schema_7.tables db is.now.trees) from.1 m.1, (m.2, tt)))
+      (has, refl) h (λ mid most was more. subst (λ h. HasHier start (state g h).now) (sym more.1) was)
+
+  pub does_hier : (old new : Held S) (r : Result (Unit {0}) Error) → ExecutesAllInside g 0 create_hier_text old new r
+      → OnOk r ((state g new).in_transaction ≡ (state g old).in_transaction) → IsTrue (state g old).in_transaction
+      → OnOk r (ExtendsSchema old_schema schema_8 (11 ∷ []) (state g old) (state g new))
+  does_hier old new (Err e) h same inside = tt
+  does_hier old new (Ok done) h same inside = record { made = gets_hier old new h; inside = same ∙ inside }

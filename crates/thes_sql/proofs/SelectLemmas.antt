@@ -1,0 +1,344 @@
+-- Proves which rows a SELECT of one table returns.
+use Rattle.std.proofs.Common.{arith, ◌≡◌, ℕ, pos, List, [], ◌∷◌, ◌<◌, ◌≤◌, ◌==◌, ◌&&◌, map, filter, inl, inr}
+use Rattle.std.proofs.Common.{flat_map, codes, Bool, true, false, not, cond, refl, sym, ap, ◌+◌, subst, ◌∙◌, Less}
+use Rattle.std.proofs.Common.{lit<}
+use Rattle.std.proofs.Math.Bool.{and-true}
+use Rattle.std.specs.List.{AllByRecursion, list_all}
+use Rattle.std.specs.List.Sorted.{IsPermutation}
+use Rattle.std.specs.Ordering.{nat_cmp, eq_by_cmp}
+use Rattle.std.specs.Cmp.Lexicographic.{slice_cmp}
+use Rattle.sqlite.specs.declared.types.Value.TheVariants.{Null, Int, Text as Words}
+use Rattle.sqlite.specs.Order.{Row, column, value_cmp}
+use Rattle.sqlite.specs.Term.{Term, lit, col, holds}
+use Rattle.sqlite.specs.Query.{Query, IsAnswer, output, output_cmp, page, Output}
+use Rattle.sqlite_sql.proofs.QueryLemmas.{output_cmp_total}
+use Rattle.sqlite_keyed.proofs.SortLemmas.{sorted_unique}
+use Rattle.sqlite_keyed.proofs.ListLemmas.{map-map}
+use Rattle.sqlite_catalog.proofs.ListFacts.{filter_all}
+use Rattle.sqlite_trees.specs.Tree.{IsAscending, IsTable, rowid}
+use Rattle.sqlite.specs.Program.{overlay}
+use Rattle.sqlite.specs.Tree.{Trees}
+use Rattle.sqlite.specs.Command.TheVariants.{Select}
+use Rattle.sqlite.specs.Listing.{understood, reads_listing}
+use Rattle.sqlite.specs.State.{State, Shown}
+use Rattle.sqlite_tied.specs.Compute.{everything}
+use Rattle.sqlite_value.specs.declared.keys.Collation.TheVariants.{Binary}
+use Rattle.sqlite_value.specs.Keys.{ascending}
+use Rattle.sqlite.proofs.Callers.{IsPlain, command_of, reads_as}
+use Rattle.thes_base.specs.declared.fault.Table.{Table}
+use Rattle.thes_base.specs.declared.fault.Table.TheVariants as table
+use Rattle.thes_base.specs.declared.data.Resource.{Resource}
+use Rattle.thes_tables.specs.declared.cells.Cell.{Cell}
+use Rattle.thes_tables.specs.declared.rows.PostingRow.{PostingRow}
+use Rattle.thes_tables.specs.declared.rows.MoveRow.{MoveRow}
+use Rattle.thes_tables.specs.Tables.{Tables}
+use Rattle.thes_tables.specs.Cells.{resource_rows, resource_cells, outside_cells, label_cells, link_cells, hier_cells}
+use Rattle.thes_tables.specs.Cells.{posting_cells, move_cells, meta_cells, number_cell}
+use Rattle.thes_sql.specs.Schema.{store_schema}
+use Rattle.thes_sql.specs.StoredRows.{Keeps, NumbersRiseAbove, AreKeyed, AreHidden, hidden_row, numbered_from, values}
+use Rattle.thes_sql.specs.StoredRows.{stored_meta, stored_resource, stored_outside, stored_posting, stored_move}
+use Rattle.thes_sql.specs.OldStore.{old_schema, HasVersion, stored_version, version_row}
+use Rattle.thes_tables.specs.declared.cells.Cell.TheVariants as cells
+use Rattle.thes_sql.specs.Reads.{cells_of_table, read_text, cells_with_key, cells_with_number, cells_at_concept}
+use Rattle.thes_sql.specs.Reads.{cells_of_moves, tree_of, places_of, rows_in_trees, IsReadable}
+use Rattle.thes_sql.proofs.StatementTextLemmas.{plain_query, whole_program, equal_terms}
+use Rattle.thes_sql.proofs.KeyedRowLemmas.{int_value_less, rising_filter}
+use Rattle.thes_sql.proofs.StatementLemmas.{staged_rows_pass, no_lets, map_shows}
+use Rattle.thes_sql.proofs.WhereLemmas.{by_number, by_place, same_ints, same_words}
+
+-- A query of one table, ordered by rowid.
+abbrev pub ordered_query : ℕ → List Term → List Term → Query
+ordered_query tree filters project = plain_query tree filters project ((col 1 0, ascending Binary) ∷ [])
+
+-- In the schema of a store the text is this query, with no inputs but its parameters.
+abbrev pub IsQueryText : List ℕ → Query → Type 0
+IsQueryText text q = (names : List (List ℕ))
+    × (command_of (understood store_schema text) ≡ Select (whole_program q) names)
+    × (reads_listing store_schema text ≡ false) × IsPlain (understood store_schema text)
+
+module _ {X : Type 0} (num : X → ℕ) (stored : X → Row) (cells : X → List Cell) (tree : ℕ) (project : List Term)
+    (params : Row) (filters : List Term) (p : X → Bool)
+    (test : (x : X) → list_all (holds (params ∷ stored x ∷ [])) filters ≡ p x)
+    (shows : (x : X) → output (ordered_query tree filters project) (params ∷ stored x ∷ []) ≡
+    (Int (pos (num x)) ∷ [], values (cells x))) where
+  abbrev query : Query
+  query = ordered_query tree filters project
+
+  abbrev out_of : X → Output
+  out_of x = (Int (pos (num x)) ∷ [], values (cells x))
+
+  output_before_later : (a : ℕ) (x : X) (xs : List X) → num x ≤ a → NumbersRiseAbove num a xs
+      → AllByRecursion (λ b. output_cmp query (out_of x) b ≡ Less) (map out_of xs)
+  output_before_later a x [] le up = tt
+  output_before_later a x (y ∷ ys) le up =
+      let lt = up.0 in
+      let below : num x < num y = omega (arith, le, lt) in
+      (rw (int_value_less (num x) (num y) below) refl, output_before_later (num y) x ys (omega (arith, below)) up.1)
+
+  outputs_ascend : (a : ℕ) (xs : List X) → NumbersRiseAbove num a xs
+      → IsAscending (λ a b. output_cmp query a b ≡ Less) (map out_of xs)
+  outputs_ascend a [] up = tt
+  outputs_ascend a (x ∷ xs) up = (output_before_later (num x) x xs (omega arith) up.1, outputs_ascend (num x) xs up.1)
+
+  -- Exactly the rows that pass, in ascending order.
+  pub answer_rows : (db : Trees) (xs : List X) (out : List Row) → AreKeyed stored num xs (db tree)
+      → IsAnswer query (overlay db []) params out → out ≡ map values (map cells (filter p xs))
+  answer_rows db xs out held a =
+      let outputs : a.kept ≡ map out_of (filter p xs) = a.distinct ∙ ap (map (output query)) (a.grouped
+      ∙ ap (flat_map (λ r. cond (list_all (holds (params ∷ r ∷ [])) filters) ((params ∷ r ∷ []) ∷ []) []))
+      (no_lets db tree ∙ held.rows) ∙ staged_rows_pass stored params filters p test xs)
+      ∙ map_shows (output query) (λ x. params ∷ stored x ∷ []) out_of shows (filter p xs) in
+      let ordered : a.ordered ≡ map out_of (filter p xs) =
+      sorted_unique (output_cmp query) (output_cmp_total query) _ a.ordered
+      (outputs_ascend 0 (filter p xs) (rising_filter num p 0 xs held.rises))
+      (subst (λ k. IsPermutation k a.ordered) outputs a.same) a.sorted in
+      a.shown ∙ ap (λ os. page query params (map (λ (o : Output). o.1) os)) ordered
+      ∙ map-map (λ (o : Output). o.1) out_of (filter p xs) ∙ sym (map-map values cells (filter p xs))
+
+  pub query_rows : (text : List ℕ) → IsQueryText text query → (old new : State) (xs : List X) (out : List Row)
+      → old.now.schema ≡ store_schema → AreKeyed stored num xs (old.now.trees tree) → Shown text params old new out
+      → out ≡ map values (map cells (filter p xs))
+  query_rows text is old new xs out has held h =
+      let read = reads_as text params old new store_schema has (Select (whole_program query) is.0) is.1 is.3 is.2 out
+      h in
+      answer_rows old.now.trees xs out held (read.answer Null)
+
+-- All rows of a table.
+module _ {X : Type 0} (num : X → ℕ) (stored : X → Row) (cells : X → List Cell) (tree : ℕ) (project : List Term)
+    (shows : (x : X) → output (ordered_query tree [] project) ([] ∷ stored x ∷ []) ≡
+    (Int (pos (num x)) ∷ [], values (cells x))) where
+  pub all_query_rows : (text : List ℕ) → IsQueryText text (ordered_query tree [] project)
+      → (old new : State) (xs : List X)
+      (out : List Row) → old.now.schema ≡ store_schema → AreKeyed stored num xs (old.now.trees tree)
+      → Shown text [] old new out → out ≡ map values (map cells xs)
+  all_query_rows text is old new xs out has held h = query_rows num stored cells tree project [] [] (λ x. true)
+      (λ x. refl) shows
+      text is old new xs out has held h
+      ∙ ap (λ l. map values (map cells l)) (filter_all (λ x. true) xs (λ x k. refl))
+
+numbered_rows : (n : ℕ) (rs : List Resource) → map (λ (row : ℕ × Resource). resource_cells row.0 row.1)
+    (numbered_from n rs) ≡ resource_rows n rs
+numbered_rows n [] = refl
+numbered_rows n (r ∷ rs) = ap (λ l. resource_cells n r ∷ l) (numbered_rows (n + 1) rs)
+
+-- All rows of a table without numbers of its own, in insertion order.
+hidden_all : {A : Type 0} (cells : A → List Cell) (tree : ℕ) (project : List Term)
+    → ((row : ℕ × A) → output (ordered_query tree [] project) ([] ∷ hidden_row (λ x. values (cells x)) row ∷ []) ≡
+    (Int (pos row.0) ∷ [], values (cells row.1)))
+    → (text : List ℕ) → IsQueryText text (ordered_query tree [] project) → (old new : State) (xs : List A)
+    (out : List Row)
+    → old.now.schema ≡ store_schema → AreHidden (λ x. values (cells x)) xs (old.now.trees tree)
+    → Shown text [] old new out → out ≡ map values (map cells xs)
+hidden_all {A} cells tree project shows text is old new xs out has held h =
+    all_query_rows (λ (row : ℕ × A). row.0) (hidden_row (λ x. values (cells x))) (λ row. cells row.1) tree project
+    shows text
+    is old new held.given out has held.held h
+    ∙ ap (map values) (sym (map-map cells (λ (row : ℕ × A). row.1) held.given) ∙ ap (map cells) held.same)
+
+abbrev posting_columns : List Term
+posting_columns = col 1 0 ∷ col 1 2 ∷ col 1 3 ∷ col 1 4 ∷ col 1 5 ∷ col 1 6 ∷ []
+
+abbrev move_columns : List Term
+move_columns = col 1 0 ∷ col 1 2 ∷ col 1 3 ∷ col 1 4 ∷ []
+
+-- The columns of each table.
+abbrev columns_of : Table → List Term
+columns_of table.Meta = col 1 0 ∷ col 1 2 ∷ col 1 3 ∷ []
+columns_of table.Resource = col 1 0 ∷ col 1 2 ∷ col 1 3 ∷ col 1 4 ∷ col 1 5 ∷ []
+columns_of table.Outside = col 1 0 ∷ col 1 2 ∷ []
+columns_of table.Label = col 1 1 ∷ col 1 2 ∷ col 1 3 ∷ col 1 4 ∷ []
+columns_of table.Link = col 1 1 ∷ col 1 2 ∷ col 1 3 ∷ []
+columns_of table.Hier = col 1 1 ∷ col 1 2 ∷ col 1 3 ∷ []
+columns_of table.Posting = posting_columns
+columns_of table.Move = move_columns
+
+pub table_query_text : (p : Table) → IsQueryText (read_text p) (ordered_query (tree_of p) [] (columns_of p))
+unfolding understood everything
+table_query_text table.Meta = (_, refl, refl, (refl, refl))
+table_query_text p = (_, refl, refl, (refl, refl))
+
+-- The query for a table returns its rows, in order.
+pub table_shown : (p : Table) (old new : State) (t : Tables) (out : List Row) → Keeps old.now t
+    → Shown (read_text p) [] old new out → out ≡ map values (cells_of_table p t)
+table_shown table.Meta old new t out kept h = all_query_rows (λ (base : List ℕ). 1) stored_meta meta_cells 0
+    (columns_of table.Meta) (λ base. refl) (read_text table.Meta) (table_query_text table.Meta) old new (t.base ∷ [])
+    out
+    kept.schema (record { rises = (lit< tt, tt); rows = kept.hold.meta }) h
+table_shown table.Resource old new t out kept h = all_query_rows (λ (row : ℕ × Resource). row.0) stored_resource
+    (λ row. resource_cells row.0 row.1) 1 (columns_of table.Resource) (λ row. refl) (read_text table.Resource)
+    (table_query_text table.Resource) old new (numbered_from 1 t.resource) out kept.schema kept.hold.resource h
+    ∙ ap (map values) (numbered_rows 1 t.resource)
+table_shown table.Outside old new t out kept h = all_query_rows (λ (row : ℕ × List ℕ). row.0) stored_outside
+    outside_cells 2
+    (columns_of table.Outside) (λ row. refl) (read_text table.Outside) (table_query_text table.Outside) old new
+    t.outside out
+    kept.schema kept.hold.outside h
+table_shown table.Label old new t out kept h = hidden_all label_cells 4 (columns_of table.Label) (λ row. refl)
+    (read_text table.Label) (table_query_text table.Label) old new t.label out kept.schema kept.hold.label h
+table_shown table.Link old new t out kept h = hidden_all link_cells 6 (columns_of table.Link) (λ row. refl)
+    (read_text table.Link) (table_query_text table.Link) old new t.link out kept.schema kept.hold.link h
+table_shown table.Hier old new t out kept h = hidden_all hier_cells 11 (columns_of table.Hier) (λ row. refl)
+    (read_text table.Hier) (table_query_text table.Hier) old new t.hier out kept.schema kept.hold.hier h
+table_shown table.Posting old new t out kept h = all_query_rows (λ (row : PostingRow). row.number) stored_posting
+    posting_cells 8 (columns_of table.Posting) (λ row. refl) (read_text table.Posting)
+    (table_query_text table.Posting) old new
+    t.posting out kept.schema kept.hold.posting h
+table_shown table.Move old new t out kept h = all_query_rows (λ (row : MoveRow). row.number) stored_move move_cells 10
+    (columns_of table.Move) (λ row. refl) (read_text table.Move) (table_query_text table.Move) old new t.move out
+    kept.schema
+    kept.hold.move h
+
+-- Tables that may hold anything.
+
+module _ (tree : ℕ) (project : List Term) (of : Row → Row)
+    (shows : (row : Row) → output (ordered_query tree [] project) ([] ∷ row ∷ []) ≡ (rowid row ∷ [], of row)) where
+  abbrev table_query : Query
+  table_query = ordered_query tree [] project
+
+  abbrev row_out : Row → Output
+  row_out row = (rowid row ∷ [], of row)
+
+  rows_later : (row : Row) (rows : List Row) → AllByRecursion (λ r. value_cmp (rowid row) (rowid r) ≡ Less) rows
+      → AllByRecursion (λ b. output_cmp table_query (row_out row) b ≡ Less) (map row_out rows)
+  rows_later row [] all = tt
+  rows_later row (r ∷ rows) all = (let lt = all.0 in rw lt refl, rows_later row rows all.1)
+
+  rows_strict : (rows : List Row) → IsTable rows
+      → IsAscending (λ a b. output_cmp table_query a b ≡ Less) (map row_out rows)
+  rows_strict [] up = tt
+  rows_strict (row ∷ rows) up = (rows_later row rows up.0, rows_strict rows up.1)
+
+  -- A query without a filter returns the columns of all rows.
+  pub rows_read : (text : List ℕ) → IsQueryText text table_query → (old new : State) (out : List Row)
+      → old.now.schema ≡ store_schema → IsTable (old.now.trees tree) → Shown text [] old new out
+      → out ≡ map of (old.now.trees tree)
+  rows_read text is old new out has up h =
+      let rows = old.now.trees tree in
+      let read = reads_as text [] old new store_schema has (Select (whole_program table_query) is.0) is.1 is.3 is.2
+      out h in
+      let a : IsAnswer table_query (overlay old.now.trees []) [] out = read.answer Null in
+      let outputs : a.kept ≡ map row_out rows = a.distinct ∙ ap (map (output table_query)) (a.grouped
+      ∙ ap (flat_map (λ r. cond (list_all (holds ([] ∷ r ∷ [])) []) (([] ∷ r ∷ []) ∷ []) []))
+      (no_lets old.now.trees tree) ∙ each rows) ∙ map_shows (output table_query) (λ row. [] ∷ row ∷ []) row_out shows
+      rows in
+      let ordered : a.ordered ≡ map row_out rows =
+      sorted_unique (output_cmp table_query) (output_cmp_total table_query) _ a.ordered (rows_strict rows up)
+      (subst (λ k. IsPermutation k a.ordered) outputs a.same) a.sorted in
+      a.shown ∙ ap (λ os. page table_query [] (map (λ (o : Output). o.1) os)) ordered
+      ∙ map-map (λ (o : Output). o.1) row_out rows
+    where
+      each : (rs : List Row) → flat_map (λ (r : Row). ([] ∷ r ∷ []) ∷ []) rs ≡ map (λ r. [] ∷ r ∷ []) rs
+      each [] = refl
+      each (r ∷ rs) = ap (λ l. ([] ∷ r ∷ []) ∷ l) (each rs)
+
+pub whatever_shown : (p : Table) (old new : State) (out : List Row) → IsReadable old.now
+    → Shown (read_text p) [] old new out → out ≡ rows_in_trees p old.now.trees
+whatever_shown table.Meta old new out is h = rows_read (tree_of table.Meta) (columns_of table.Meta)
+    (λ row. map (column row) (places_of table.Meta)) (λ row. refl) (read_text table.Meta)
+    (table_query_text table.Meta) old new
+    out is.schema (is.ordered table.Meta) h
+whatever_shown p old new out is h = rows_read (tree_of p) (columns_of p) (λ row. map (column row) (places_of p))
+    (λ row. refl) (read_text p) (table_query_text p) old new out is.schema (is.ordered p) h
+
+-- Look-ups.
+
+abbrev pub keyed_text : List ℕ
+keyed_text = codes "SELECT num, pkey, record, first_at, at, withdrawn FROM posting WHERE pkey = ?1 ORDER BY num"
+
+pub keyed_is : IsQueryText keyed_text (ordered_query 8 (equal_terms (col 1 2) (col 0 0) ∷ []) posting_columns)
+unfolding understood everything
+keyed_is = (_, refl, refl, (refl, refl))
+
+abbrev pub numbered_text : List ℕ
+numbered_text = codes "SELECT num, pkey, record, first_at, at, withdrawn FROM posting WHERE num = ?1 ORDER BY num"
+
+pub numbered_is : IsQueryText numbered_text (ordered_query 8 (equal_terms (col 1 0) (col 0 0) ∷ []) posting_columns)
+unfolding understood everything
+numbered_is = (_, refl, refl, (refl, refl))
+
+abbrev pub standing_text : List ℕ
+standing_text =
+    codes "SELECT num, pkey, record, first_at, at, withdrawn FROM posting WHERE at = ?1 AND withdrawn = 0 ORDER BY num"
+
+pub standing_is : IsQueryText standing_text (ordered_query 8
+    (equal_terms (col 1 5) (col 0 0) ∷ equal_terms (col 1 6) (lit (Int (pos 0))) ∷ []) posting_columns)
+unfolding understood everything
+standing_is = (_, refl, refl, (refl, refl))
+
+abbrev pub moving_text : List ℕ
+moving_text = codes "SELECT num, posting, source, target FROM move WHERE posting = ?1 ORDER BY num"
+
+pub moving_is : IsQueryText moving_text (ordered_query 10 (equal_terms (col 1 2) (col 0 0) ∷ []) move_columns)
+unfolding understood everything
+moving_is = (_, refl, refl, (refl, refl))
+
+-- The rows of posting that pass a test.
+postings_shown : (text : List ℕ) (params : Row) (filters : List Term) (p : PostingRow → Bool)
+    → ((x : PostingRow) → list_all (holds (params ∷ stored_posting x ∷ [])) filters ≡ p x)
+    → IsQueryText text (ordered_query 8 filters posting_columns)
+    → (old new : State) (t : Tables) (out : List Row) → Keeps old.now t → Shown text params old new out
+    → out ≡ map values (map posting_cells (filter p t.posting))
+postings_shown text params filters p test is old new t out kept h = query_rows (λ (row : PostingRow). row.number)
+    stored_posting posting_cells 8 posting_columns params filters p test (λ row. refl) text is old new t.posting out
+    kept.schema kept.hold.posting h
+
+pub keyed_shown : (key : List ℕ) (old new : State) (t : Tables) (out : List Row) → Keeps old.now t
+    → Shown keyed_text (Words key ∷ []) old new out → out ≡ map values (cells_with_key key t)
+keyed_shown key = postings_shown keyed_text (Words key ∷ []) (equal_terms (col 1 2) (col 0 0) ∷ [])
+    (λ x. eq_by_cmp (slice_cmp nat_cmp) x.key key) (λ x. and-true _ ∙ same_words x.key key) keyed_is
+
+pub numbered_shown : (n : ℕ) (old new : State) (t : Tables) (out : List Row) → Keeps old.now t
+    → Shown numbered_text (Int (pos n) ∷ []) old new out → out ≡ map values (cells_with_number n t)
+numbered_shown n = postings_shown numbered_text (Int (pos n) ∷ []) (equal_terms (col 1 0) (col 0 0) ∷ [])
+    (λ x. x.number == n) (by_number [] n) numbered_is
+
+pub standing_shown : (concept : ℕ) (old new : State) (t : Tables) (out : List Row) → Keeps old.now t
+    → Shown standing_text (Int (pos concept) ∷ []) old new out → out ≡ map values (cells_at_concept concept t)
+standing_shown concept = postings_shown standing_text (Int (pos concept) ∷ [])
+    (equal_terms (col 1 5) (col 0 0) ∷ equal_terms (col 1 6) (lit (Int (pos 0))) ∷ [])
+    (λ x. not x.withdrawn && x.place == concept) (by_place [] concept) standing_is
+
+pub moving_shown : (n : ℕ) (old new : State) (t : Tables) (out : List Row) → Keeps old.now t
+    → Shown moving_text (Int (pos n) ∷ []) old new out → out ≡ map values (cells_of_moves n t)
+moving_shown n old new t out kept h = query_rows (λ (row : MoveRow). row.number) stored_move move_cells 10 move_columns
+    (Int (pos n) ∷ []) (equal_terms (col 1 2) (col 0 0) ∷ []) (λ x. x.posting == n)
+    (λ x. and-true _ ∙ same_ints x.posting n)
+    (λ row. refl) moving_text moving_is old new t.move out kept.schema kept.hold.move h
+
+-- The row of meta in a store of version 1 or version 2.
+
+abbrev pub meta_text : List ℕ
+meta_text = read_text table.Meta
+
+abbrev version_cells : ℕ × List ℕ → List Cell
+version_cells x = number_cell 1 ∷ number_cell x.0 ∷ cells.Text x.1 ∷ []
+
+pub old_meta_query_text : (names : List (List ℕ))
+    × (command_of (understood old_schema meta_text)
+    ≡ Select (whole_program (ordered_query 0 [] (columns_of table.Meta))) names)
+    × (reads_listing old_schema meta_text ≡ false) × IsPlain (understood old_schema meta_text)
+unfolding understood everything
+old_meta_query_text = (_, refl, refl, (refl, refl))
+
+version_in_turn : (version : ℕ) (base : List ℕ) (db : Trees) (out : List Row) → db 0 ≡ stored_version version base ∷ []
+    → IsAnswer (ordered_query 0 [] (columns_of table.Meta)) (overlay db []) [] out → out ≡ version_row version base ∷ []
+version_in_turn version base db out is a =
+    answer_rows (λ (x : ℕ × List ℕ). 1) (λ (x : ℕ × List ℕ). stored_version x.0 x.1)
+    version_cells 0 (columns_of table.Meta) [] [] (λ x. true) (λ x. refl) (λ x. refl) db ((version, base) ∷ []) out
+    (record { rises = (lit< tt, tt); rows = is }) a
+
+-- The query for meta returns its row.
+pub version_shown : (version : ℕ) (base : List ℕ) (old new : State) (out : List Row) → HasVersion version base old.now
+    → Shown meta_text [] old new out → out ≡ version_row version base ∷ []
+version_shown version base old new out (inl has, is) h =
+    let asks = table_query_text table.Meta in
+    let read = reads_as meta_text [] old new store_schema has
+    (Select (whole_program (ordered_query 0 [] (columns_of table.Meta))) asks.0)
+    asks.1 asks.3 asks.2 out h in
+    version_in_turn version base old.now.trees out is (read.answer Null)
+version_shown version base old new out (inr has, is) h =
+    let asks = old_meta_query_text in
+    let read = reads_as meta_text [] old new old_schema has
+    (Select (whole_program (ordered_query 0 [] (columns_of table.Meta))) asks.0)
+    asks.1 asks.3 asks.2 out h in
+    version_in_turn version base old.now.trees out is (read.answer Null)

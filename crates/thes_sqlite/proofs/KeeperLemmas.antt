@@ -1,0 +1,288 @@
+-- Proves that each call of a `SqlKeeper` keeps its invariant, and what a commit makes of its rows.
+use Rattle.std.proofs.Common.{arith, inl, inr, ◌≡◌, ℕ, ◌+◌, List, [], ◌∷◌, map, Bool, Option, None, Some, Result}
+use Rattle.std.proofs.Common.{refl, sym, ap, subst, ◌∙◌, IsTrue}
+use Rattle.std.specs.Prelude.{IsUtf8}
+use Rattle.std.specs.List.{AllByRecursion}
+use Rattle.sqlite.specs.Order.{Row, column}
+use Rattle.sqlite.specs.declared.types.Value.{Value}
+use Rattle.sqlite.specs.Tree.{Trees}
+use Rattle.sqlite.specs.Effect.{Database}
+use Rattle.sqlite.specs.State.{State, HasCleanDisk, Survives}
+use Rattle.sqlite.specs.Held.{Held, state}
+use Rattle.sqlite.specs.declared.error.Error.{Error}
+use Rattle.sqlite_trees.specs.Tree.{IsTable}
+use Rattle.sqlite_trees.specs.declared.store.Store.{Ghosts}
+use Rattle.thes_base.specs.declared.fault.Table.{Table}
+use Rattle.thes_base.specs.declared.fault.Table.TheVariants as table
+use Rattle.thes_base.specs.declared.data.Resource.{Resource}
+use Rattle.thes_base.specs.Labels.{Label, label_kind_no}
+use Rattle.thes_tables.specs.declared.cells.Cell.{Cell}
+use Rattle.thes_tables.specs.declared.change.Change.{Change}
+use Rattle.thes_tables.specs.declared.rows.PostingRow.{PostingRow}
+use Rattle.thes_tables.specs.declared.rows.MoveRow.{MoveRow}
+use Rattle.thes_tables.specs.Tables.{Tables}
+use Rattle.thes_tables.specs.Rows.{DeltaFits, tables_after_delta}
+use Rattle.thes_tables.specs.Cells.{cells_of_tables, number_cell, flag_cell, resource_kind_no, optional_cell}
+use Rattle.thes_tables.specs.Cells.{resource_rows, meta_cells, outside_cells, label_cells, link_cells, hier_cells}
+use Rattle.thes_tables.specs.Cells.{posting_cells, move_cells}
+use Rattle.thes_tables.proofs.CellLemmas.{listed_one}
+use Rattle.thes_sql.specs.StoredRows.{Keeps, Hold, AreHidden, hidden_row, value_of, numbered_from, stored_resource}
+use Rattle.thes_sql.specs.StoredRows.{stored_outside, stored_posting, stored_move, label_values, link_values}
+use Rattle.thes_sql.specs.StoredRows.{hier_values, stored_meta, IsSpelledOutside, IsSpelledLabel, IsSpelledPosting}
+use Rattle.thes_sql.specs.TransactionEffects.{IsOwnTransaction}
+use Rattle.thes_sql.specs.Reads.{tree_of, places_of, IsReadable, LeavesTables}
+use Rattle.thes_sql.proofs.KeyedRowLemmas.{is_table}
+use Rattle.thes_sqlite.specs.KeeperView.{raw_in, raw_of_keeper, KeeperView, IsServing, IsUp, IsServed, IsStore}
+use Rattle.thes_sqlite.specs.KeeperView.{IsKeeperState, RawAfterChanges, LeavesEither, LeavesAfter}
+use Rattle.thes_sqlite.specs.ValueCells.{cell_of}
+use Rattle.thes_sqlite.proofs.ValueLemmas.{text_cell}
+
+-- The cells read from trees that hold tables are the cells of these tables.
+
+abbrev tree_columns : List ℕ → List Row → List (List Cell)
+tree_columns places rows = map (map cell_of) (map (λ (row : Row). map (column row) places) rows)
+
+optional_back : (o : Option ℕ) → cell_of (value_of (optional_cell o)) ≡ optional_cell o
+optional_back None = refl
+optional_back (Some n) = refl
+
+resources_back : (n : ℕ) (rs : List Resource) → tree_columns (places_of table.Resource)
+    (map stored_resource (numbered_from n rs))
+    ≡ resource_rows n rs
+resources_back n [] = refl
+resources_back n (r ∷ rs) = λ i. (number_cell n ∷ number_cell (resource_kind_no r.kind) ∷ optional_back r.scheme i
+    ∷ flag_cell r.live ∷ optional_back r.replaced i ∷ []) ∷ resources_back (n + 1) rs i
+
+all_trivial : {A : Type 0} (xs : List A) → AllByRecursion (λ x. Unit {0}) xs
+all_trivial [] = tt
+all_trivial (x ∷ xs) = (tt, all_trivial xs)
+
+map_back : {A : Type 0} (places : List ℕ) (stored : A → Row) (cells : A → List Cell) (P : A → Type 0)
+    → ((x : A) → P x → map cell_of (map (column (stored x)) places) ≡ cells x)
+    → (xs : List A) → AllByRecursion P xs → tree_columns places (map stored xs) ≡ map cells xs
+map_back places stored cells P is [] all = refl
+map_back places stored cells P is (x ∷ xs) all = λ i. is x all.0 i ∷ map_back places stored cells P is xs all.1 i
+
+hidden_back : {A : Type 0} (places : List ℕ) (of : A → List Value) (cells : A → List Cell) (P : A → Type 0)
+    → ((x : ℕ × A) → P x.1 → map cell_of (map (column (hidden_row of x)) places) ≡ cells x.1)
+    → (xs : List (ℕ × A)) → AllByRecursion P (map (λ (row : ℕ × A). row.1) xs)
+    → tree_columns places (map (hidden_row of) xs) ≡ map cells (map (λ (row : ℕ × A). row.1) xs)
+hidden_back places of cells P is [] all = refl
+hidden_back places of cells P is (x ∷ xs) all = λ i. is x all.0 i ∷ hidden_back places of cells P is xs all.1 i
+
+hidden_tree_back : {A : Type 0} (places : List ℕ) (of : A → List Value) (cells : A → List Cell) (P : A → Type 0)
+    → ((x : ℕ × A) → P x.1 → map cell_of (map (column (hidden_row of x)) places) ≡ cells x.1)
+    → (xs : List A) (tree : List Row) → AreHidden of xs tree → AllByRecursion P xs → tree_columns places tree
+    ≡ map cells xs
+hidden_tree_back places of cells P is xs tree h all = ap (tree_columns places) h.held.rows
+    ∙ hidden_back places of cells P is h.given (subst (AllByRecursion P) (sym h.same) all) ∙ ap (map cells) h.same
+
+-- Cells of UTF-8 texts are read back unchanged.
+meta_back : (base : List ℕ) → IsUtf8 base → tree_columns (places_of table.Meta) (stored_meta base ∷ [])
+    ≡ meta_cells base ∷ []
+meta_back base is = λ i. (number_cell 1 ∷ number_cell 2 ∷ text_cell base is i ∷ []) ∷ []
+
+outside_back : (x : ℕ × List ℕ) → IsSpelledOutside x
+    → map cell_of (map (column (stored_outside x)) (places_of table.Outside)) ≡ outside_cells x
+outside_back x is = λ i. number_cell x.0 ∷ text_cell x.1 is i ∷ []
+
+label_back : (x : ℕ × Label) → IsSpelledLabel x.1
+    → map cell_of (map (column (hidden_row label_values x)) (places_of table.Label)) ≡ label_cells x.1
+label_back x is = λ i. number_cell x.1.owner ∷ number_cell (label_kind_no x.1.kind) ∷ text_cell x.1.tag is.0 i
+    ∷ text_cell x.1.text is.1 i ∷ []
+
+posting_back : (x : PostingRow) → IsSpelledPosting x
+    → map cell_of (map (column (stored_posting x)) (places_of table.Posting)) ≡ posting_cells x
+posting_back x is = λ i. number_cell x.number ∷ text_cell x.key is.0 i ∷ text_cell x.rec is.1 i ∷ number_cell x.first
+    ∷ number_cell x.place ∷ flag_cell x.withdrawn ∷ []
+
+-- The rows of cells in trees that hold tables are the cells of the tables.
+pub raw_of : (db : Trees) (t : Tables) → Hold db t → raw_in db ≡ cells_of_tables t
+raw_of db t h =
+    let spelled = h.spelled in
+    let meta = ap (tree_columns (places_of table.Meta)) h.meta ∙ meta_back t.base spelled.0 in
+    let resource = ap (tree_columns (places_of table.Resource)) h.resource.rows ∙ resources_back 1 t.resource in
+    let outside = ap (tree_columns (places_of table.Outside)) h.outside.rows
+    ∙ map_back (places_of table.Outside) stored_outside outside_cells IsSpelledOutside outside_back t.outside
+    spelled.1.0 in
+    let label = hidden_tree_back (places_of table.Label) label_values label_cells IsSpelledLabel label_back t.label
+    (db 4)
+    h.label spelled.1.1.0 in
+    let link = hidden_tree_back (places_of table.Link) link_values link_cells (λ x. Unit {0}) (λ x _. refl) t.link
+    (db 6)
+    h.link (all_trivial t.link) in
+    let hier = hidden_tree_back (places_of table.Hier) hier_values hier_cells (λ x. Unit {0}) (λ x _. refl) t.hier
+    (db 11)
+    h.hier (all_trivial t.hier) in
+    let posting = ap (tree_columns (places_of table.Posting)) h.posting.rows
+    ∙ map_back (places_of table.Posting) stored_posting posting_cells IsSpelledPosting posting_back t.posting
+    spelled.1.1.1 in
+    let move = ap (tree_columns (places_of table.Move)) h.move.rows
+    ∙ map_back (places_of table.Move) stored_move move_cells (λ x. Unit {0}) (λ x _. refl) t.move
+    (all_trivial t.move) in
+    λ i. record {
+      meta = Some (meta i);
+      resource = Some (resource i);
+      outside = Some (outside i);
+      label = Some (label i);
+      link = Some (link i);
+      hier = Some (hier i);
+      posting = Some (posting i);
+      move = Some (move i);
+    }
+
+-- A database that keeps tables is readable.
+pub readable_of : (db : Database) (t : Tables) → Keeps db t → IsReadable db
+readable_of db t k = record { schema = k.schema; ordered = ordered }
+  where
+    ordered : (p : Table) → IsTable (db.trees (tree_of p))
+    ordered table.Meta = subst IsTable (sym k.hold.meta) (tt, tt)
+    ordered table.Resource = subst IsTable (sym k.hold.resource.rows) (is_table (λ (row : ℕ × Resource). row.0)
+        stored_resource (λ x. refl) 0 (numbered_from 1 t.resource) k.hold.resource.rises)
+    ordered table.Outside = subst IsTable (sym k.hold.outside.rows) (is_table (λ (row : ℕ × List ℕ). row.0)
+        stored_outside (λ x. refl) 0 t.outside k.hold.outside.rises)
+    ordered table.Label = subst IsTable (sym k.hold.label.held.rows) (is_table (λ row. row.0)
+        (hidden_row label_values) (λ x. refl) 0 k.hold.label.given k.hold.label.held.rises)
+    ordered table.Link = subst IsTable (sym k.hold.link.held.rows) (is_table (λ row. row.0)
+        (hidden_row link_values) (λ x. refl) 0 k.hold.link.given k.hold.link.held.rises)
+    ordered table.Hier = subst IsTable (sym k.hold.hier.held.rows) (is_table (λ row. row.0)
+        (hidden_row hier_values) (λ x. refl) 0 k.hold.hier.given k.hold.hier.held.rises)
+    ordered table.Posting = subst IsTable (sym k.hold.posting.rows) (is_table (λ (row : PostingRow). row.number)
+        stored_posting (λ x. refl) 0 t.posting k.hold.posting.rises)
+    ordered table.Move = subst IsTable (sym k.hold.move.rows) (is_table (λ (row : MoveRow). row.number)
+        stored_move (λ x. refl) 0 t.move k.hold.move.rises)
+
+-- Reads.
+
+pub before_read : {S : Type 0} (g : Ghosts S) (old new : Held S) → LeavesTables g old new → IsUp (state g new)
+    → IsUp (state g old)
+before_read g old new leaves up = (omega (arith, leaves.clean, up.0), leaves.was up.0 up.1)
+
+-- What holds of the tables that the database keeps holds of the tables whose cells its rows are.
+pub holds_of_raw : {S : Type 0} (g : Ghosts S) (first : State) (start old new : Held S) → start ≡ old
+    → IsKeeperState first (state g start) → LeavesTables g start new → {P : Tables → Type 0}
+    → ((t : Tables) → Keeps (state g start).now t → (state g start).now ≡ (state g start).committed → P t)
+    → IsStore first → IsUp (state g new) → (t : Tables) → raw_in (state g old).now.trees ≡ cells_of_tables t → P t
+holds_of_raw g first start old new same kept leaves {P} holds known up t is =
+    let s = kept.served known (before_read g start new leaves up) in
+    let k = s.keeps in
+    let shown : raw_in (state g start).now.trees ≡ cells_of_tables t =
+    ap (λ h. raw_in (state g h).now.trees) same ∙ is in
+    subst P (listed_one k.0 t (sym (raw_of (state g start).now.trees k.0 k.1.hold) ∙ shown)) (holds k.0 k.1 s.settled)
+
+-- Commits.
+
+pub up_before : (old new : State) {C : Trees → Type 0} → Survives old new C
+    → (HasCleanDisk new → IsTrue new.is_open → IsTrue old.is_open) → IsUp new → IsUp old
+up_before old new s was up = (omega (arith, s.clean, up.0), was up.0 up.1)
+
+-- The changes fit any tables that the storage holds.
+abbrev pub FitsKeeper : State → List Change → State → Type 0
+FitsKeeper first changes old = IsStore first → IsUp old → (t : Tables) → raw_in old.now.trees ≡ cells_of_tables t
+    → DeltaFits changes t
+
+-- Rows of cells are those of at most one list of tables, so the new rows are the old ones with the changes.
+raw_after_changes : (old : State) (t : Tables) (changes : List Change) (db : Trees) → Keeps old.now t
+    → Hold db (tables_after_delta changes t) → RawAfterChanges changes (raw_in old.now.trees) (raw_in db)
+raw_after_changes old t changes db kept made u e = raw_of db (tables_after_delta changes t) made
+    ∙ ap (λ (k : Tables). cells_of_tables (tables_after_delta changes k))
+    (listed_one t u (sym (raw_of old.now.trees t kept.hold) ∙ e))
+
+-- A transaction of fitting changes keeps the invariant, and makes the changes of the rows.
+pub keeper_state_after_commit : (first : State) (old new : State) (changes : List Change) → IsKeeperState first old
+    → (IsUp new → IsUp old) → new.in_transaction ≡ old.in_transaction → FitsKeeper first changes old
+    → (IsUp new → (t : Tables) → Keeps old.now t → DeltaFits changes t → Keeps new.now (tables_after_delta changes t))
+    → (IsUp new → new.now ≡ new.committed)
+    → IsKeeperState first new × (IsStore first → IsUp new → RawAfterChanges changes (raw_in old.now.trees)
+    (raw_in new.now.trees))
+keeper_state_after_commit first old new changes kept before mode fits did settled = (
+  record {
+    autocommit = mode ∙ kept.autocommit;
+    served = λ known up.
+        let k = (kept.served known (before up)).keeps in
+        record { settled = settled up; keeps = (tables_after_delta changes k.0, made known up k.0 k.1) };
+  },
+  λ known up.
+      let k = (kept.served known (before up)).keeps in
+      raw_after_changes old k.0 changes new.now.trees k.1 (made known up k.0 k.1).hold,
+)
+  where
+    made : IsStore first → IsUp new → (t : Tables) → Keeps old.now t → Keeps new.now (tables_after_delta changes t)
+    made known up t keeps = did up t keeps (fits known (before up) t (raw_of old.now.trees t keeps.hold))
+
+-- Crashes of an open store.
+
+abbrev pub IsSettled : State → Type 0
+IsSettled s = (db : Trees) → IsTrue s.is_open → s.may_leave db → db ≡ s.committed.trees
+
+left_trees : (s : State) → s.now ≡ s.committed → IsUp s → IsSettled s → (db : Trees) → s.may_leave db → db ≡ s.now.trees
+left_trees s settled up law db may = law db up.1 may ∙ sym (ap (λ (d : Database). d.trees) settled)
+
+-- An open store keeps the tables whose cells its rows are.
+holds_shown : (s : State) → IsServed s → (t : Tables) → raw_in s.now.trees ≡ cells_of_tables t → Keeps s.now t
+holds_shown s served t is =
+    let k = served.keeps in
+    subst (Keeps s.now) (listed_one k.0 t (sym (raw_of s.now.trees k.0 k.1.hold) ∙ is)) k.1
+
+-- A crash during a commit leaves the tables without the changes or with all of them.
+pub leaves_either : (first : State) (old new : State) (changes : List Change) → IsKeeperState first old
+    → IsSettled old → FitsKeeper first changes old
+    → Survives old new
+    (λ trees. (t : Tables) → Keeps old.now t → DeltaFits changes t → Hold trees (tables_after_delta changes t))
+    → IsStore first → LeavesEither changes old new
+leaves_either first old new changes kept law fits s known clean opened t is db may =
+    let up : IsUp old = (omega (arith, s.clean, clean), opened) in
+    let served = kept.served known up in
+    let keeps = holds_shown old served t is in
+    elim (s.crash clean db may) [
+      | inl was ↦ inl (subst (λ trees. Hold trees t) (sym (left_trees old served.settled up law db was)) keeps.hold)
+      | inr made ↦ inr (made t keeps (fits known up t is))
+    ]
+
+pub leaves_after : (first : State) (old new : State) (changes : List Change) → IsKeeperState first new → IsSettled new
+    → (IsStore first → IsUp new → RawAfterChanges changes (raw_in old.now.trees) (raw_in new.now.trees))
+    → IsStore first → LeavesAfter changes old new
+leaves_after first old new changes kept law done known up t is db may =
+    let served = kept.served known up in
+    subst (λ trees. Hold trees (tables_after_delta changes t)) (sym (left_trees new served.settled up law db may))
+    (holds_shown new served (tables_after_delta changes t) (done known up t is)).hold
+
+-- The result of a successful commit, for the view that the caller has.
+pub record IsDone {S : Type 0} (g : Ghosts S) (view old : KeeperView S) (changes : List Change) (new : Held S) : Type
+    0 where
+  pub kept : IsKeeperState (state g view.first) (state g new)
+  pub ok : IsStore (state g view.first) → IsUp (state g new)
+      → RawAfterChanges changes (raw_of_keeper g old) (raw_in (state g new).now.trees)
+  pub durable : IsStore (state g old.first) → LeavesAfter changes (state g old.conn) (state g new)
+
+module _ {S : Type 0} (g : Ghosts S) (view old : KeeperView S) (same : view ≡ old) (new : Held S)
+    (changes : List Change) (kept : IsKeeperState (state g view.first) (state g view.conn))
+    (fits : IsServing g old → (t : Tables) → raw_of_keeper g old ≡ cells_of_tables t → DeltaFits changes t)
+    (crash : Survives (state g view.conn) (state g new)
+    (λ trees. (t : Tables) → Keeps (state g view.conn).now t → DeltaFits changes t
+    → Hold trees (tables_after_delta changes t)))
+    (law : (h : Held S) → IsSettled (state g h)) where
+  fits_keeper : FitsKeeper (state g view.first) changes (state g view.conn)
+  fits_keeper = subst (λ (k : KeeperView S). FitsKeeper (state g k.first) changes (state g k.conn)) (sym same)
+      (λ known up. fits (known, up))
+
+  -- A successful transaction keeps the invariant and makes the changes, durably.
+  pub is_done : {r : Result Bool Error} → IsOwnTransaction g view.conn new r
+      → (HasCleanDisk (state g new) → (t : Tables) → Keeps (state g view.conn).now t → DeltaFits changes t
+      → Keeps (state g new).now (tables_after_delta changes t))
+      → IsDone g view old changes new
+  is_done own did =
+      let both = keeper_state_after_commit (state g view.first) (state g view.conn) (state g new) changes kept
+      (up_before (state g view.conn) (state g new) crash own.was)
+      own.mode fits_keeper (λ up. did up.0) (λ up. own.settled up.0 up.1 kept.autocommit) in
+      subst (λ (k : KeeperView S). IsDone g view k changes new) same (record {
+        kept = both.0;
+        ok = both.1;
+        durable = leaves_after (state g view.first) (state g view.conn) (state g new) changes both.0 (law new) both.1;
+      })
+
+  pub is_either : IsStore (state g old.first) → LeavesEither changes (state g old.conn) (state g new)
+  is_either = subst (λ (k : KeeperView S). IsStore (state g k.first) → LeavesEither changes (state g k.conn)
+      (state g new)) same
+      (leaves_either (state g view.first) (state g view.conn) (state g new) changes kept (law view.conn) fits_keeper
+      crash)

@@ -1,0 +1,96 @@
+-- Proves that a load passes the rows of all tables to the sink, table after table.
+use Rattle.std.proofs.Common.{◌≡◌, ◌<◌, ◌+◌, ℕ, List, [], ◌∷◌, length, take, get_or, append-nil, Option, Result, Ok}
+use Rattle.std.proofs.Common.{Err, refl, sym, ap, subst, ◌∙◌}
+use Rattle.sqlite.specs.Tree.{Trees}
+use Rattle.sqlite.specs.State.{State, HasCleanDisk}
+use Rattle.sqlite.specs.Held.{Held, state}
+use Rattle.sqlite_trees.specs.declared.store.Store.{Ghosts}
+use Rattle.thes_base.specs.declared.fault.Fault.{Fault}
+use Rattle.thes_base.specs.declared.fault.Table.{Table}
+use Rattle.thes_base.specs.declared.fault.Table.TheVariants as table
+use Rattle.thes_tables.specs.declared.cells.Cell.{Cell}
+use Rattle.thes_sql.specs.Reads.{IsReadable, LeavesTables}
+use Rattle.thes_store.specs.Causes.{HasCause}
+use Rattle.thes_store.specs.Sinks.{SinkAcceptsAll, SinkAcceptsPrefix, SinkOutcome, sink_rows_of_table}
+use Rattle.thes_store.specs.Loading.{raw_rows_of, sink_rows_of_tables}
+use Rattle.thes_store.proofs.SinkLemmas.{tables_append, part_accepted, part_refused}
+use Rattle.thes_sqlite.specs.KeeperView.{KeeperView, raw_in, raw_table, raw_of_keeper, IsUp, IsServing, IsStore}
+use Rattle.thes_sqlite.specs.KeeperView.{IsKeeperState}
+use Rattle.thes_sqlite.proofs.KeeperLemmas.{before_read, readable_of}
+
+pub raw_at : (p : Table) (db : Trees) → raw_rows_of p (raw_in db) ≡ raw_table p db
+raw_at table.Meta db = refl
+raw_at table.Resource db = refl
+raw_at table.Outside db = refl
+raw_at table.Label db = refl
+raw_at table.Link db = refl
+raw_at table.Hier db = refl
+raw_at table.Posting db = refl
+raw_at table.Move db = refl
+
+-- If a readable table's rows are passed to the sink, the storage that serves the tables passes them.
+pub table_yielded : {S R : Type 0} (g : Ghosts S) (first : State) (start old new : Held S) → start ≡ old
+    → IsKeeperState first (state g start) → LeavesTables g start new
+    → (gives : R → Table × Option (List Cell) → Result (Unit {0}) Fault → R → Type 0) (p : Table)
+    (before after : R) (r : Result (Unit {0}) Fault)
+    → (HasCleanDisk (state g new) → IsReadable (state g start).now
+    → SinkOutcome gives before (sink_rows_of_table p (raw_table p (state g start).now.trees)) r after)
+    → IsStore first → IsUp (state g new)
+    → SinkOutcome gives before (sink_rows_of_table p (raw_table p (state g old).now.trees)) r after
+table_yielded g first start old new same kept leaves gives p before after r yields known up =
+    let s = kept.served known (before_read g start new leaves up) in
+    subst (λ h. SinkOutcome gives before (sink_rows_of_table p (raw_table p (state g h).now.trees)) r after) same
+    (yields up.0 (readable_of (state g start).now s.keeps.0 s.keeps.1))
+
+-- The state of a load after the tables `names`: the storage is unchanged, and the sink has their rows.
+pub record LoadProgress {S R : Type 0} (g : Ghosts S) (gives : R → Table × Option (List Cell)
+    → Result (Unit {0}) Fault → R → Type 0)
+    (names : List Table) (start now : KeeperView S) (before after : R) : Type 0 where
+  pub was : IsServing g now → IsServing g start
+  pub same : IsServing g now → raw_of_keeper g now ≡ raw_of_keeper g start
+  pub sink_accepts : IsServing g now → SinkAcceptsAll gives before (sink_rows_of_tables (raw_of_keeper g start) names)
+      after
+  pub failures : now.failures ≡ start.failures
+  pub first : now.first ≡ start.first
+
+module _ {S R : Type 0} (g : Ghosts S) (gives : R → Table × Option (List Cell) → Result (Unit {0}) Fault → R → Type 0)
+    (names : List Table) (i : ℕ) (name : Table) (start mid new : KeeperView S) (before between after : R)
+    (r : Result (Unit {0}) Fault) (lt : i < length names) (is : name ≡ get_or names i name)
+    (p : LoadProgress g gives (take i names) start mid before between)
+    (yields : IsServing g new → SinkOutcome gives between
+    (sink_rows_of_table name (raw_table name (state g mid.conn).now.trees)) r after)
+    (same : IsServing g new → raw_of_keeper g new ≡ raw_of_keeper g mid) (was : IsServing g new → IsServing g mid)
+    (cause : HasCause mid.failures new.failures r) (known : new.first ≡ mid.first) where
+  one : IsServing g new → SinkOutcome gives between (sink_rows_of_tables (raw_of_keeper g start) (name ∷ [])) r after
+  one up = subst (λ l. SinkOutcome gives between l r after)
+      (ap (sink_rows_of_table name) (sym (raw_at name (state g mid.conn).now.trees)
+      ∙ ap (raw_rows_of name) (p.same (was up)))
+      ∙ sym (append-nil _)) (yields up)
+
+  pub load_progress_next : (done : Unit {0}) → r ≡ Ok done → LoadProgress g gives (take (i + 1) names) start new
+      before after
+  load_progress_next done ok = record {
+    was = λ up. p.was (was up);
+    same = λ up. same up ∙ p.same (was up);
+    sink_accepts = λ up. part_accepted gives (sink_rows_of_tables (raw_of_keeper g start))
+        (tables_append (raw_of_keeper g start)) names i
+        name before between after r done lt is (p.sink_accepts (was up)) ok (one up);
+    failures = subst (λ q. HasCause mid.failures new.failures q) ok cause ∙ p.failures;
+    first = known ∙ p.first;
+  }
+
+  -- A fault at one table ends the load with a prefix of the rows in the sink.
+  pub load_progress_fault : (fault : Fault) → r ≡ Err fault
+      → (IsServing g new → SinkAcceptsPrefix gives fault before (sink_rows_of_tables (raw_of_keeper g start) names)
+      after)
+      × (IsServing g new → raw_of_keeper g new ≡ raw_of_keeper g start) × (IsServing g new → IsServing g start)
+      × HasCause {T = Unit {0}} start.failures new.failures (Err fault)
+  load_progress_fault fault err = (
+    λ up. part_refused gives (sink_rows_of_tables (raw_of_keeper g start)) (tables_append (raw_of_keeper g start))
+        names i name
+        fault before between after r lt is (p.sink_accepts (was up)) err (one up),
+    λ up. same up ∙ p.same (was up),
+    λ up. p.was (was up),
+    subst (λ n. HasCause {T = Unit {0}} n new.failures (Err fault)) p.failures
+        (subst (λ q. HasCause mid.failures new.failures q) err cause),
+  )

@@ -1,8 +1,0 @@
-use Rattle.std.proofs.Common.{take, map}
-use Rattle.std.specs.Prelude.{Some}
-use Rattle.thes_store.specs.Handing.{Takes}
-use Rattle.thes_sqlite.specs.ValueCells.{cell_of}
-use Rattle.thes_sqlite.proofs.handing.hand_rows.Given as goal
-
-abbrev pub invariant-loop-row : goal.invariant-loop-row
-invariant-loop-row g l = Takes g.R.RowSink.gives l.fn.sink (map (λ row. (l.fn.name, Some (map cell_of row))) (take l.row-index l.rows)) l.sink

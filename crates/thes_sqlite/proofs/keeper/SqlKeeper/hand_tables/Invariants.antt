@@ -1,6 +1,0 @@
-use Rattle.std.proofs.Common.{take}
-use Rattle.thes_sqlite.proofs.Loaded.{Passes}
-use Rattle.thes_sqlite.proofs.keeper.SqlKeeper.hand_tables.Given as goal
-
-abbrev pub invariant-loop-name : goal.invariant-loop-name
-invariant-loop-name g l = Passes g.S.Store g.R.RowSink.gives (take l.name-index l.names) l.fn.self l.self l.fn.sink l.sink

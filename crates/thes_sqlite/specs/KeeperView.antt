@@ -1,0 +1,87 @@
+-- The state of storage in a database, and what a crash leaves of it.
+use Rattle.std.specs.Prelude.{◌≡◌, ◌⊎◌, ℕ, false, List, map, Some, IsTrue, refl}
+use Rattle.std.specs.Coded.{Coded, code_by, coded×, coded_ℕ}
+use Rattle.sqlite.specs.Held.{Held, held_code, state}
+use Rattle.sqlite_trees.specs.declared.store.Store.{Ghosts}
+use Rattle.thes_base.specs.declared.fault.Table.{Table}
+use Rattle.thes_base.specs.declared.fault.Table.TheVariants as table
+use Rattle.sqlite.specs.Tree.{Trees}
+use Rattle.sqlite.specs.State.{State, HasCleanDisk}
+use Rattle.thes_tables.specs.declared.change.Change.{Change}
+use Rattle.thes_tables.specs.Tables.{Tables}
+use Rattle.thes_tables.specs.Rows.{tables_after_delta}
+use Rattle.thes_tables.specs.Cells.{Raw, RawTable, cells_of_tables}
+use Rattle.thes_sql.specs.StoredRows.{Keeps, Hold}
+use Rattle.thes_sql.specs.Reads.{rows_in_trees}
+use Rattle.thes_sqlite.specs.ValueCells.{cell_of}
+
+-- The rows of a table in a database's trees, as cells.
+abbrev pub raw_table : Table → Trees → RawTable
+raw_table p db = Some (map (map cell_of) (rows_in_trees p db))
+
+-- The rows of all tables in a database's trees, as cells.
+abbrev pub raw_in : Trees → Raw
+raw_in db = record {
+  meta = raw_table table.Meta db;
+  resource = raw_table table.Resource db;
+  outside = raw_table table.Outside db;
+  label = raw_table table.Label db;
+  link = raw_table table.Link db;
+  hier = raw_table table.Hier db;
+  posting = raw_table table.Posting db;
+  move = raw_table table.Move db;
+}
+
+-- The disk hasn't failed silently, and the store is open.
+abbrev pub IsUp : State → Type 0
+IsUp s = HasCleanDisk s × IsTrue s.is_open
+
+-- Nothing is uncommitted, and the database keeps some tables.
+pub record IsServed (s : State) : Type 0 where
+  pub settled : s.now ≡ s.committed
+  pub keeps : (t : Tables) × Keeps s.now t
+
+-- If the disk hasn't failed silently and the store is open, the database is that of a store.
+abbrev pub IsStore : State → Type 0
+IsStore s = IsUp s → IsServed s
+
+-- Between calls no transaction is open, and a database that was a store's at the start is one now.
+pub record IsKeeperState (first now : State) : Type 0 where
+  pub autocommit : now.in_transaction ≡ false
+  pub served : IsStore first → IsStore now
+
+-- A `SqlKeeper` as contracts see it: its connection, its count of failures, and its connection at the start.
+pub record KeeperView (S : Type 0) : Type 0 where
+  pub conn : Held S
+  pub failures : ℕ
+  pub first : Held S
+
+-- The coding of this view as a triple.
+abbrev pub keeper_view_code : {S : Type 0} → Coded S → Coded (KeeperView S)
+keeper_view_code {S} store =
+    code_by (Held S × (ℕ × Held S)) (coded× (held_code store) (coded× coded_ℕ (held_code store)))
+    (λ k. (k.conn, (k.failures, k.first))) (λ p. record { conn = p.0; failures = p.1.0; first = p.1.1 }) (λ _. refl)
+
+-- The rows that the storage holds, as cells.
+abbrev pub raw_of_keeper : {S : Type 0} → Ghosts S → KeeperView S → Raw
+raw_of_keeper g k = raw_in (state g k.conn).now.trees
+
+-- The database was that of a store at the start, the disk hasn't failed silently, and the store is open.
+abbrev pub IsServing : {S : Type 0} → Ghosts S → KeeperView S → Type 0
+IsServing g k = IsStore (state g k.first) × IsUp (state g k.conn)
+
+-- If `old` encodes tables, `new` encodes these tables with the changes.
+abbrev pub RawAfterChanges : List Change → Raw → Raw → Type 0
+RawAfterChanges changes old new = (t : Tables) → old ≡ cells_of_tables t → new
+    ≡ cells_of_tables (tables_after_delta changes t)
+
+-- A crash leaves the tables without the changes, or with all of them.
+abbrev pub LeavesEither : List Change → State → State → Type 0
+LeavesEither changes old new = HasCleanDisk new → IsTrue old.is_open → (t : Tables) → raw_in old.now.trees
+    ≡ cells_of_tables t
+    → (db : Trees) → new.may_leave db → Hold db t ⊎ Hold db (tables_after_delta changes t)
+
+-- A crash leaves the tables with all changes.
+abbrev pub LeavesAfter : List Change → State → State → Type 0
+LeavesAfter changes old new = IsUp new → (t : Tables) → raw_in old.now.trees ≡ cells_of_tables t
+    → (db : Trees) → new.may_leave db → Hold db (tables_after_delta changes t)

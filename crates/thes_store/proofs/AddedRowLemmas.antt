@@ -1,0 +1,65 @@
+-- Proves how the rows that changes insert add up, change after change.
+use Rattle.std.proofs.Common.{◌≡◌, ◌+◌, ◌<◌, ◌≤◌, ◌∙◌, ℕ, suc, List, [], ◌∷◌, ◌++◌, length, true, false, take, get_or}
+use Rattle.std.proofs.Common.{refl, sym, ap, subst, arith, ⊎_elim, append-nil, length-append}
+use Rattle.std.specs.Prelude.{Option, None, Some, slice_get, is_some, vec_len}
+use Rattle.std.specs.List.{cons_option}
+use Rattle.std.proofs.lemmas.List.Elements.{filter_map-append}
+use Rattle.thes_base.proofs.NumberedLemmas.{push_cases}
+use Rattle.thes_tables.specs.declared.change.Change.{Change}
+use Rattle.thes_store.proofs.IndexPlaceLemmas.{take_one}
+use Rattle.thes_store.specs.declared.slots.Slots.{Slots}
+use Rattle.thes_store.specs.AddedRow.{rows_added_by}
+use Rattle.thes_store.specs.Index.{HasPlace, KeepsPlaces}
+use Rattle.thes_store.specs.Slots.{AreExpected}
+
+module _ {A : Type 0} where
+  module _ (added_row : Change → Option A) (changes : List Change) (i : ℕ) (c : Change) (lt : i < length changes)
+      (is : c ≡ get_or changes i c) where
+    pub more_added : rows_added_by added_row (take (i + 1) changes) ≡ rows_added_by added_row (take i changes)
+        ++ rows_added_by added_row (c ∷ [])
+    more_added = ap (rows_added_by added_row) (take_one changes i c lt is) ∙ filter_map-append added_row
+        (take i changes) (c ∷ [])
+
+    pub count_more : length (rows_added_by added_row (take (i + 1) changes))
+        ≡ length (rows_added_by added_row (take i changes)) + length (rows_added_by added_row (c ∷ []))
+    count_more = ap length more_added ∙ length-append (rows_added_by added_row (take i changes))
+        (rows_added_by added_row (c ∷ []))
+
+  pub count_one : (o : Option A) → is_some o ≡ true → length (cons_option o []) ≡ 1
+  count_one None e = absurd (cc)
+  count_one (Some x) e = refl
+
+  pub count_none : (o : Option A) → is_some o ≡ false → length (cons_option o []) ≡ 0
+  count_none None e = refl
+  count_none (Some x) e = absurd (cc)
+
+  pub at_most_one : (o : Option A) → length (cons_option o []) ≤ 1
+  at_most_one None = omega arith
+  at_most_one (Some x) = omega arith
+
+  -- If one more row is expected at the next position, the longer list is expected.
+  pub expected_more : (number : A → ℕ) (old new : Slots A) (coming : List A) (o : Option A) → AreExpected number old
+      coming → KeepsPlaces old.places new.places → new.rows ≡ old.rows
+      → ((row : A) → o ≡ Some row → HasPlace new.places (number row) (vec_len old.rows + length coming))
+      → AreExpected number new (coming ++ cons_option o [])
+  expected_more number old new coming o expected keeps rows comes k row e =
+      subst (λ n. HasPlace new.places (number row) (n + k)) (sym (ap (λ (v : _). vec_len v) rows)) (go o comes e)
+    where
+      go : (o : Option A)
+          → ((row : A) → o ≡ Some row → HasPlace new.places (number row) (vec_len old.rows + length coming))
+          → slice_get (coming ++ cons_option o []) k ≡ Some row → HasPlace new.places (number row)
+          (vec_len old.rows + k)
+      go None comes e = keeps (number row) (vec_len old.rows + k)
+          (expected k row (sym (ap (λ l. slice_get l k) (append-nil coming)) ∙ e))
+      go (Some x) comes e = ⊎_elim
+          (λ (before : slice_get coming k ≡ Some row). keeps (number row) (vec_len old.rows + k)
+          (expected k row before))
+          (λ (last : (suc k ≡ length coming + 1) × (row ≡ x)).
+          let here = last.0 in
+          let at : length coming ≡ k = omega (arith, here) in
+          subst (λ n. HasPlace new.places (number row) (vec_len old.rows + n))
+          at (comes row (ap (λ y. Some y) (sym last.1))))
+          (push_cases coming x row (suc k) e)
+
+  pub same_len : (old new : Slots A) → new.rows ≡ old.rows → vec_len new.rows ≡ vec_len old.rows
+  same_len old new rows = ap (λ (v : _). vec_len v) rows

@@ -1,0 +1,128 @@
+-- Proves that a bulk move by an index moves exactly the postings assigned to the source.
+use Rattle.std.proofs.Common.{◌≡◌, ◌≢◌, ◌⊎◌, ◌∙◌, inl, inr, ℕ, zero, suc, List, [], ◌∷◌, ◌++◌, map, Bool, true, false}
+use Rattle.std.proofs.Common.{cond, refl, sym, ap, subst}
+use Rattle.std.specs.Prelude.{Option, None, Some, slice_get, slice_set, not, ◌&&◌, ◌==◌}
+use Rattle.std.specs.Option.{IsSomeAnd}
+use Rattle.std.specs.Ordering.{nat_cmp}
+use Rattle.std.specs.BTreeSet.{BTreeSet, contains}
+use Rattle.std.proofs.lemmas.Option.{same_Some}
+use Rattle.std.proofs.lemmas.Bool.{eqb-true}
+use Rattle.thes_tables.specs.declared.rows.PostingRow.{PostingRow}
+use Rattle.thes_tables.specs.Tables.{IsIn}
+use Rattle.thes_tables.specs.Rows.{row_at_place, row_after_move_all}
+use Rattle.thes_store.proofs.IndexPlaceLemmas.{in_keys}
+use Rattle.thes_store.specs.declared.index.Index.{Index}
+use Rattle.thes_store.specs.Covers.{IndexesByPlace}
+use Rattle.thes_store.specs.RowsAtPlaces.{rows_after_change_at, rows_after_changes_at}
+use Rattle.thes_base.proofs.NumberedLemmas.{slice_set_cases}
+
+-- Rows changed at some positions.
+
+module _ {A : Type 0} (f : A → A) where
+  pub changed_append : (places more : List ℕ) (rows : List A) → rows_after_changes_at f (places ++ more) rows
+      ≡ rows_after_changes_at f more (rows_after_changes_at f places rows)
+  changed_append [] more rows = refl
+  changed_append (i ∷ places) more rows = changed_append places more (rows_after_change_at f i rows)
+
+  -- Each row outside these positions is a fixed point of the function.
+  abbrev StayBut : List ℕ → List A → Type 0
+  StayBut places rows = (i : ℕ) (row : A) → slice_get rows i ≡ Some row → (f row ≡ row) ⊎ IsIn i places
+
+  all_stay : (rows : List A) → StayBut [] rows → map f rows ≡ rows
+  all_stay [] stay = refl
+  all_stay (x ∷ rows) stay = (λ j. here (stay 0 x refl) j ∷ all_stay rows (λ i row e. stay (suc i) row e) j)
+    where
+      here : (f x ≡ x) ⊎ ⊥ → f x ≡ x
+      here (inl same) = same
+      here (inr never) = absurd never
+
+  module _ (again : (row : A) → f (f row) ≡ f row) where
+    map_set : (rows : List A) (i : ℕ) (row : A) → slice_get rows i ≡ Some row → map f (slice_set rows i (f row))
+        ≡ map f rows
+    map_set [] i row e = refl
+    map_set (x ∷ rows) zero row e = ap (λ y. y ∷ map f rows) (again row ∙ ap f (sym (same_Some _ _ e)))
+    map_set (x ∷ rows) (suc i) row e = ap (λ l. f x ∷ l) (map_set rows i row e)
+
+    map_with : (i : ℕ) (rows : List A) → map f (rows_after_change_at f i rows) ≡ map f rows
+    map_with i rows = go (slice_get rows i) refl
+      where
+        go : (o : Option A) → slice_get rows i ≡ o
+            → map f (elim o [ None ↦ rows | Some row ↦ slice_set rows i (f row) ]) ≡ map f rows
+        go None e = refl
+        go (Some row) e = map_set rows i row e
+
+    -- After the row at a position is changed, only rows at the remaining positions may still change.
+    stay_with : (i : ℕ) (places : List ℕ) (rows : List A) → StayBut (i ∷ places) rows
+        → StayBut places (rows_after_change_at f i rows)
+    stay_with i places rows stay = go (slice_get rows i) refl
+      where
+        left : (j : ℕ) (row : A) → j ≢ i → (f row ≡ row) ⊎ IsIn j (i ∷ places) → (f row ≡ row) ⊎ IsIn j places
+        left j row apart (inl same) = inl same
+        left j row apart (inr (inl at)) = absurd (apart at)
+        left j row apart (inr (inr later)) = inr later
+
+        go : (o : Option A) → slice_get rows i ≡ o
+            → StayBut places (elim o [ None ↦ rows | Some row ↦ slice_set rows i (f row) ])
+        go None e j row at = left j row (λ same. let no = sym e ∙ ap (slice_get rows) (sym same) ∙ at in absurd (cc))
+            (stay j row at)
+        go (Some old) e j row at = elim (slice_set_cases rows (f old) row i j at) [
+          | inl here ↦ inl (ap f here.1 ∙ again old ∙ sym here.1)
+          | inr other ↦ left j row other.0 (stay j row other.1)
+        ]
+
+    -- If the positions include each row that changes, changing them changes all rows.
+    pub all_changed_at : (places : List ℕ) (rows : List A) → StayBut places rows → rows_after_changes_at f places rows
+        ≡ map f rows
+    all_changed_at [] rows stay = sym (all_stay rows stay)
+    all_changed_at (i ∷ places) rows stay = all_changed_at places (rows_after_change_at f i rows)
+        (stay_with i places rows stay) ∙ map_with i rows
+
+-- Postings that are moved.
+
+moved_again : (source target : ℕ) (row : PostingRow) → row_after_move_all source target
+    (row_after_move_all source target row) ≡ row_after_move_all source target row
+moved_again source target row = go (not row.withdrawn && row.place == source) refl
+  where
+    twice : (b : Bool) → cond b (row_at_place target (row_at_place target row)) (row_at_place target row)
+        ≡ row_at_place target row
+    twice true = refl
+    twice false = refl
+
+    go : (b : Bool) → (not row.withdrawn && row.place == source) ≡ b → row_after_move_all source target
+        (cond b (row_at_place target row) row) ≡ cond b (row_at_place target row) row
+    go true e = twice (not row.withdrawn && target == source)
+    go false e = ap (λ b. cond b (row_at_place target row) row) e
+
+moved_or_stays : (source target : ℕ) (row : PostingRow) → (row_after_move_all source target row ≡ row)
+    ⊎ (row.place ≡ source)
+moved_or_stays source target row = go (not row.withdrawn) (row.place == source) (λ e. eqb-true row.place source e)
+  where
+    go : (b d : Bool) → (d ≡ true → row.place ≡ source) → (cond (b && d) (row_at_place target row) row ≡ row)
+        ⊎ (row.place ≡ source)
+    go true true is = inr (is refl)
+    go true false is = inl refl
+    go false d is = inl refl
+
+pub moved_at_places : (index : Index) (source target : ℕ) (set : BTreeSet ℕ) (rows : List PostingRow)
+    → IndexesByPlace index rows → slice_get index.sets.items source ≡ Some set → rows_after_changes_at
+    (row_after_move_all source target) set.keys rows ≡ map (row_after_move_all source target) rows
+moved_at_places index source target set rows standing found =
+    all_changed_at (row_after_move_all source target) (moved_again source target) set.keys rows
+    (λ i row at. elim (moved_or_stays source target row) [
+      | inl stays ↦ inl stays
+      | inr here ↦ inr
+          (in_keys set.keys i (subst (λ (o : Option (BTreeSet ℕ)). IsSomeAnd o (λ s. contains nat_cmp s i ≡ true))
+          found (subst (λ n. IsSomeAnd (slice_get index.sets.items n) (λ s. contains nat_cmp s i ≡ true)) here
+          (standing i row at))))
+    ])
+
+pub moved_none : (index : Index) (source target : ℕ) (rows : List PostingRow) → IndexesByPlace index rows
+    → slice_get index.sets.items source ≡ None → rows ≡ map (row_after_move_all source target) rows
+moved_none index source target rows standing none =
+    all_changed_at (row_after_move_all source target) (moved_again source target) [] rows
+    (λ i row at. elim (moved_or_stays source target row) [
+      | inl stays ↦ inl stays
+      | inr here ↦ absurd (subst (λ (o : Option (BTreeSet ℕ)). IsSomeAnd o (λ s. contains nat_cmp s i ≡ true)) none
+          (subst (λ n. IsSomeAnd (slice_get index.sets.items n) (λ s. contains nat_cmp s i ≡ true)) here
+          (standing i row at)))
+    ])

@@ -1,0 +1,69 @@
+-- Proves that look-ups by the indexes find the rows that the tables have.
+use Rattle.std.proofs.Common.{◌≡◌, inl, inr, ◌∙◌, ℕ, suc, List, [], ◌∷◌, true, sym, ap, subst}
+use Rattle.std.proofs.lemmas.Bool.{eqb-true, and_parts}
+use Rattle.std.specs.Borrow.{Bor}
+use Rattle.std.specs.Option.{option_copied}
+use Rattle.std.specs.Prelude.{Option, None, Some, IfSome, IfNone, slice_get, filter, not, ◌==◌}
+use Rattle.std.specs.BTreeMap.{get}
+use Rattle.std.specs.Cmp.Lexicographic.{slice_cmp}
+use Rattle.std.specs.Ordering.{nat_cmp}
+use Rattle.thes_tables.specs.declared.rows.PostingRow.{PostingRow}
+use Rattle.thes_tables.specs.Tables.{Tables, IsIn, is_assigned_row}
+use Rattle.thes_store.specs.declared.indexes.Indexes.{Indexes}
+use Rattle.thes_store.specs.declared.keys.Keys.{Keys}
+use Rattle.thes_store.specs.Index.{HasPlace, ArePlaces}
+use Rattle.thes_store.specs.Covers.{Covers}
+use Rattle.thes_store.specs.Keys.{KeyHasPlace, digest_of}
+use Rattle.thes_store.specs.RowsAtPlaces.{is_move_of, rows_at_places}
+use Rattle.thes_store.specs.Reading.{IsPostingOfKey, standing_rows}
+use Rattle.thes_store.proofs.IndexPlaceLemmas.{picked_all}
+
+in_get : (xs : List PostingRow) (row : PostingRow) → IsIn row xs → (i : ℕ) × (slice_get xs i ≡ Some row)
+in_get [] row h = absurd h
+in_get (x ∷ xs) row (inl same) = (0, ap (λ y. Some y) (sym same))
+in_get (x ∷ xs) row (inr later) = let g = in_get xs row later in (suc g.0, g.1)
+
+-- No row has a key if neither the position of its digest nor that of its text has one.
+none_found : (x : Keys) (rows : List PostingRow) (key : List ℕ) → ((i : ℕ) (row : PostingRow) → slice_get rows i
+    ≡ Some row → KeyHasPlace x row.key i)
+    → ((i : ℕ) (row : PostingRow) → get nat_cmp x.numbers (digest_of key) ≡ Some i → slice_get rows i ≡ Some row
+    → row.key ≡ key → ⊥)
+    → ((i : ℕ) (row : PostingRow) → get (slice_cmp nat_cmp) x.rest key ≡ Some i → slice_get rows i ≡ Some row
+    → row.key ≡ key → ⊥)
+    → (row : PostingRow) → IsIn row rows → row.key ≡ key → ⊥
+none_found x rows key leads place_by_number place_by_text row h same =
+    let p = in_get rows row h in
+    elim (subst (λ k. KeyHasPlace x k p.0) same (leads p.0 row p.1)) [
+      | inl number ↦ place_by_number p.0 row number p.1 same
+      | inr text ↦ place_by_text p.0 row text p.1 same
+    ]
+
+pub found_by_text : (x : Keys) (rows : List PostingRow) (key : List ℕ) (place : Option ℕ)
+    (found : Option (Bor PostingRow)) → place ≡ get (slice_cmp nat_cmp) x.rest key
+    → ((i : ℕ) (row : PostingRow) → slice_get rows i ≡ Some row → KeyHasPlace x row.key i)
+    → ((i : ℕ) (row : PostingRow) → get nat_cmp x.numbers (digest_of key) ≡ Some i → slice_get rows i ≡ Some row
+    → row.key ≡ key → ⊥)
+    → IfSome found (λ row. IsIn row.now rows × (row.now.key ≡ key))
+    → IfNone found ((i : ℕ) (row : PostingRow) → place ≡ Some i → slice_get rows i ≡ Some row → row.key ≡ key → ⊥)
+    → IsPostingOfKey key rows (option_copied found)
+found_by_text x rows key place None is leads place_by_number some none = none_found x rows key leads place_by_number
+    (λ i row at. none i row (is ∙ at))
+found_by_text x rows key place (Some row) is leads place_by_number some none = some
+
+place_of_standing : (concept : ℕ) (row : PostingRow) → is_assigned_row concept row ≡ true → row.place ≡ concept
+place_of_standing concept row e = eqb-true row.place concept (and_parts (not row.withdrawn) (row.place == concept) e).1
+
+pub standing_all : (x : Indexes) (t : Tables) (concept : ℕ) (places : List ℕ) → Covers x t
+    → ArePlaces x.standing concept places → rows_at_places (is_assigned_row concept) t.posting places
+    ≡ standing_rows concept t.posting
+standing_all x t concept places covers are =
+    picked_all (is_assigned_row concept) t.posting places are.rises
+    (λ i row at passes. are.complete i (subst (λ n. HasPlace x.standing n i) (place_of_standing concept row passes)
+    (covers.standing i row at)))
+
+pub moves_all : (x : Indexes) (t : Tables) (n : ℕ) (places : List ℕ) → Covers x t → ArePlaces x.moves n places
+    → rows_at_places (is_move_of n) t.move places ≡ filter (is_move_of n) t.move
+moves_all x t n places covers are =
+    picked_all (is_move_of n) t.move places are.rises
+    (λ i row at passes. are.complete i (subst (λ m. HasPlace x.moves m i) (eqb-true row.posting n passes)
+    (covers.moves i row at)))

@@ -1,0 +1,60 @@
+-- Proves that room for some changes is room for the first of them.
+use Rattle.std.proofs.Common.{◌≡◌, ◌+◌, ◌<◌, ◌≤◌, ◌∙◌, ℕ, zero, suc, List, [], ◌∷◌, length, drop, get_or, refl, sym}
+use Rattle.std.proofs.Common.{ap, arith}
+use Rattle.std.specs.Prelude.{Option, None, Some, slice_get, vec_len}
+use Rattle.std.specs.List.{cons_option}
+use Rattle.std.specs.Vec.{vec_capacity}
+use Rattle.std.proofs.lemmas.List.{drop_more}
+use Rattle.thes_tables.specs.declared.change.Change.{Change}
+use Rattle.thes_store.specs.declared.slots.Slots.{Slots}
+use Rattle.thes_store.specs.declared.tables.MemTables.{MemTables}
+use Rattle.thes_store.specs.AddedRow.{rows_added_by, added_resource, added_outside, added_label, added_link}
+use Rattle.thes_store.specs.AddedRow.{added_hier, added_posting, added_move}
+use Rattle.thes_store.specs.Numbers.{owner_of, indexed_end_of, narrower_end_of}
+use Rattle.thes_store.specs.Index.{HasPlace}
+use Rattle.thes_store.specs.Room.{HasRoomForRows}
+use Rattle.thes_store.specs.Slots.{IsReady}
+
+module _ {A : Type 0} where
+  count_first : (o : Option A) (rest : List A) → length (cons_option o []) ≤ length (cons_option o rest)
+  count_first None rest = omega arith
+  count_first (Some x) rest = omega arith
+
+  ready_first : (number : A → ℕ) (s : Slots A) (o : Option A) (rest : List A) → IsReady number s (cons_option o rest)
+      → IsReady number s (cons_option o [])
+  ready_first number s None rest ready = record {
+    room = let r = ready.room in omega (arith, r);
+    expected =
+        λ k row e. absurd (cc);
+  }
+  ready_first number s (Some x) rest ready = record { room = let r = ready.room in omega (arith, r); expected = first }
+    where
+      first : (k : ℕ) (row : A) → slice_get (x ∷ []) k ≡ Some row → HasPlace s.places (number row) (vec_len s.rows + k)
+      first zero row e = ready.expected zero row e
+      first (suc k) row e = absurd (cc)
+
+  pub drop_none : (xs : List A) → drop 0 xs ≡ xs
+  drop_none [] = refl
+  drop_none (x ∷ xs) = refl
+
+  pub drop_next : (xs : List A) (i : ℕ) (x : A) → i < length xs → x ≡ get_or xs i x → drop i xs ≡ x ∷ drop (i + 1) xs
+  drop_next xs i x lt is = drop_more xs i x lt ∙ ap (λ y. y ∷ drop (i + 1) xs) (sym is)
+
+fewer_fit : (len more all capacity : ℕ) → more ≤ all → len + all ≤ capacity → len + more ≤ capacity
+fewer_fit len more all capacity less fits = omega (arith, less, fits)
+
+pub room_first : (m : MemTables) (c : Change) (rest : List Change) → HasRoomForRows (c ∷ rest) m
+    → HasRoomForRows (c ∷ []) m
+room_first m c rest room = record {
+  resource = fewer_fit (vec_len m.resource) _ _ (vec_capacity m.resource)
+      (count_first (added_resource c) (rows_added_by added_resource rest)) room.resource;
+  outside = fewer_fit (vec_len m.outside) _ _ (vec_capacity m.outside)
+      (count_first (added_outside c) (rows_added_by added_outside rest)) room.outside;
+  label = ready_first owner_of m.label (added_label c) (rows_added_by added_label rest) room.label;
+  link = ready_first indexed_end_of m.link (added_link c) (rows_added_by added_link rest) room.link;
+  hier = ready_first narrower_end_of m.hier (added_hier c) (rows_added_by added_hier rest) room.hier;
+  posting = fewer_fit (vec_len m.posting) _ _ (vec_capacity m.posting)
+      (count_first (added_posting c) (rows_added_by added_posting rest)) room.posting;
+  steps = fewer_fit (vec_len m.steps) _ _ (vec_capacity m.steps)
+      (count_first (added_move c) (rows_added_by added_move rest)) room.steps;
+}

@@ -1,0 +1,189 @@
+-- Proves that lists with gaps keep their index and their reserved room after a change.
+use Rattle.std.proofs.Common.{◌≡◌, ◌≢◌, ◌+◌, ◌<◌, ◌∙◌, inl, inr, ℕ, zero, suc, List, [], ◌∷◌, ◌++◌, length, Bool}
+use Rattle.std.proofs.Common.{true, false, cond, refl, sym, ap, subst, arith, ⊎_elim}
+use Rattle.std.specs.Prelude.{Option, None, Some, slice_get, slice_set, filter, not, vec_len}
+use Rattle.std.specs.List.{filter_map}
+use Rattle.std.specs.Vec.{vec_capacity}
+use Rattle.std.proofs.lemmas.Bool.{cases_Bool}
+use Rattle.std.proofs.lemmas.List.Elements.{filter_map-append}
+use Rattle.std.proofs.lemmas.Option.{same_Some, slice_get_within}
+use Rattle.std.specs.Option.{IsSomeAnd}
+use Rattle.std.specs.Ordering.{nat_cmp}
+use Rattle.std.specs.BTreeSet.{BTreeSet, contains}
+use Rattle.thes_base.proofs.NumberedLemmas.{push_cases, slice_set_cases}
+use Rattle.thes_tables.specs.Tables.{IsIn}
+use Rattle.thes_store.proofs.IndexPlaceLemmas.{in_keys}
+use Rattle.thes_store.specs.declared.slots.Slots.{Slots}
+use Rattle.thes_store.specs.Index.{HasPlace, KeepsOthers}
+use Rattle.thes_store.specs.RowsAtPlaces.{rows_after_change_at}
+use Rattle.thes_store.specs.Slots.{rows_in, AreIndexedBy, IsReady, is_same_row}
+
+module _ {A : Type 0} where
+  abbrev rows_without_gaps : List (Option A) → List A
+  rows_without_gaps slots = filter_map (λ slot. slot) slots
+
+  -- A row appended.
+
+  pub rows_pushed : (slots : List (Option A)) (x : A) → rows_without_gaps (slots ++ Some x ∷ [])
+      ≡ rows_without_gaps slots ++ x ∷ []
+  rows_pushed slots x = filter_map-append (λ (slot : Option A). slot) slots (Some x ∷ [])
+
+  module _ (number : A → ℕ) (old new : Slots A) where
+    -- An appended row is indexed if its position was expected.
+    pub found_pushed : (x : A) → new.rows.items ≡ old.rows.items ++ Some x ∷ [] → new.places ≡ old.places
+        → HasPlace old.places (number x) (vec_len old.rows) → AreIndexedBy number old → AreIndexedBy number new
+    found_pushed x items places at found i row e =
+        subst (λ p. HasPlace p (number row) i) (sym places)
+        (⊎_elim
+        (λ (before : slice_get old.rows.items i ≡ Some (Some row)). found i row before)
+        (λ (last : (suc i ≡ length old.rows.items + 1) × (Some row ≡ Some x)).
+        let here = last.0 in
+        let len = old.rows.ok.0 in
+        let same : vec_len old.rows ≡ i = omega (arith, here, len) in
+        subst (λ n. HasPlace old.places n i) (ap number (sym (same_Some _ _ last.1)))
+        (subst (HasPlace old.places (number x)) same at))
+        (push_cases old.rows.items (Some x) (Some row) (suc i) (sym (ap (λ l. slice_get l i) items) ∙ e)))
+
+    pub ready_pushed : (x : A) (rest : List A) → new.places ≡ old.places → vec_len new.rows ≡ vec_len old.rows + 1
+        → vec_capacity new.rows ≡ vec_capacity old.rows → IsReady number old (x ∷ rest) → IsReady number new rest
+    ready_pushed x rest places len capacity ready = record {
+      room = let r = ready.room in omega (arith, r, len, capacity);
+      expected = λ k row e.
+          let at : vec_len old.rows + suc k ≡ vec_len new.rows + k = omega (arith, len) in
+          subst (λ p. HasPlace p (number row) (vec_len new.rows + k)) (sym places)
+          (subst (HasPlace old.places (number row)) at (ready.expected (suc k) row e));
+    }
+
+    -- A row removed.
+
+    -- The other rows stay indexed after one is removed.
+    pub found_emptied : (i : ℕ) → new.rows.items ≡ rows_after_change_at (λ slot. None) i old.rows.items
+        → KeepsOthers i old.places new.places → AreIndexedBy number old → AreIndexedBy number new
+    found_emptied i items keeps found j row e = go (slice_get old.rows.items i) refl
+        (sym (ap (λ l. slice_get l j) items) ∙ e)
+      where
+        other : j ≢ i → slice_get old.rows.items j ≡ Some (Some row) → HasPlace new.places (number row) j
+        other apart at = keeps (number row) j apart (found j row at)
+
+        go : (o : Option (Option A)) → slice_get old.rows.items i ≡ o
+            → slice_get (elim o [ None ↦ old.rows.items | Some slot ↦ slice_set old.rows.items i None ]) j
+            ≡ Some (Some row) → HasPlace new.places (number row) j
+        go None none at = other (λ same. let no = sym none ∙ ap (slice_get old.rows.items) (sym same) ∙ at in
+            absurd (cc)) at
+        go (Some slot) row_there at = elim (slice_set_cases old.rows.items None (Some row) i j at) [
+          | inl here ↦ let no = here.1 in absurd (cc)
+          | inr apart ↦ other apart.0 apart.1
+        ]
+
+    pub ready_emptied : (i : ℕ) (rest : List A) → i < vec_len old.rows → vec_len new.rows ≡ vec_len old.rows
+        → vec_capacity new.rows ≡ vec_capacity old.rows → KeepsOthers i old.places new.places
+        → IsReady number old rest → IsReady number new rest
+    ready_emptied i rest place_in_bounds len capacity keeps ready = record {
+      room = let r = ready.room in omega (arith, r, len, capacity);
+      expected = λ k row e.
+          subst (λ n. HasPlace new.places (number row) (n + k)) (sym len)
+          (keeps (number row) (vec_len old.rows + k) (λ same. absurd (omega (arith, place_in_bounds, same)))
+          (ready.expected k row e));
+    }
+
+  module _ (p : A → Bool) where
+    -- A gap in place of a row that fails a test leaves the passing rows as they are.
+    pub filter_emptied : (slots : List (Option A)) (i : ℕ) (x : A) → slice_get slots i ≡ Some (Some x) → p x ≡ false
+        → filter p (rows_without_gaps (slice_set slots i None)) ≡ filter p (rows_without_gaps slots)
+    filter_emptied [] i x e fails = absurd (cc)
+    filter_emptied (slot ∷ slots) zero x e fails =
+        subst (λ (o : Option A). filter p (rows_without_gaps slots) ≡ filter p (rows_without_gaps (o ∷ slots)))
+        (sym (same_Some _ _ e))
+        (ap (λ b. cond b (x ∷ filter p (rows_without_gaps slots)) (filter p (rows_without_gaps slots))) (sym fails))
+    filter_emptied (None ∷ slots) (suc i) x e fails = filter_emptied slots i x e fails
+    filter_emptied (Some y ∷ slots) (suc i) x e fails =
+        ap (λ l. cond (p y) (y ∷ l) l) (filter_emptied slots i x e fails)
+
+    pub filter_whole : (slots : List (Option A)) → ((i : ℕ) (x : A) → slice_get slots i ≡ Some (Some x) → p x ≡ true)
+        → filter p (rows_without_gaps slots) ≡ rows_without_gaps slots
+    filter_whole [] pass = refl
+    filter_whole (None ∷ slots) pass = filter_whole slots (λ i x e. pass (suc i) x e)
+    filter_whole (Some y ∷ slots) pass =
+        ap (λ b. cond b (y ∷ filter p (rows_without_gaps slots)) (filter p (rows_without_gaps slots))) (pass 0 y refl)
+        ∙ ap (λ l. y ∷ l) (filter_whole slots (λ i x e. pass (suc i) x e))
+
+  pub fewer_emptied : (slots : List (Option A)) (i : ℕ) (x : A) → slice_get slots i ≡ Some (Some x)
+      → length (rows_without_gaps (slice_set slots i None)) < length (rows_without_gaps slots)
+  fewer_emptied [] i x e = absurd (cc)
+  fewer_emptied (slot ∷ slots) zero x e =
+      subst (λ (o : Option A). length (rows_without_gaps slots) < length (rows_without_gaps (o ∷ slots)))
+      (sym (same_Some _ _ e)) (omega arith)
+  fewer_emptied (None ∷ slots) (suc i) x e = fewer_emptied slots i x e
+  fewer_emptied (Some y ∷ slots) (suc i) x e = let h = fewer_emptied slots i x e in omega (arith, h)
+
+  -- Rows that are equal.
+
+  module _ (same : A → A → Bool) (row : A) where
+    pub row_there : (o : Option (Option A)) → is_same_row same o row ≡ true → (x : A) × (o ≡ Some (Some x))
+        × (same x row ≡ true)
+    row_there None e = absurd (cc)
+    row_there (Some None) e = absurd (cc)
+    row_there (Some (Some x)) e = (x, refl, e)
+
+    pub differs : (slots : List (Option A)) → ((i : ℕ) → is_same_row same (slice_get slots i) row ≡ false)
+        → (i : ℕ) (x : A) → slice_get slots i ≡ Some (Some x) → not (same x row) ≡ true
+    differs slots apart i x e = ap not (sym (ap (λ o. is_same_row same o row) e) ∙ apart i)
+
+    module _ (number : A → ℕ) (agree : (x y : A) → same x y ≡ true → number x ≡ number y) (s : Slots A)
+        (found : AreIndexedBy number s) where
+      found_same : (place : ℕ) → is_same_row same (slice_get s.rows.items place) row ≡ true
+          → HasPlace s.places (number row) place
+      found_same place e = let h = row_there (slice_get s.rows.items place) e in
+          subst (λ n. HasPlace s.places n place) (agree h.0 row h.2) (found place h.0 h.1)
+
+      pub none_same : slice_get s.places.sets.items (number row) ≡ None → (place : ℕ)
+          → is_same_row same (slice_get s.rows.items place) row ≡ false
+      none_same none place = ⊎_elim
+          (λ (hit : is_same_row same (slice_get s.rows.items place) row ≡ true).
+          absurd (subst (λ (o : Option (BTreeSet ℕ)). IsSomeAnd o (λ set. contains nat_cmp set place ≡ true)) none
+          (found_same place hit)))
+          (λ (miss : is_same_row same (slice_get s.rows.items place) row ≡ false). miss)
+          (cases_Bool (is_same_row same (slice_get s.rows.items place) row))
+
+      pub none_there : (set : BTreeSet ℕ) → slice_get s.places.sets.items (number row) ≡ Some set
+          → ((place : ℕ) → IsIn place set.keys → is_same_row same (slice_get s.rows.items place) row ≡ false)
+          → (place : ℕ) → is_same_row same (slice_get s.rows.items place) row ≡ false
+      none_there set some apart place = ⊎_elim
+          (λ (hit : is_same_row same (slice_get s.rows.items place) row ≡ true).
+          apart place
+          (in_keys set.keys place
+          (subst (λ (o : Option (BTreeSet ℕ)). IsSomeAnd o (λ s'. contains nat_cmp s' place ≡ true)) some
+          (found_same place hit))))
+          (λ (miss : is_same_row same (slice_get s.rows.items place) row ≡ false). miss)
+          (cases_Bool (is_same_row same (slice_get s.rows.items place) row))
+
+    -- The row at this position is equal to the given one.
+    module _ (old new : Slots A) (place : ℕ) (held : is_same_row same (slice_get old.rows.items place) row ≡ true)
+        (emptied : new.rows.items ≡ rows_after_change_at (λ slot. None) place old.rows.items) where
+      h : (x : A) × (slice_get old.rows.items place ≡ Some (Some x)) × (same x row ≡ true)
+      h = row_there (slice_get old.rows.items place) held
+
+      items : new.rows.items ≡ slice_set old.rows.items place None
+      items = emptied
+          ∙ ap (λ (o : Option (Option A)). elim o [
+            | None ↦ old.rows.items
+            | Some slot ↦ slice_set old.rows.items place
+                None
+          ]) h.1
+
+      pub fewer_rows : length (rows_in new) < length (rows_in old)
+      fewer_rows = subst (λ l. length (rows_without_gaps l) < length (rows_in old)) (sym items)
+          (fewer_emptied old.rows.items place h.0 h.1)
+
+      pub others_stay : filter (λ x. not (same x row)) (rows_in new) ≡ filter (λ x. not (same x row)) (rows_in old)
+      others_stay = ap (λ l. filter (λ x. not (same x row)) (rows_without_gaps l)) items
+          ∙ filter_emptied (λ x. not (same x row)) old.rows.items place h.0 h.1 (ap not h.2)
+
+      pub place_in_bounds : place < vec_len old.rows
+      place_in_bounds = let w = slice_get_within old.rows.items place (Some h.0) h.1 in let len = old.rows.ok.0 in
+          omega (arith, w, len)
+
+    -- No row that is equal to the given one remains.
+    pub none_left : (s : Slots A) → ((place : ℕ) → is_same_row same (slice_get s.rows.items place) row ≡ false)
+        → rows_in s ≡ filter (λ x. not (same x row)) (rows_in s)
+    none_left s apart = sym (filter_whole (λ x. not (same x row)) s.rows.items (differs s.rows.items apart))

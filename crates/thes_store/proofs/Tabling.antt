@@ -1,9 +1,0 @@
--- Tests of equal rows.
-use Rattle.std.proofs.Common.{◌≡◌, refl, Bool, true, false, IsTrue}
-
-pub true_of : (b : Bool) → IsTrue b → b ≡ true
-true_of true h = refl
-true_of false h = absurd (cc)
-
-pub is_true_of : (b : Bool) → b ≡ true → IsTrue b
-is_true_of b e = e

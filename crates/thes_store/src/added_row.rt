@@ -1,0 +1,113 @@
+//! The rows that changes insert, and room for them.
+ghost use Rattle.std.specs.Prelude.{◌≡◌, ◌≤◌, ◌+◌, List, Option, length, vec_len, is_some, OnOk};
+ghost use Rattle.std.specs.Vec.{vec_capacity};
+ghost use Rattle.thes_tables.specs.declared.change.Change.{Change};
+ghost use Rattle.thes_store.specs.AddedRow.{rows_added_by};
+
+use std::alloc::AllocError;
+use thes_base::data::{Link, Resource};
+use thes_tables::change::Change;
+use thes_tables::rows::{HierRow, LabelRow, MoveRow, OutsideRow, PostingRow};
+
+/// A row of a table, as a change may insert one.
+pub trait AddedRow {
+    // The row that the change inserts into this table, if any.
+    ghost added_row: { Change → Option Self };
+
+    /// Returns whether the change inserts a row into this table.
+    fn is_added(change: &Change) -> bool
+        ensures { result ≡ is_some (added_row change.now) };
+}
+
+impl AddedRow for Resource {
+    ghost use Rattle.thes_store.specs.AddedRow.{added_resource};
+
+    ghost added_row = { added_resource };
+
+    fn is_added(change: &Change) -> bool {
+        matches!(change, Change::AddResource(_, _))
+    }
+}
+
+impl AddedRow for OutsideRow {
+    ghost use Rattle.thes_store.specs.AddedRow.{added_outside};
+
+    ghost added_row = { added_outside };
+
+    fn is_added(change: &Change) -> bool {
+        matches!(change, Change::AddOutside(_, _))
+    }
+}
+
+impl AddedRow for LabelRow {
+    ghost use Rattle.thes_store.specs.AddedRow.{added_label};
+
+    ghost added_row = { added_label };
+
+    fn is_added(change: &Change) -> bool {
+        matches!(change, Change::AddLabel(_))
+    }
+}
+
+impl AddedRow for Link {
+    ghost use Rattle.thes_store.specs.AddedRow.{added_link};
+
+    ghost added_row = { added_link };
+
+    fn is_added(change: &Change) -> bool {
+        matches!(change, Change::AddLink(_))
+    }
+}
+
+impl AddedRow for HierRow {
+    ghost use Rattle.thes_store.specs.AddedRow.{added_hier};
+
+    ghost added_row = { added_hier };
+
+    fn is_added(change: &Change) -> bool {
+        matches!(change, Change::AddHier(_))
+    }
+}
+
+impl AddedRow for PostingRow {
+    ghost use Rattle.thes_store.specs.AddedRow.{added_posting};
+
+    ghost added_row = { added_posting };
+
+    fn is_added(change: &Change) -> bool {
+        matches!(change, Change::AddPosting(_))
+    }
+}
+
+impl AddedRow for MoveRow {
+    ghost use Rattle.thes_store.specs.AddedRow.{added_move};
+
+    ghost added_row = { added_move };
+
+    fn is_added(change: &Change) -> bool {
+        matches!(change, Change::AddMove(_))
+    }
+}
+
+/// Counts the rows that changes insert into a table.
+pub fn count_added<T: AddedRow>(changes: &[Change]) -> usize
+    ensures { result ≡ length (rows_added_by T.added_row changes.now) }
+{
+    let mut count = 0;
+    for change in changes {
+        if T::is_added(change) {
+            count += 1;
+        }
+    }
+    count
+}
+
+/// Reserves memory in a table for the rows that changes insert.
+pub fn make_room<T: AddedRow>(rows: &mut Vec<T>, changes: &[Change]) -> Result<(), AllocError>
+    ensures items { rows.new.items ≡ rows.old.items }
+    ensures room { OnOk result
+        (vec_len rows.new + length (rows_added_by T.added_row changes.now)
+        ≤ vec_capacity rows.new) }
+{
+    rows.try_reserve(count_added::<T>(changes))
+}

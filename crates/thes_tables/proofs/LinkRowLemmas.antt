@@ -1,0 +1,313 @@
+-- Proves what insertions and deletions of links do to the tables link and hier.
+use Rattle.std.proofs.Common.{◌≡◌, ◌⊎◌, ℕ, List, [], ◌∷◌, ◌++◌, refl, sym, ap, ◌∙◌, subst, inl, inr, false, not, map}
+use Rattle.std.proofs.lemmas.Option.{same_Some}
+use Rattle.std.specs.Prelude.{Option, None, Some}
+use Rattle.std.specs.Ordering.{eq_by_cmp, is_eq}
+use Rattle.std.specs.Cmp.{tied_itself}
+use Rattle.std.specs.FinSet as set
+use Rattle.thes_base.specs.declared.data.Link.{Link}
+use Rattle.thes_base.specs.declared.data.LinkKind.{LinkKind}
+use Rattle.thes_base.specs.declared.data.LinkKind.TheVariants as kinds
+use Rattle.thes_base.specs.Links.{Links, HeldIn, link_cmp}
+use Rattle.thes_base.specs.State.{State}
+use Rattle.thes_base.proofs.LinkSetLemmas.{links_total, links_exact}
+use Rattle.thes_tables.specs.declared.rows.HierRow.{HierRow}
+use Rattle.thes_tables.specs.declared.rows.HierType.{HierType}
+use Rattle.thes_tables.specs.declared.rows.HierType.TheVariants as ht
+use Rattle.thes_tables.specs.declared.change.Change.{Change}
+use Rattle.thes_tables.specs.declared.change.Change.TheVariants as change
+use Rattle.thes_tables.specs.Tables.{Tables, IsRowsOf, IsListingOf, IsHierOf, IsLinkOf, hier_kind, hier_link, hier_type}
+use Rattle.thes_tables.specs.Rows.{tables_after_change, tables_after_delta, DeltaFits, ChangeFits}
+use Rattle.thes_tables.specs.Changes.{hier_row, add_link, drop_link, missing_items, without_all, links_to_remove}
+use Rattle.std.proofs.lemmas.Bool.{cases_Bool, not-true, not_from_false}
+use Rattle.thes_base.proofs.SetMemberLemmas.{inserted_cases, inserted_kept, inserted_new, removed_cases, removed_kept}
+use Rattle.thes_tables.proofs.RowSetLemmas.{clash, equal_of_tie, set_with_list, Absent, coming_same, coming_absent}
+use Rattle.thes_tables.proofs.RowSetLemmas.{turn_into, lists_push, lists_filter, lists_drop, lists_same}
+use Rattle.thes_tables.proofs.DeltaAppendLemmas.{all_append, fit_append}
+
+-- Rows of table hier, and the links that they encode.
+
+pub type_back : (typ : HierType) → hier_type (hier_kind typ) ≡ Some typ
+type_back ht.Untyped = refl
+type_back ht.Generic = refl
+type_back ht.Partitive = refl
+type_back ht.Instantial = refl
+
+-- A hierarchical kind is that of its type.
+kind_back : (kind : LinkKind) (typ : HierType) → hier_type kind ≡ Some typ → hier_kind typ ≡ kind
+kind_back kinds.Broader typ e = ap hier_kind (sym (same_Some ht.Untyped typ e))
+kind_back kinds.BroaderGeneric typ e = ap hier_kind (sym (same_Some ht.Generic typ e))
+kind_back kinds.BroaderPartitive typ e = ap hier_kind (sym (same_Some ht.Partitive typ e))
+kind_back kinds.BroaderInstantial typ e = ap hier_kind (sym (same_Some ht.Instantial typ e))
+kind_back kinds.Related typ e = absurd (cc)
+kind_back kinds.Exact typ e = absurd (cc)
+kind_back kinds.Close typ e = absurd (cc)
+kind_back kinds.Broad typ e = absurd (cc)
+kind_back kinds.Narrow typ e = absurd (cc)
+kind_back kinds.RelMatch typ e = absurd (cc)
+kind_back kinds.Member typ e = absurd (cc)
+
+-- The row of a hierarchical link encodes it, and no other row does.
+pub link_of_hier_row : (l : Link) (typ : HierType) → hier_type l.kind ≡ Some typ → hier_link (hier_row typ l) ≡ l
+link_of_hier_row l typ e = λ i. record { kind = kind_back l.kind typ e i; a = l.a; b = l.b }
+
+only_row : (l : Link) (typ : HierType) (row : HierRow) → hier_type l.kind ≡ Some typ → hier_link row ≡ l → row
+    ≡ hier_row typ l
+only_row l typ row e same =
+    let kind = same_Some row.typ typ (sym (type_back row.typ) ∙ ap (λ (x : Link). hier_type x.kind) same ∙ e) in
+    let a = ap (λ (x : Link). x.a) same in
+    let b = ap (λ (x : Link). x.b) same in
+    λ i. record { a = a i; b = b i; typ = kind i }
+
+-- No row of table hier encodes a link that isn't hierarchical.
+no_hier_row : (l : Link) (row : HierRow) → hier_type l.kind ≡ None → hier_link row ≡ l → ⊥
+no_hier_row l row none same = let e = sym (type_back row.typ) ∙ ap (λ (x : Link). hier_type x.kind) same ∙ none in
+    absurd (cc)
+
+-- The tables link and hier encode the links.
+pub record LinkRows (links : Links) (t : Tables) : Type 0 where
+  pub link : IsListingOf (IsLinkOf links) t.link
+  pub hier : IsListingOf (IsHierOf links) t.hier
+
+pub link_rows_of_tables : {base : List ℕ} {s : State} {t : Tables} → IsRowsOf base s t → LinkRows s.links t
+link_rows_of_tables is = record { link = is.link; hier = is.hier }
+
+-- Insertion of one link.
+module _ (l : Link) (links : Links) (t : Tables) where
+  abbrev more : Links
+  more = set.insert links l
+
+  more_cases : (q : Link) → HeldIn more q → (q ≡ l) ⊎ HeldIn links q
+  more_cases q h = inserted_cases links_total links_exact links l q h
+
+  more_kept : (q : Link) → HeldIn links q → HeldIn more q
+  more_kept q h = inserted_kept links_total links_exact links l q h
+
+  more_new : HeldIn more l
+  more_new = inserted_new links_total links_exact links l
+
+  -- Into table link.
+  link_plain : hier_type l.kind ≡ None → set.contains links l ≡ false → LinkRows links t
+      → LinkRows more (record t { link = t.link ++ l ∷ [] })
+  link_plain none out are = record {
+    link = lists_push t.link l (λ h. clash (set.contains links l) h.0 out)
+        (λ q h. elim (more_cases q h.0) [ inl e ↦ inl e | inr old ↦ inr (old, h.1) ]) (more_new, none)
+        (λ q h. (more_kept q h.0, h.1)) are.link;
+    hier = lists_same t.hier (λ row h. more_kept (hier_link row) h)
+        (λ row h. elim (more_cases (hier_link row) h) [ inl e ↦ absurd (no_hier_row l row none e) | inr old ↦ old ])
+        are.hier;
+  }
+
+  -- Into table hier.
+  link_hier : (typ : HierType) → hier_type l.kind ≡ Some typ → set.contains links l ≡ false → LinkRows links t
+      → LinkRows more (record t { hier = t.hier ++ hier_row typ l ∷ [] })
+  link_hier typ e out are = record {
+    link = lists_same t.link (λ q h. (more_kept q h.0, h.1))
+        (λ q h. elim (more_cases q h.0) [ inl same ↦ absurd (other q same h.1) | inr old ↦ (old, h.1) ]) are.link;
+    hier = lists_push t.hier (hier_row typ l)
+        (λ h. clash (set.contains links l) (subst (HeldIn links) (link_of_hier_row l typ e) h) out)
+        (λ row h. elim (more_cases (hier_link row) h) [
+          | inl same ↦ inl (only_row l typ row e same)
+          | inr old ↦ inr old
+        ]) (subst (HeldIn more) (sym (link_of_hier_row l typ e)) more_new)
+        (λ row h. more_kept (hier_link row) h) are.hier;
+  }
+    where
+      other : (q : Link) → q ≡ l → hier_type q.kind ≡ None → ⊥
+      other q same none = let both = sym none ∙ ap (λ (x : Link). hier_type x.kind) same ∙ e in absurd (cc)
+
+  pub link_in : set.contains links l ≡ false → LinkRows links t → LinkRows more (tables_after_change (add_link l) t)
+  link_in out are = go (hier_type l.kind) refl
+    where
+      go : (o : Option HierType) → hier_type l.kind ≡ o
+          → LinkRows more
+          (tables_after_change (elim o [ None ↦ change.AddLink l | Some typ ↦ change.AddHier (hier_row typ l) ]) t)
+      go None e = link_plain e out are
+      go (Some typ) e = link_hier typ e out are
+
+  pub link_fits : set.contains links l ≡ false → LinkRows links t → ChangeFits (add_link l) t
+  link_fits out are = go (hier_type l.kind) refl
+    where
+      go : (o : Option HierType) → hier_type l.kind ≡ o
+          → ChangeFits (elim o [ None ↦ change.AddLink l | Some typ ↦ change.AddHier (hier_row typ l) ]) t
+      go None e = λ h. clash (set.contains links l) (are.link.sound l h).0 out
+      go (Some typ) e =
+          λ h. clash (set.contains links l) (subst (HeldIn links) (link_of_hier_row l typ e)
+          (are.hier.sound (hier_row typ l) h)) out
+
+-- Deletion of one link.
+module _ (l : Link) (links : Links) (t : Tables) where
+  abbrev less : Links
+  less = set.remove links l
+
+  less_cases : (q : Link) → HeldIn less q → (q ≡ l → ⊥) × HeldIn links q
+  less_cases q h = removed_cases links_total links_exact links l q h
+
+  less_kept : (q : Link) → (q ≡ l → ⊥) → HeldIn links q → HeldIn less q
+  less_kept q ne h = removed_kept links_total links_exact links l q ne h
+
+  -- From table link.
+  drop_plain : hier_type l.kind ≡ None → LinkRows links t → LinkRows less (tables_after_change (change.DropLink l) t)
+  drop_plain none are = record {
+    link = lists_drop links_total links_exact t.link l (λ q h. let c = less_cases q h.0 in (c.0, (c.1, h.1)))
+        (λ q ne h. (less_kept q ne h.0, h.1)) are.link;
+    hier = lists_same t.hier (λ row h. less_kept (hier_link row) (no_hier_row l row none) h)
+        (λ row h. (less_cases (hier_link row) h).1) are.hier;
+  }
+
+  -- From table hier.
+  drop_hier : (typ : HierType) → hier_type l.kind ≡ Some typ → LinkRows links t
+      → LinkRows less (tables_after_change (change.DropHier (hier_row typ l)) t)
+  drop_hier typ e are = record {
+    link = lists_same t.link (λ q h. (less_kept q (other q h.1) h.0, h.1)) (λ q h. ((less_cases q h.0).1, h.1))
+        are.link;
+    hier = lists_filter (λ x. not (eq_by_cmp link_cmp (hier_link x) (hier_link (hier_row typ l)))) t.hier
+        (λ row h. let c = less_cases (hier_link row) h in (
+          c.1,
+          not_from_false _
+              (elim (cases_Bool (eq_by_cmp link_cmp (hier_link row) (hier_link (hier_row typ l)))) [
+                | inl same ↦ absurd (c.0 (equal_of_tie links_total links_exact _ _ same ∙ link_of_hier_row l typ e))
+                | inr ne ↦ ne
+              ]),
+        ))
+        (λ row h passes. less_kept (hier_link row)
+        (λ same. clash (eq_by_cmp link_cmp (hier_link row) (hier_link (hier_row typ l)))
+        (ap (eq_by_cmp link_cmp (hier_link row)) (link_of_hier_row l typ e ∙ sym same)
+        ∙ ap is_eq (tied_itself links_total (hier_link row))) (not-true _ passes)) h)
+        are.hier;
+  }
+    where
+      other : (q : Link) → hier_type q.kind ≡ None → q ≡ l → ⊥
+      other q none same = let both = sym none ∙ ap (λ (x : Link). hier_type x.kind) same ∙ e in absurd (cc)
+
+  pub link_out : LinkRows links t → LinkRows less (tables_after_change (drop_link l) t)
+  link_out are = go (hier_type l.kind) refl
+    where
+      go : (o : Option HierType) → hier_type l.kind ≡ o
+          → LinkRows less
+          (tables_after_change (elim o [ None ↦ change.DropLink l | Some typ ↦ change.DropHier (hier_row typ l) ]) t)
+      go None e = drop_plain e are
+      go (Some typ) e = drop_hier typ e are
+
+-- Insertions and deletions of links change only the tables link and hier.
+
+abbrev pub with_link_tables : Tables → Tables → Tables
+with_link_tables t u = record t { link = u.link; hier = u.hier }
+
+pub added_only : (l : Link) (t : Tables) → tables_after_change (add_link l) t
+    ≡ with_link_tables t (tables_after_change (add_link l) t)
+added_only l t = go (hier_type l.kind)
+  where
+    go : (o : Option HierType)
+        → tables_after_change (elim o [ None ↦ change.AddLink l | Some typ ↦ change.AddHier (hier_row typ l) ]) t
+        ≡ with_link_tables t
+        (tables_after_change (elim o [ None ↦ change.AddLink l | Some typ ↦ change.AddHier (hier_row typ l) ]) t)
+    go None = refl
+    go (Some typ) = refl
+
+pub dropped_only : (l : Link) (t : Tables) → tables_after_change (drop_link l) t
+    ≡ with_link_tables t (tables_after_change (drop_link l) t)
+dropped_only l t = go (hier_type l.kind)
+  where
+    go : (o : Option HierType)
+        → tables_after_change (elim o [ None ↦ change.DropLink l | Some typ ↦ change.DropHier (hier_row typ l) ]) t
+        ≡ with_link_tables t
+        (tables_after_change (elim o [ None ↦ change.DropLink l | Some typ ↦ change.DropHier (hier_row typ l) ]) t)
+    go None = refl
+    go (Some typ) = refl
+
+pub drop_fits : (l : Link) (t : Tables) → ChangeFits (drop_link l) t
+drop_fits l t = go (hier_type l.kind)
+  where
+    go : (o : Option HierType)
+        → ChangeFits (elim o [ None ↦ change.DropLink l | Some typ ↦ change.DropHier (hier_row typ l) ]) t
+    go None = tt
+    go (Some typ) = tt
+
+-- Insertions and deletions of several links.
+
+all_added_only : (ls : List Link) (t : Tables) → tables_after_delta (map add_link ls) t
+    ≡ with_link_tables t (tables_after_delta (map add_link ls) t)
+all_added_only [] t = refl
+all_added_only (l ∷ ls) t = all_added_only ls (tables_after_change (add_link l) t)
+    ∙ ap (λ u. with_link_tables u (tables_after_delta (map add_link ls) (tables_after_change (add_link l) t)))
+    (added_only l t)
+
+all_dropped_only : (ls : List Link) (t : Tables) → tables_after_delta (map drop_link ls) t
+    ≡ with_link_tables t (tables_after_delta (map drop_link ls) t)
+all_dropped_only [] t = refl
+all_dropped_only (l ∷ ls) t = all_dropped_only ls (tables_after_change (drop_link l) t)
+    ∙ ap (λ u. with_link_tables u (tables_after_delta (map drop_link ls) (tables_after_change (drop_link l) t)))
+    (dropped_only l t)
+
+added_rows : (ls : List Link) (links : Links) (t : Tables) → Absent links_total links_exact ls links
+    → LinkRows links t → LinkRows (set_with_list links_total links_exact ls links)
+    (tables_after_delta (map add_link ls) t)
+added_rows [] links t a are = are
+added_rows (l ∷ ls) links t a are = added_rows ls (set.insert links l) (tables_after_change (add_link l) t) a.1
+    (link_in l links t a.0 are)
+
+added_fit : (ls : List Link) (links : Links) (t : Tables) → Absent links_total links_exact ls links → LinkRows links t
+    → DeltaFits (map add_link ls) t
+added_fit [] links t a are = tt
+added_fit (l ∷ ls) links t a are = (
+  link_fits l links t a.0 are,
+  added_fit ls (set.insert links l) (tables_after_change (add_link l) t) a.1
+      (link_in l links t a.0 are),
+)
+
+dropped_rows : (ls : List Link) (links : Links) (t : Tables) → LinkRows links t → LinkRows (without_all ls links)
+    (tables_after_delta (map drop_link ls) t)
+dropped_rows [] links t are = are
+dropped_rows (l ∷ ls) links t are = dropped_rows ls (set.remove links l) (tables_after_change (drop_link l) t)
+    (link_out l links t are)
+
+dropped_fit : (ls : List Link) (t : Tables) → DeltaFits (map drop_link ls) t
+dropped_fit [] t = tt
+dropped_fit (l ∷ ls) t = (drop_fits l t, dropped_fit ls (tables_after_change (drop_link l) t))
+
+-- Deletions, then insertions.
+
+abbrev pub drops_then_adds : List Link → List Link → List Change
+drops_then_adds go come = map drop_link go ++ map add_link come
+
+module _ (old new : Links) (go come : List Link) (absent_all : Absent links_total links_exact come
+    (without_all go old)) (same : set_with_list links_total links_exact come (without_all go old) ≡ new)
+    (t : Tables) where
+  abbrev tables_after_drops : Tables
+  tables_after_drops = tables_after_delta (map drop_link go) t
+
+  split_drops_and_adds : tables_after_delta (drops_then_adds go come) t ≡ tables_after_delta (map add_link come)
+      tables_after_drops
+  split_drops_and_adds = all_append (map drop_link go) (map add_link come) t
+
+  pub drops_then_adds_only : tables_after_delta (drops_then_adds go come) t
+      ≡ with_link_tables t (tables_after_delta (drops_then_adds go come) t)
+  drops_then_adds_only = subst (λ u. u ≡ with_link_tables t u) (sym split_drops_and_adds)
+      (all_added_only come tables_after_drops
+      ∙ ap (λ u. with_link_tables u (tables_after_delta (map add_link come) tables_after_drops))
+      (all_dropped_only go t))
+
+  pub drops_then_adds_rows : LinkRows old t → LinkRows new (tables_after_delta (drops_then_adds go come) t)
+  drops_then_adds_rows are = subst (LinkRows new) (sym split_drops_and_adds)
+      (subst (λ x. LinkRows x (tables_after_delta (map add_link come) tables_after_drops)) same
+      (added_rows come (without_all go old) tables_after_drops absent_all (dropped_rows go old t are)))
+
+  pub drops_then_adds_fit : LinkRows old t → DeltaFits (drops_then_adds go come) t
+  drops_then_adds_fit are = fit_append (map drop_link go) (map add_link come) t (dropped_fit go t)
+      (added_fit come (without_all go old) tables_after_drops absent_all (dropped_rows go old t are))
+
+-- The deletions and insertions that turn one set of links into another.
+module _ (old new : Links) where
+  abbrev links_kept : Links
+  links_kept = without_all (links_to_remove old new) old
+
+  abbrev pub links_to_add : List Link
+  links_to_add = missing_items links_kept (set.items new)
+
+  pub links_to_add_absent : Absent links_total links_exact links_to_add links_kept
+  links_to_add_absent = coming_absent links_total links_exact (set.items new) links_kept
+
+  pub links_to_add_suffice : set_with_list links_total links_exact links_to_add links_kept ≡ new
+  links_to_add_suffice = coming_same links_total links_exact (set.items new) links_kept
+      ∙ turn_into links_total links_exact old new

@@ -1,0 +1,92 @@
+-- The index of live concepts is complete after a resource is added or marked as dead.
+use Rattle.std.proofs.Common.{◌≡◌, ◌≢◌, ◌⊎◌, inl, inr, ℕ, ◌+◌, length, List, [], ◌∷◌, ◌++◌, refl, sym, ◌∙◌, subst}
+use Rattle.std.specs.Prelude.{Option, None, Some}
+use Rattle.std.specs.Option.{MatchOption}
+use Rattle.std.specs.Ordering.{nat_cmp}
+use Rattle.std.proofs.lemmas.Cmp.{nat_cmp_total}
+use Rattle.std.proofs.lemmas.Map.Lookups.{exact_unsigned}
+use Rattle.std.proofs.lemmas.Bool.{cases_eq}
+use Rattle.thes_base.specs.declared.data.Resource.{Resource}
+use Rattle.thes_base.specs.Resources.{entry_at, set_entry_at, scheme_of}
+use Rattle.thes_base.specs.Changes.{dead}
+use Rattle.thes_base.proofs.UniquePreferredLemmas.{live_before}
+use Rattle.thes_base.proofs.NumberedLemmas.{push_old, push_new, push_cases, numbered_bound, set_other}
+use Rattle.thes_base.proofs.ResourceLemmas.{scheme_at}
+use Rattle.thes_lists.specs.declared.lists.Lists.{Lists}
+use Rattle.thes_lists.specs.Lists.{AreListings}
+use Rattle.thes_lists.proofs.ListingLemmas.{listings_same, listings_insert, listings_remove}
+use Rattle.std.proofs.lemmas.Option.{same_Some}
+use Rattle.thes_vocab.specs.Vocabulary.{IsConceptIn, IsConceptOf}
+use Rattle.thes_vocab.specs.ConceptLists.{ConceptListsAfterInsert, ConceptListsAfterRemove}
+
+-- A concept of a scheme is the new resource, or was one before.
+pub concept_cases : (rs : List Resource) (r : Resource) (scheme n : ℕ) → IsConceptOf (rs ++ r ∷ []) scheme n
+    → IsConceptOf rs scheme n ⊎ ((n ≡ length rs + 1) × IsConceptIn scheme r)
+concept_cases rs r scheme n c = elim (push_cases rs r c.0.0 n c.0.1) [
+  | inl was ↦ inl ((c.0.0, was, c.0.2), scheme_at rs n c.0.0 was ∙ sym (scheme_at (rs ++ r ∷ []) n c.0.0 c.0.1) ∙ c.1)
+  | inr new ↦ inr (new.0, subst (IsConceptIn scheme) new.1 (c.0.2, sym (scheme_at (rs ++ r ∷ []) n c.0.0 c.0.1) ∙ c.1))
+]
+
+-- A new concept is added to its scheme's list.
+module _ (rs : List Resource) (r : Resource) (old new : Lists ℕ) where
+  abbrev resources_with_new : List Resource
+  resources_with_new = rs ++ r ∷ []
+
+  concept_stays : (s n : ℕ) → IsConceptOf rs s n → IsConceptOf resources_with_new s n
+  concept_stays s n c = let at = push_old rs r c.0.0 n c.0.1 in
+      ((c.0.0, at, c.0.2), scheme_at resources_with_new n c.0.0 at ∙ sym (scheme_at rs n c.0.0 c.0.1) ∙ c.1)
+
+  concept_comes : (s : ℕ) → IsConceptIn s r → IsConceptOf resources_with_new s (length rs + 1)
+  concept_comes s is = ((r, push_new rs r, is.0), scheme_at resources_with_new (length rs + 1) r (push_new rs r) ∙ is.1)
+
+  pub listed_made : (o : Option ℕ) → MatchOption o ((scheme : ℕ) → IsConceptIn scheme r → ⊥)
+      (λ scheme. IsConceptIn scheme r) → ConceptListsAfterInsert old new o (length rs + 1)
+      → AreListings nat_cmp (IsConceptOf rs) old → AreListings nat_cmp (IsConceptOf resources_with_new) new
+  listed_made None none same listed =
+      listings_same nat_cmp (IsConceptOf rs) (IsConceptOf resources_with_new) old new same concept_stays
+      (λ s n c. elim (concept_cases rs r s n c) [ inl was ↦ was | inr is ↦ absurd (none s is.1) ]) listed
+  listed_made (Some scheme) is changes listed =
+      listings_insert nat_cmp nat_cmp_total exact_unsigned (IsConceptOf rs) (IsConceptOf resources_with_new) old new
+      scheme (length rs + 1) listed changes (concept_comes scheme is) concept_stays
+      (λ s n c. elim (concept_cases rs r s n c)
+      [ inl was ↦ inl was | inr made ↦ inr (same_Some _ _ (sym made.1.1 ∙ is.1), made.0) ])
+
+-- A concept marked as dead is removed from its scheme's list.
+module _ (rs : List Resource) (n : ℕ) (replaced : Option ℕ) (r : Resource) (at : entry_at rs n ≡ Some r)
+    (old new : Lists ℕ) where
+  abbrev resources_with_dead : List Resource
+  resources_with_dead = set_entry_at rs n (dead replaced r)
+
+  concept_before : (s m : ℕ) → IsConceptOf resources_with_dead s m → IsConceptOf rs s m × (m ≢ n)
+  concept_before s m c = let was = live_before rs n replaced r at m c.0 in ((was.1, sym was.2 ∙ c.1), was.0)
+
+  -- Any other concept is still one, and this one was one of its scheme.
+  concept_after : (s m : ℕ) → IsConceptOf rs s m → IsConceptOf resources_with_dead s m ⊎ ((r.scheme ≡ Some s) × (m ≡ n))
+  concept_after s m c = elim (cases_eq m n) [
+    | inl same ↦ inr (sym (scheme_at rs n r at) ∙ subst (λ k. scheme_of rs k ≡ Some s) same c.1, same)
+    | inr apart ↦
+        let stays = set_other rs (dead replaced r) c.0.0 n m (numbered_bound rs n r at).0 apart c.0.1 in
+        inl (
+          (c.0.0, stays, c.0.2),
+          scheme_at resources_with_dead m c.0.0 stays ∙ sym (scheme_at rs m c.0.0 c.0.1)
+              ∙ c.1,
+        )
+  ]
+
+  pub listed_dead : (o : Option ℕ) → r.scheme ≡ o → ConceptListsAfterRemove old new o n
+      → AreListings nat_cmp (IsConceptOf rs) old → AreListings nat_cmp (IsConceptOf resources_with_dead) new
+  listed_dead None is same listed =
+      listings_same nat_cmp (IsConceptOf rs) (IsConceptOf resources_with_dead) old new same
+      (λ s m c. elim (concept_after s m c) [ inl stays ↦ stays | inr here ↦ absurd (let e = sym is ∙ here.0 in cc) ])
+      (λ s m c. (concept_before s m c).0) listed
+  listed_dead (Some scheme) is changes listed =
+      listings_remove nat_cmp nat_cmp_total exact_unsigned (IsConceptOf rs) (IsConceptOf resources_with_dead) old new
+      scheme n listed changes (λ c. (concept_before scheme n c).1 refl)
+      (λ s m c. elim (concept_after s m c) [
+        | inl stays ↦ inl stays
+        | inr here ↦ inr (
+          same_Some _ _ (sym here.0 ∙ is),
+          here.1,
+        )
+      ])
+      (λ s m c. (concept_before s m c).0)

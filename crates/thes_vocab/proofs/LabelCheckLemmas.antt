@@ -1,0 +1,434 @@
+-- The checks of a label agree with the conditions on labels after it is added, removed or replaced.
+use Rattle.std.proofs.Common.{◌≡◌, ◌≢◌, ◌⊎◌, ◌≤◌, inl, inr, ℕ, ◌+◌, length, List, [], ◌∷◌, ◌++◌, refl, sym, ap, ◌∙◌}
+use Rattle.std.proofs.Common.{subst, Bool, true, false, Bor}
+use Rattle.std.specs.Prelude.{Option, None, Some}
+use Rattle.std.specs.Option.{MatchOption, is_some}
+use Rattle.std.specs.Bool.{MatchBool}
+use Rattle.std.specs.FinSet as set
+use Rattle.std.proofs.lemmas.Bool.{or_cases, true≢false, cases_eq}
+use Rattle.thes_base.specs.declared.data.Resource.{Resource}
+use Rattle.thes_base.specs.declared.data.LabelKind.{LabelKind}
+use Rattle.thes_base.specs.declared.data.LabelKind.TheVariants.{Pref, Alt, Hidden, Scope}
+use Rattle.thes_base.specs.declared.data.LabelValue.{LabelValue}
+use Rattle.thes_base.specs.declared.data.LabelValue.TheVariants as values
+use Rattle.thes_base.specs.Data.{label_value_kind}
+use Rattle.thes_base.specs.Resources.{IsLiveConcept, IsScheme, Exists, scheme_of}
+use Rattle.thes_base.specs.Labels.{Label, Labels, HasLabel, is_lexical_kind, preferred_label_in, S13, S14}
+use Rattle.thes_base.specs.Labels.{UniquePreferred, IsPreferredTaken}
+use Rattle.thes_base.specs.declared.fault.Refusal.{Refusal}
+use Rattle.thes_base.specs.declared.fault.Refusal.TheVariants as no
+use Rattle.thes_base.specs.RefusalRules.{accepted}
+use Rattle.thes_base.specs.Legal.{LegalLabels}
+use Rattle.thes_base.specs.Changes.{label, concept_resource, has_lexical_label, replace_preferred, labels_after_relabel}
+use Rattle.thes_base.specs.Refusals.{LeavesPreferred, unless_relabel, unless_scheme, unless_unique}
+use Rattle.thes_base.proofs.LabelSetLemmas.{inserted_cases, inserted_kept, inserted_new}
+use Rattle.thes_base.proofs.LabelSetLemmas.{same_or_not as same_label_or_not}
+use Rattle.thes_base.proofs.CopiedLabelLemmas.{name_of}
+use Rattle.thes_base.proofs.PreferredLemmas.{preferred_found, preferred_of_label}
+use Rattle.thes_base.proofs.ReplacePreferredLemmas.{IsReplacedLabel, renamed_cases, renamed_fresh, renamed_old}
+use Rattle.thes_base.proofs.ReplacePreferredLemmas.{renamed_kept}
+use Rattle.thes_base.proofs.UniquePreferredLemmas.{made_unique, taken_breaks}
+use Rattle.thes_base.proofs.ConditionLemmas.{owner_exists}
+use Rattle.thes_base.proofs.NumberedLemmas.{numbered_bound}
+use Rattle.std.proofs.lemmas.Option.{same_Some}
+use Rattle.thes_vocab.specs.Vocabulary.{IsHolder}
+use Rattle.thes_vocab.specs.Rivals.{HasRival, HasTwoPreferred, HasClash}
+
+-- A label that a look-up returns is the preferred label in the language.
+pub preferred_is : (labels : Labels) (owner : ℕ) (tag : List ℕ) → S14 labels → (o : Option (List ℕ))
+    → MatchOption o ((text : List ℕ) → HasLabel labels owner Pref tag text → ⊥) (HasLabel labels owner Pref tag) → o
+    ≡ preferred_label_in labels owner tag
+preferred_is labels owner tag s14 o h = go (preferred_label_in labels owner tag) refl o h
+  where
+    never : {x : List ℕ} → preferred_label_in labels owner tag ≡ None → preferred_label_in labels owner tag ≡ Some x → ⊥
+    never {x} e f = let g = sym e ∙ f in cc
+
+    go : (p : Option (List ℕ)) → preferred_label_in labels owner tag ≡ p → (o : Option (List ℕ))
+        → MatchOption o ((text : List ℕ) → HasLabel labels owner Pref tag text → ⊥) (HasLabel labels owner Pref tag)
+        → o ≡ p
+    go None is None h = refl
+    go None is (Some text) h = absurd (never is (preferred_of_label labels owner tag text h).1)
+    go (Some x) is None h = absurd (h x (preferred_found labels owner tag x is))
+    go (Some x) is (Some text) h = ap Some (s14 owner tag text x h (preferred_found labels owner tag x is))
+
+-- Owners are numbers of resources.
+pub owners_bound : (rs : List Resource) (labels : Labels) → LegalLabels rs labels → (l : Label)
+    → set.contains labels l ≡ true → (1 ≤ l.owner) × (l.owner ≤ length rs)
+owners_bound rs labels legal l held = let at = owner_exists rs l.owner (legal.owners l held) in
+    numbered_bound rs l.owner at.0 at.1
+
+-- A name is a label of one of the three kinds.
+
+pub kind_of_name : (labels : Labels) (owner : ℕ) (tag text : List ℕ) → has_lexical_label labels owner tag text ≡ true
+    → (k : LabelKind) × (is_lexical_kind k ≡ true) × HasLabel labels owner k tag text
+kind_of_name labels owner tag text e = elim (or_cases _ _ e) [
+  | inl first ↦ elim (or_cases _ _ first) [ inl pref ↦ (Pref, refl, pref) | inr alt ↦ (Alt, refl, alt) ]
+  | inr hidden ↦ (Hidden, refl, hidden)
+]
+
+-- Conditions on the labels when a label is added.
+
+module _ (labels : Labels) (l : Label) where
+  abbrev labels_with_new : Labels
+  labels_with_new = set.insert labels l
+
+  pub breaks_s13 : set.contains labels l ≡ false → is_lexical_kind l.kind ≡ true → has_lexical_label labels l.owner
+      l.tag l.text ≡ true → S13 labels_with_new → ⊥
+  breaks_s13 new name has s13 =
+      let other = kind_of_name labels l.owner l.tag l.text has in
+      let same = s13 l.owner l.kind other.0 l.tag l.text name other.1 (inserted_new labels l)
+      (inserted_kept labels l _ other.2) in
+      true≢false (sym (subst (λ k. HasLabel labels l.owner k l.tag l.text) (sym same) other.2) ∙ new)
+
+  -- SKOS S13 is kept if the label is no name, or its owner lacks the text in the language.
+  pub keeps_s13 : S13 labels → (is_lexical_kind l.kind ≡ false) ⊎ (has_lexical_label labels l.owner l.tag l.text
+      ≡ false) → S13 labels_with_new
+  keeps_s13 s13 apart owner j k tag text nj nk hj hk = go (inserted_cases labels l _ hj) (inserted_cases labels l _ hk)
+    where
+      never : (k : LabelKind) (n : LabelKind) → is_lexical_kind n ≡ true → is_lexical_kind k ≡ true
+          → label owner n tag text ≡ l → HasLabel labels owner k tag text → (is_lexical_kind l.kind ≡ false)
+          ⊎ (has_lexical_label labels l.owner l.tag l.text ≡ false) → ⊥
+      never k n nn nk is held (inl note) = true≢false (sym (ap (λ (x : Label). is_lexical_kind x.kind) (sym is) ∙ nn)
+          ∙ note)
+      never k n nn nk is held (inr free) =
+          true≢false (sym (ap (λ (x : Label). has_lexical_label labels x.owner x.tag x.text) (sym is)
+          ∙ name_of labels owner k tag text nk held) ∙ free)
+
+      go : (label owner j tag text ≡ l) ⊎ HasLabel labels owner j tag text → (label owner k tag text ≡ l)
+          ⊎ HasLabel labels owner k tag text → j ≡ k
+      go (inl a) (inl b) = ap (λ (x : Label). x.kind) a ∙ sym (ap (λ (x : Label). x.kind) b)
+      go (inl a) (inr b) = absurd (never k j nj nk a b apart)
+      go (inr a) (inl b) = absurd (never j k nk nj b a apart)
+      go (inr a) (inr b) = s13 owner j k tag text nj nk a b
+
+  pub breaks_s14 : set.contains labels l ≡ false → l.kind ≡ Pref → (text : List ℕ) → HasLabel labels l.owner Pref
+      l.tag text → S14 labels_with_new → ⊥
+  breaks_s14 new is text has s14 =
+      let held : HasLabel labels_with_new l.owner Pref l.tag l.text =
+      subst (λ k. HasLabel labels_with_new l.owner k l.tag l.text) is (inserted_new labels l) in
+      let same = s14 l.owner l.tag l.text text held (inserted_kept labels l _ has) in
+      true≢false
+      (sym (subst (λ (p : LabelKind × List ℕ). HasLabel labels l.owner p.0 l.tag p.1)
+      (λ i. (sym is i, sym same i)) has) ∙ new)
+
+  -- SKOS S14 is kept if the label isn't a preferred one, or its owner has none in the language.
+  pub keeps_s14 : S14 labels → (l.kind ≢ Pref) ⊎ ((text : List ℕ) → HasLabel labels l.owner Pref l.tag text → ⊥)
+      → S14 labels_with_new
+  keeps_s14 s14 apart owner tag x y hx hy = go (inserted_cases labels l _ hx) (inserted_cases labels l _ hy)
+    where
+      never : (z w : List ℕ) → label owner Pref tag z ≡ l → HasLabel labels owner Pref tag w → (l.kind ≢ Pref)
+          ⊎ ((text : List ℕ) → HasLabel labels l.owner Pref l.tag text → ⊥) → ⊥
+      never z w is held (inl other) = other (sym (ap (λ (q : Label). q.kind) is))
+      never z w is held (inr none) = none w (subst (λ (q : Label). HasLabel labels q.owner Pref q.tag w) is held)
+
+      go : (label owner Pref tag x ≡ l) ⊎ HasLabel labels owner Pref tag x → (label owner Pref tag y ≡ l)
+          ⊎ HasLabel labels owner Pref tag y → x ≡ y
+      go (inl a) (inl b) = ap (λ (q : Label). q.text) a ∙ sym (ap (λ (q : Label). q.text) b)
+      go (inl a) (inr b) = absurd (never x y a b apart)
+      go (inr a) (inl b) = absurd (never y x b a apart)
+      go (inr a) (inr b) = s14 owner tag x y a b
+
+  module _ (rs : List Resource) where
+    pub breaks_unique : l.kind ≡ Pref → HasRival rs labels l.owner l.tag l.text → UniquePreferred rs labels_with_new → ⊥
+    breaks_unique is rival p1 =
+        rival.other (p1 rival.rival l.owner rival.scheme l.tag l.text rival.holder.0.0 rival.concept rival.holder.0.1
+        rival.within (inserted_kept labels l _ rival.holder.1)
+        (subst (λ k. HasLabel labels_with_new l.owner k l.tag l.text) is (inserted_new labels l)))
+
+    -- Preferred labels are still unique in each scheme if the label isn't a preferred one, or has no rival.
+    pub keeps_unique : UniquePreferred rs labels → (l.kind ≢ Pref) ⊎ (HasRival rs labels l.owner l.tag l.text → ⊥)
+        → UniquePreferred rs labels_with_new
+    keeps_unique p1 apart m n scheme tag text lm ln sm sn hm hn =
+        go (inserted_cases labels l _ hm) (inserted_cases labels l _ hn) (cases_eq n m)
+      where
+        rival_at : (m n : ℕ) → label m Pref tag text ≡ l → HasLabel labels n Pref tag text → n ≢ m
+            → IsLiveConcept rs m → scheme_of rs m ≡ Some scheme → IsLiveConcept rs n → scheme_of rs n ≡ Some scheme
+            → (l.kind ≢ Pref) ⊎ (HasRival rs labels l.owner l.tag l.text → ⊥) → ⊥
+        rival_at m n is held differ lm sm ln sn (inl other) = other (sym (ap (λ (q : Label). q.kind) is))
+        rival_at m n is held differ lm sm ln sn (inr none) =
+            none (subst (λ (q : Label). HasRival rs labels q.owner q.tag q.text) is
+            (record {
+              scheme = scheme;
+              rival = n;
+              concept = lm;
+              within = sm;
+              holder = ((ln, sn), held);
+              other =
+                  differ;
+            }))
+
+        go : (label m Pref tag text ≡ l) ⊎ HasLabel labels m Pref tag text → (label n Pref tag text ≡ l)
+            ⊎ HasLabel labels n Pref tag text → (n ≡ m) ⊎ (n ≢ m) → m ≡ n
+        go a b (inl same) = sym same
+        go (inl a) (inl b) (inr differ) = ap (λ (x : Label). x.owner) a ∙ sym (ap (λ (x : Label). x.owner) b)
+        go (inl a) (inr b) (inr differ) = absurd (rival_at m n a b differ lm sm ln sn apart)
+        go (inr a) (inl b) (inr differ) = absurd (rival_at n m b a (λ e. differ (sym e)) ln sn lm sm apart)
+        go (inr a) (inr b) (inr differ) = p1 m n scheme tag text lm ln sm sn a b
+
+-- Conditions on the labels when a label is removed.
+
+pub leaves_of_two : (labels : Labels) (l : Label) → HasTwoPreferred labels l.owner → LeavesPreferred labels l
+leaves_of_two labels l two = elim (same_label_or_not (label l.owner Pref two.first_tag two.first_text) l) [
+  | inl same ↦ inr (two.second_tag, two.second_text, two.second, λ e. two.apart (same ∙ sym e))
+  | inr apart ↦ inr (two.first_tag, two.first_text, two.first, apart)
+]
+
+-- Conditions on the labels when a preferred label is replaced.
+
+module _ (labels : Labels) (owner : ℕ) (tag text old : List ℕ) (keep : Bool) where
+  abbrev labels_after_rename : Labels
+  labels_after_rename = replace_preferred owner tag text keep old labels
+
+  at_fresh : set.contains labels_after_rename (label owner Pref tag text) ≡ true
+  at_fresh = renamed_fresh labels owner tag text old keep
+
+  other_label_stays : (q : Label) → q ≢ label owner Pref tag old → set.contains labels q ≡ true
+      → set.contains labels_after_rename q ≡ true
+  other_label_stays = renamed_old labels owner tag text old keep
+
+  abbrev IsClashOfText : Type 0
+  IsClashOfText = HasClash labels owner tag text old keep
+
+  not_alt : Alt ≡ Pref → ⊥
+  not_alt e = cc
+
+  not_hidden : Hidden ≡ Pref → ⊥
+  not_hidden e = cc
+
+  pub renamed_breaks_s13 : IsClashOfText → S13 labels_after_rename → ⊥
+  renamed_breaks_s13 (inl alt) s13 =
+      not_alt (s13 owner Alt Pref tag text refl refl
+      (other_label_stays (label owner Alt tag text) (λ e. not_alt (ap (λ (l : Label). l.kind) e)) alt) at_fresh)
+  renamed_breaks_s13 (inr (inl hidden)) s13 =
+      not_hidden
+      (s13 owner Hidden Pref tag text refl refl (other_label_stays (label owner Hidden tag text)
+      (λ e. not_hidden (ap (λ (l : Label). l.kind) e)) hidden) at_fresh)
+  renamed_breaks_s13 (inr (inr (keeps, same))) s13 =
+      not_alt (s13 owner Alt Pref tag text refl refl (subst (λ x. HasLabel labels_after_rename owner Alt tag x) same
+      (renamed_kept labels owner tag text old keep keeps)) at_fresh)
+
+  abbrev Cases : Label → Type 0
+  Cases = IsReplacedLabel labels owner tag text old keep
+
+  -- SKOS S13 is kept if the new preferred label has no clash.
+  pub renamed_keeps_s13 : S13 labels → HasLabel labels owner Pref tag old → (IsClashOfText → ⊥)
+      → S13 labels_after_rename
+  renamed_keeps_s13 s13 has_old free n j k t x nj nk hj hk =
+      go j k nj nk (renamed_cases labels owner tag text old keep _ hj)
+      (renamed_cases labels owner tag text old keep _ hk)
+    where
+      -- The new preferred label with an old label.
+      beside : (k : LabelKind) → is_lexical_kind k ≡ true → n ≡ owner → t ≡ tag → x ≡ text → HasLabel labels n k t x
+          → Pref ≡ k
+      beside k nk en et ex held =
+          at k nk (subst (λ (p : ℕ × (List ℕ × List ℕ)). HasLabel labels p.0 k p.1.0 p.1.1)
+          (λ i. (en i, (et i, ex i))) held)
+        where
+          at : (k : LabelKind) → is_lexical_kind k ≡ true → HasLabel labels owner k tag text → Pref ≡ k
+          at Pref nk held = refl
+          at Alt nk held = absurd (free (inl held))
+          at Hidden nk held = absurd (free (inr (inl held)))
+          at Scope nk held = absurd (cc)
+
+      -- The kept label with an old label.
+      beside_kept : (k : LabelKind) → is_lexical_kind k ≡ true → n ≡ owner → t ≡ tag → x ≡ old → label n k t x
+          ≢ label owner Pref tag old → HasLabel labels n k t x → ⊥
+      beside_kept k nk en et ex apart held =
+          let here = subst (λ (p : ℕ × (List ℕ × List ℕ)). HasLabel labels p.0 k p.1.0 p.1.1)
+          (λ i. (en i, (et i, ex i))) held in
+          let same = s13 owner k Pref tag old nk refl here has_old in
+          apart (λ i. label (en i) (same i) (et i) (ex i))
+
+      both_new : (j k : LabelKind) → label n j t x ≡ label owner Pref tag text → (keep ≡ true)
+          × (label n k t x ≡ label owner Alt tag old) → ⊥
+      both_new j k a (keeps, b) =
+          free (inr (inr (keeps, sym (ap (λ (l : Label). l.text) b) ∙ ap (λ (l : Label). l.text) a)))
+
+      go : (j k : LabelKind) → is_lexical_kind j ≡ true → is_lexical_kind k ≡ true → Cases (label n j t x)
+          → Cases (label n k t x) → j ≡ k
+      go j k nj nk (inl a) (inl b) = ap (λ (l : Label). l.kind) a ∙ sym (ap (λ (l : Label). l.kind) b)
+      go j k nj nk (inl a) (inr (inl b)) = absurd (both_new j k a b)
+      go j k nj nk (inl a) (inr (inr (apart, b))) = ap (λ (l : Label). l.kind) a
+          ∙ beside k nk (ap (λ (l : Label). l.owner) a) (ap (λ (l : Label). l.tag) a) (ap (λ (l : Label). l.text) a) b
+      go j k nj nk (inr (inl a)) (inl b) = absurd (both_new k j b a)
+      go j k nj nk (inr (inl (_, a))) (inr (inl (_, b))) = ap (λ (l : Label). l.kind) a
+          ∙ sym (ap (λ (l : Label). l.kind) b)
+      go j k nj nk (inr (inl (_, a))) (inr (inr (apart, b))) =
+          absurd (beside_kept k nk (ap (λ (l : Label). l.owner) a) (ap (λ (l : Label). l.tag) a)
+          (ap (λ (l : Label). l.text) a) apart b)
+      go j k nj nk (inr (inr (apart, a))) (inl b) =
+          sym (ap (λ (l : Label). l.kind) b ∙ beside j nj (ap (λ (l : Label). l.owner) b)
+          (ap (λ (l : Label). l.tag) b) (ap (λ (l : Label). l.text) b) a)
+      go j k nj nk (inr (inr (apart, a))) (inr (inl (_, b))) =
+          absurd (beside_kept j nj (ap (λ (l : Label). l.owner) b) (ap (λ (l : Label). l.tag) b)
+          (ap (λ (l : Label). l.text) b) apart a)
+      go j k nj nk (inr (inr (_, a))) (inr (inr (_, b))) = s13 n j k t x nj nk a b
+
+  never_kept : (n : ℕ) (t x : List ℕ) → label n Pref t x ≡ label owner Alt tag old → ⊥
+  never_kept n t x e = let k = ap (λ (l : Label). l.kind) e in cc
+
+  module _ (rs : List Resource) where
+    pub renamed_breaks_unique : HasRival rs labels owner tag text → UniquePreferred rs labels_after_rename → ⊥
+    renamed_breaks_unique rival p1 =
+        rival.other (p1 rival.rival owner rival.scheme tag text rival.holder.0.0 rival.concept rival.holder.0.1
+        rival.within
+        (other_label_stays (label rival.rival Pref tag text) (λ e. rival.other (ap (λ (l : Label). l.owner) e))
+        rival.holder.1) at_fresh)
+
+    -- Preferred labels are still unique in each scheme if the new one has no rival.
+    pub renamed_keeps_unique : UniquePreferred rs labels → (HasRival rs labels owner tag text → ⊥)
+        → UniquePreferred rs labels_after_rename
+    renamed_keeps_unique p1 none m n scheme t x lm ln sm sn hm hn =
+        go (renamed_cases labels owner tag text old keep _ hm) (renamed_cases labels owner tag text old keep _ hn)
+        (cases_eq n m)
+      where
+        rival_at : (m n : ℕ) → label m Pref t x ≡ label owner Pref tag text → HasLabel labels n Pref t x → n ≢ m
+            → IsLiveConcept rs m → scheme_of rs m ≡ Some scheme → IsLiveConcept rs n → scheme_of rs n ≡ Some scheme
+            → ⊥
+        rival_at m n is held differ lm sm ln sn =
+            none (subst (λ (q : Label). HasRival rs labels q.owner q.tag q.text) is
+            (record {
+              scheme = scheme;
+              rival = n;
+              concept = lm;
+              within = sm;
+              holder = ((ln, sn), held);
+              other =
+                  differ;
+            }))
+
+        go : Cases (label m Pref t x) → Cases (label n Pref t x) → (n ≡ m) ⊎ (n ≢ m) → m ≡ n
+        go a b (inl same) = sym same
+        go (inl a) (inl b) (inr differ) = ap (λ (l : Label). l.owner) a ∙ sym (ap (λ (l : Label). l.owner) b)
+        go (inl a) (inr (inr (_, b))) (inr differ) = absurd (rival_at m n a b differ lm sm ln sn)
+        go (inr (inr (_, a))) (inl b) (inr differ) = absurd (rival_at n m b a (λ e. differ (sym e)) ln sn lm sm)
+        go (inr (inr (_, a))) (inr (inr (_, b))) (inr differ) = p1 m n scheme t x lm ln sm sn a b
+        go (inr (inl (_, a))) b (inr differ) = absurd (never_kept m t x a)
+        go a (inr (inl (_, b))) (inr differ) = absurd (never_kept n t x b)
+
+-- The refusal of a relabel request.
+
+pub relabelled_is : (labels : Labels) (owner : ℕ) (tag text old : List ℕ) (keep : Bool) → S14 labels
+    → HasLabel labels owner Pref tag old → labels_after_relabel owner tag text keep labels ≡ replace_preferred owner
+    tag text keep old labels
+relabelled_is labels owner tag text old keep s14 has =
+    ap (λ (o : Option (List ℕ)). elim o [ None ↦ labels | Some x ↦ replace_preferred owner tag text keep x labels ])
+    (sym (preferred_is labels owner tag s14 (Some old) has))
+
+pub row_without_name : (rs : List Resource) (labels next : Labels) (owner : ℕ) (tag : List ℕ)
+    → ((text : List ℕ) → HasLabel labels owner Pref tag text → ⊥) → unless_relabel labels rs next owner tag accepted
+    (Some no.NoSuchLabel)
+row_without_name rs labels next owner tag none = inl (λ (text, has). none text has, refl)
+
+module _ (rs : List Resource) (labels : Labels) (owner : ℕ) (tag text old : List ℕ) (keep : Bool)
+    (legal : LegalLabels rs labels) (has : HasLabel labels owner Pref tag old) where
+  abbrev RowOf : Option Refusal → Type 0
+  RowOf answer = unless_relabel labels rs (labels_after_relabel owner tag text keep labels) owner tag accepted answer
+
+  at_renamed : (answer : Option Refusal) → unless_relabel labels rs (replace_preferred owner tag text keep old labels)
+      owner tag accepted answer → RowOf answer
+  at_renamed answer row = subst (λ (labels_after_rename : Labels). unless_relabel labels rs labels_after_rename owner
+      tag accepted answer) (sym (relabelled_is labels owner tag text old keep legal.one_preferred has)) row
+
+  pub row_clashing : HasClash labels owner tag text old keep → RowOf (Some no.S13)
+  row_clashing c = at_renamed _ (inr ((old, has), inl (renamed_breaks_s13 labels owner tag text old keep c, refl)))
+
+  module _ (free : HasClash labels owner tag text old keep → ⊥) where
+    pub row_with_rival : HasRival rs labels owner tag text → RowOf (Some no.PreferredTaken)
+    row_with_rival rival =
+        at_renamed _
+        (inr (
+          (old, has),
+          inr (
+            renamed_keeps_s13 labels owner tag text old keep legal.disjoint has free,
+            inl (renamed_breaks_unique labels owner tag text old keep rs rival, refl),
+          ),
+        ))
+
+    pub row_renamed : (HasRival rs labels owner tag text → ⊥) → RowOf None
+    row_renamed none =
+        at_renamed _
+        (inr (
+          (old, has),
+          inr (
+            renamed_keeps_s13 labels owner tag text old keep legal.disjoint has free,
+            inr (renamed_keeps_unique labels owner tag text old keep rs legal.unique none, refl),
+          ),
+        ))
+
+pub name_unless_scope : (k : LabelKind) → k ≢ Scope → is_lexical_kind k ≡ true
+name_unless_scope Pref apart = refl
+name_unless_scope Alt apart = refl
+name_unless_scope Hidden apart = refl
+name_unless_scope Scope apart = absurd (apart refl)
+
+pub answers_s14 : (labels : Labels) (l : Label) → set.contains labels l ≡ false → l.kind ≡ Pref → S14 labels
+    → (o : Option (Bor (List ℕ))) → MatchOption o ((text : List ℕ) → HasLabel labels l.owner Pref l.tag text → ⊥)
+    (λ text. HasLabel labels l.owner Pref l.tag text.now)
+    → (answer : Bool) → answer ≡ is_some o → MatchBool answer (S14 (set.insert labels l) → ⊥)
+    (S14 (set.insert labels l))
+answers_s14 labels l new is s14 None none answer e =
+    subst (λ b. MatchBool b (S14 (set.insert labels l) → ⊥) (S14 (set.insert labels l))) (sym e)
+    (keeps_s14 labels l s14 (inr none))
+answers_s14 labels l new is s14 (Some text) has answer e =
+    subst (λ b. MatchBool b (S14 (set.insert labels l) → ⊥) (S14 (set.insert labels l))) (sym e)
+    (breaks_s14 labels l new is text.now has)
+
+pub not_pref : (value : LabelValue) → ((text : List ℕ) → value ≡ values.Pref text → ⊥) → label_value_kind value ≡ Pref
+    → ⊥
+not_pref (values.Pref text) other e = other text refl
+not_pref (values.Alt text) other e = cc
+not_pref (values.Hidden text) other e = cc
+not_pref (values.Scope text) other e = cc
+
+-- The result of a look-up of a holder.
+module _ (rs : List Resource) (labels : Labels) (scheme : ℕ) (tag text : List ℕ) where
+  pub holder_taken : (o : Option ℕ) → MatchOption o (IsPreferredTaken rs labels scheme tag text → ⊥)
+      (IsHolder rs labels scheme tag text) → is_some o ≡ true → IsPreferredTaken rs labels scheme tag text
+  holder_taken None h e = absurd (cc)
+  holder_taken (Some n) h e = (n, h.0.0, h.0.1, h.1)
+
+  pub no_holder : (o : Option ℕ) → MatchOption o (IsPreferredTaken rs labels scheme tag text → ⊥)
+      (IsHolder rs labels scheme tag text) → is_some o ≡ false → IsPreferredTaken rs labels scheme tag text → ⊥
+  no_holder None h e = h
+  no_holder (Some n) h e = absurd (cc)
+
+-- The refusal of a new concept.
+
+module _ (rs : List Resource) (labels : Labels) (legal : LegalLabels rs labels) (scheme : ℕ) (tag text : List ℕ)
+    (is_scheme : IsScheme rs scheme) where
+  abbrev RowOfConcept : Option Refusal → Type 0
+  RowOfConcept answer =
+      unless_scheme rs scheme (unless_unique (rs ++ concept_resource (Some scheme) ∷ [])
+      (set.insert labels (label (length rs + 1) Pref tag text)) accepted) answer
+
+  scheme_exists : Exists rs scheme
+  scheme_exists = (is_scheme.0, is_scheme.1)
+
+  pub row_taken : IsPreferredTaken rs labels scheme tag text → RowOfConcept (Some no.PreferredTaken)
+  row_taken taken =
+      inr (
+        scheme_exists,
+        inr (
+          is_scheme,
+          inl (
+            taken_breaks rs labels scheme (concept_resource (Some scheme)) tag text refl refl taken,
+            refl,
+          ),
+        ),
+      )
+
+  pub row_free : (IsPreferredTaken rs labels scheme tag text → ⊥) → RowOfConcept None
+  row_free none =
+      inr (
+        scheme_exists,
+        inr (
+          is_scheme,
+          inr (
+            made_unique rs labels (concept_resource (Some scheme)) tag text (owners_bound rs labels legal) legal.unique
+                (λ s live e taken. none (subst (λ k. IsPreferredTaken rs labels k tag text) (sym (same_Some _ _ e))
+                taken)),
+            refl,
+          ),
+        ),
+      )

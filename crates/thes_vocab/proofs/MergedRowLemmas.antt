@@ -1,0 +1,393 @@
+-- The row and the number of labels that a merge copies to its target are those of the machine.
+use Rattle.std.proofs.Common.{◌≡◌, ◌⊎◌, inl, inr, ◌<◌, ℕ, zero, suc, ◌+◌, length, List, [], ◌∷◌, refl, sym, ap, ◌∙◌}
+use Rattle.std.proofs.Common.{subst, arith, Bool, true, false, not, ◌&&◌, ◌||◌, cond, get_or, take, map, eqb-true}
+use Rattle.std.proofs.Common.{eq-eqb}
+use Rattle.std.specs.Prelude.{filter, if◌then◌else◌, ◌==◌}
+use Rattle.std.specs.declared.cmp.Ordering.{Ordering}
+use Rattle.std.specs.declared.cmp.Ordering.TheVariants.{Less, Equal}
+use Rattle.std.specs.Ordering.{nat_cmp, eq_by_cmp, is_eq}
+use Rattle.std.specs.Cmp.{nat_cmp_total, both_ways, tied_itself, Equal-is}
+use Rattle.std.specs.List.{list_any, AllByRecursion}
+use Rattle.std.specs.List.Sorted.{IsStrictlySortedBy}
+use Rattle.std.proofs.lemmas.Map.Lookups.{exact_unsigned}
+use Rattle.std.specs.BTreeMap.{BTreeMap, IsOrdered}
+use Rattle.std.specs.FinSet as set
+use Rattle.std.proofs.lemmas.Bool.{or_cases, or_left, or_right, true≢false, and_from, cases_Bool, not-true, and_parts}
+use Rattle.std.proofs.Math.Bool.{and-false, and-or_distrib_left, or-false, or_assoc, or_comm}
+use Rattle.thes_base.specs.declared.data.LabelKind.TheVariants.{Pref, Alt, Hidden}
+use Rattle.thes_base.specs.Data.{LabelData}
+use Rattle.thes_base.specs.Labels.{Label, Labels, label_cmp, HasLabel, is_lexical_kind, S13}
+use Rattle.thes_base.specs.Changes.{label, has_lexical_label, copied_label_kind, copied_labels}
+use Rattle.thes_base.specs.Machine.{owned_label}
+use Rattle.thes_base.proofs.LabelSetLemmas.{labels_total, labels_exact}
+use Rattle.thes_base.proofs.CopiedLabelLemmas.{name_of, name_taken}
+use Rattle.thes_base.proofs.SetMemberLemmas.{or_swap}
+use Rattle.thes_vocab.specs.OwnLabels.{data_cmp, own_label, has_own, AreLabelsOf}
+use Rattle.thes_vocab.specs.CopiedLabels.{lacks_name, lacks_own_name, merged_label, copies_label}
+use Rattle.thes_vocab.specs.LabelRows.{IsRowOfOwner, labels_in, owner_row, IsMergedRow}
+use Rattle.thes_vocab.proofs.OwnLabelLemmas.{data_total, label_data_of_tie, tie_of_label_data, less_not_equal}
+use Rattle.thes_vocab.proofs.LabelTableLemmas.{data_of, owned_tie, has_label, IsRowWritten, row_after}
+
+-- The copied labels after another label of the source.
+
+any_more : {A : Type 0} (p : A → Bool) (xs : List A) (i : ℕ) (x : A) → i < length xs → x ≡ get_or xs i x
+    → list_any p (take (suc i) xs) ≡ (list_any p (take i xs) || p x)
+any_more p [] i x b e = absurd (omega arith)
+any_more p (y ∷ []) zero x b e = ap (λ z. p z || false) (sym e) ∙ or-false (p x)
+any_more p (y ∷ z ∷ xs) zero x b e = ap (λ w. p w || false) (sym e) ∙ or-false (p x)
+any_more p (y ∷ xs) (suc i) x b e = ap (λ c. p y || c) (any_more p xs i x (omega arith) e)
+    ∙ sym (or_assoc (p y) (list_any p (take i xs)) (p x))
+
+pub gives_more : (source target : List LabelData) (i : ℕ) (l q : LabelData) → i < length source → l
+    ≡ get_or source i l → copies_label (take (i + 1) source) target q
+    ≡ (copies_label (take i source) target q || (lacks_own_name target l && eq_by_cmp data_cmp q (merged_label l)))
+gives_more source target i l q b e = ap (λ k. copies_label (take k source) target q) (let s : i + 1 ≡ suc i =
+    omega arith in s) ∙ any_more (λ x. lacks_own_name target x && eq_by_cmp data_cmp q (merged_label x)) source i l b
+    e
+
+-- The row after the label is copied, or left out.
+pub gives_taken : (source target row now : List LabelData) (i : ℕ) (l q : LabelData) → i < length source → l
+    ≡ get_or source i l → has_own row q ≡ (has_own target q || copies_label (take i source) target q)
+    → lacks_own_name target l ≡ true → has_own now q ≡ (eq_by_cmp data_cmp q (merged_label l) || has_own row q)
+    → has_own now q ≡ (has_own target q || copies_label (take (i + 1) source) target q)
+gives_taken source target row now i l q b e before picks after =
+    after ∙ ap (λ c. eq_by_cmp data_cmp q (merged_label l) || c) before
+    ∙ or_comm (eq_by_cmp data_cmp q (merged_label l)) _ ∙ or_assoc (has_own target q)
+    (copies_label (take i source) target q) (eq_by_cmp data_cmp q (merged_label l))
+    ∙ ap (λ c. has_own target q || c)
+    (ap (λ y. copies_label (take i source) target q || (y && eq_by_cmp data_cmp q (merged_label l))) (sym picks)
+    ∙ sym (gives_more source target i l q b e))
+
+pub gives_left : (source target row : List LabelData) (i : ℕ) (l q : LabelData) → i < length source → l
+    ≡ get_or source i l → has_own row q ≡ (has_own target q || copies_label (take i source) target q)
+    → lacks_own_name target l ≡ false → has_own row q
+    ≡ (has_own target q || copies_label (take (i + 1) source) target q)
+gives_left source target row i l q b e before no_name =
+    before ∙ ap (λ c. has_own target q || c)
+    (sym (gives_more source target i l q b e
+    ∙ ap (λ y. copies_label (take i source) target q || (y && eq_by_cmp data_cmp q (merged_label l))) no_name
+    ∙ or-false (copies_label (take i source) target q)))
+
+-- Members of a filtered and mapped list.
+
+module _ {A : Type 0} (p : A → Bool) where
+  pub kept_yes : (x : A) (xs : List A) → p x ≡ true → filter p (x ∷ xs) ≡ x ∷ filter p xs
+  kept_yes x xs e = ap (λ b. if b then x ∷ filter p xs else filter p xs) e
+
+  pub kept_no : (x : A) (xs : List A) → p x ≡ false → filter p (x ∷ xs) ≡ filter p xs
+  kept_no x xs e = ap (λ b. if b then x ∷ filter p xs else filter p xs) e
+
+-- A member of the list comes from an item that passes the filter, and the other way round.
+any_mapped : {A : Type 0} (cmp : A → A → Ordering) (equal_is_tie : (x : A) → eq_by_cmp cmp x x ≡ true) (p : A → Bool)
+    (f : A → Label) (q : Label) (xs : List A) → list_any (eq_by_cmp label_cmp q) (map f (filter p xs)) ≡ true
+    → (x : A) × (p x ≡ true) × (list_any (eq_by_cmp cmp x) xs ≡ true) × (q ≡ f x)
+any_mapped cmp equal_is_tie p f q [] e = absurd (cc)
+any_mapped cmp equal_is_tie p f q (x ∷ xs) e = elim (cases_Bool (p x)) [
+  | inl picks ↦ elim (or_cases _ _
+      (sym (ap (λ ys. list_any (eq_by_cmp label_cmp q) (map f ys)) (kept_yes p x xs picks)) ∙ e)) [
+        | inl same ↦ (
+          x,
+          picks,
+          or_left _ _ (equal_is_tie x),
+          labels_exact q (f x) ((Equal-is (label_cmp q (f x))).0 same),
+        )
+        | inr later ↦ let found = any_mapped cmp equal_is_tie p f q xs later in
+            (found.0, found.1, or_right (eq_by_cmp cmp found.0 x) _ found.2, found.3)
+      ]
+  | inr miss ↦ let found = any_mapped cmp equal_is_tie p f q xs
+      (sym (ap (λ ys. list_any (eq_by_cmp label_cmp q) (map f ys)) (kept_no p x xs miss)) ∙ e) in
+      (found.0, found.1, or_right (eq_by_cmp cmp found.0 x) _ found.2, found.3)
+]
+
+equal_is_tie : (x : Label) → eq_by_cmp label_cmp x x ≡ true
+equal_is_tie x = ap is_eq (tied_itself labels_total x)
+
+-- An item that passes the filter gives a member of the list.
+mapped_any : (p : Label → Bool) (f : Label → Label) (q l : Label) (ls : List Label) → p l ≡ true → q ≡ f l
+    → list_any (eq_by_cmp label_cmp l) ls ≡ true → list_any (eq_by_cmp label_cmp q) (map f (filter p ls)) ≡ true
+mapped_any p f q l [] picks is e = e
+mapped_any p f q l (x ∷ ls) picks is e = elim (or_cases _ _ e) [
+  | inl same ↦
+      let here = labels_exact l x ((Equal-is (label_cmp l x)).0 same) in
+      ap (λ ys. list_any (eq_by_cmp label_cmp q) (map f ys)) (kept_yes p x ls (ap p (sym here) ∙ picks))
+      ∙ or_left _ _ (ap (λ y. eq_by_cmp label_cmp q (f y)) (sym here) ∙ ap (λ y. eq_by_cmp label_cmp q y) (sym is)
+      ∙ ap is_eq (tied_itself labels_total q))
+  | inr later ↦ elim (cases_Bool (p x)) [
+    | inl hit ↦ ap (λ ys. list_any (eq_by_cmp label_cmp q) (map f ys)) (kept_yes p x ls hit)
+        ∙ or_right (eq_by_cmp label_cmp q (f x)) _ (mapped_any p f q l ls picks is later)
+    | inr miss ↦ ap (λ ys. list_any (eq_by_cmp label_cmp q) (map f ys)) (kept_no p x ls miss)
+        ∙ mapped_any p f q l ls picks is later
+  ]
+]
+
+any_found : (test : LabelData → Bool) (own : List LabelData) → list_any test own ≡ true → (d : LabelData)
+    × (test d ≡ true) × (has_own own d ≡ true)
+any_found test [] e = absurd (cc)
+any_found test (x ∷ own) e = elim (or_cases _ _ e) [
+  | inl hit ↦ (x, hit, or_left _ _ (tie_of_label_data x x refl))
+  | inr later ↦ let found = any_found test own later in
+      (found.0, found.1, or_right (eq_by_cmp data_cmp found.0 x) _ found.2)
+]
+
+any_of : (test : LabelData → Bool) (own : List LabelData) (d : LabelData) → test d ≡ true → has_own own d ≡ true
+    → list_any test own ≡ true
+any_of test [] d hit e = e
+any_of test (x ∷ own) d hit e = elim (or_cases _ _ e) [
+  | inl same ↦ or_left _ _ (ap test (sym (label_data_of_tie d x same)) ∙ hit)
+  | inr later ↦ or_right (test x) _ (any_of test own d hit later)
+]
+
+-- The copied labels in terms of the source's own list.
+module _ (labels : Labels) (source target : ℕ) (own : List LabelData) (owns : IsRowOfOwner labels source own) where
+  abbrev passes : Label → Bool
+  passes l = l.owner == source && (is_lexical_kind l.kind && not (has_lexical_label labels target l.tag l.text))
+
+  abbrev copy_of_label : Label → Label
+  copy_of_label l = label target (copied_label_kind l.kind) l.tag l.text
+
+  abbrev test : Label → LabelData → Bool
+  test q d = lacks_name labels target d && eq_by_cmp data_cmp (data_of q) (merged_label d)
+
+  -- The machine copies a label exactly when it is the copy of a missing name in the source's list.
+  pub taken_contains : (q : Label) → set.contains (copied_labels source target labels) q
+      ≡ (eq_by_cmp nat_cmp q.owner target && list_any (test q) own)
+  taken_contains q = set.contains-from_list labels_total (map copy_of_label (filter passes (set.items labels))) q
+      ∙ both_ways _ _ there back
+    where
+      there : list_any (eq_by_cmp label_cmp q) (map copy_of_label (filter passes (set.items labels))) ≡ true
+          → (eq_by_cmp nat_cmp q.owner target && list_any (test q) own) ≡ true
+      there e =
+          let found = any_mapped label_cmp equal_is_tie passes copy_of_label q (set.items labels) e in
+          let l = found.0 in
+          let held = set.contains-items labels l ∙ found.2 in
+          let is = found.3 in
+          let source_is = eqb-true l.owner source (and_parts (l.owner == source) _ found.1).0 in
+          let takes_it = (and_parts (l.owner == source) (lacks_name labels target (data_of l)) found.1).1 in
+          let has = owns (data_of l) ∙ ap (λ n. set.contains labels (label n l.kind l.tag l.text)) (sym source_is)
+          ∙ held in
+          and_from (eq_by_cmp nat_cmp q.owner target) (list_any (test q) own)
+          (ap (λ (x : Label). eq_by_cmp nat_cmp x.owner target) is ∙ ap is_eq (tied_itself nat_cmp_total target))
+          (any_of (test q) own (data_of l) (and_from (lacks_name labels target (data_of l)) _ takes_it
+          (tie_of_label_data (data_of q) (merged_label (data_of l)) (ap data_of is))) has)
+
+      back : (eq_by_cmp nat_cmp q.owner target && list_any (test q) own) ≡ true → list_any (eq_by_cmp label_cmp q)
+          (map copy_of_label (filter passes (set.items labels))) ≡ true
+      back e =
+          let owner =
+          exact_unsigned q.owner target
+          ((Equal-is (nat_cmp q.owner target)).0 (and_parts (eq_by_cmp nat_cmp q.owner target) _ e).0) in
+          let found = any_found (test q) own (and_parts (eq_by_cmp nat_cmp q.owner target) (list_any (test q) own)
+          e).1 in
+          let d = found.0 in
+          let l = owned_label source d in
+          let takes_it = (and_parts (lacks_name labels target d) _ found.1).0 in
+          let is = label_data_of_tie (data_of q) (merged_label d)
+          (and_parts (lacks_name labels target d) (eq_by_cmp data_cmp (data_of q) (merged_label d)) found.1).1 in
+          let same : q ≡ copy_of_label l = λ i. label (owner i) (is i).kind (is i).tag (is i).text in
+          mapped_any passes copy_of_label q l (set.items labels)
+          (and_from (source == source) (lacks_name labels target d) (eq-eqb source source refl) takes_it) same
+          (sym (set.contains-items labels l) ∙ sym (owns d) ∙ found.2)
+
+  pub union_contains : (q : Label) → set.contains (set.union labels (copied_labels source target labels)) q
+      ≡ (set.contains labels q || (eq_by_cmp nat_cmp q.owner target && list_any (test q) own))
+  union_contains q = set.contains-union labels_total labels (copied_labels source target labels) q
+      ∙ ap (λ b. set.contains labels q || b) (taken_contains q)
+
+-- Whether the target lacks a name, in terms of its own list.
+pub takes_is : (labels : Labels) (target : ℕ) (own : List LabelData) → IsRowOfOwner labels target own
+    → (d : LabelData) → lacks_own_name own d ≡ lacks_name labels target d
+takes_is labels target own owns d =
+    (λ i. is_lexical_kind d.kind && not ((owns (own_label Pref d.tag d.text) i || owns (own_label Alt d.tag d.text) i)
+    || owns (own_label Hidden d.tag d.text) i))
+
+any_same : {A : Type 0} (p q : A → Bool) → ((x : A) → p x ≡ q x) → (xs : List A) → list_any p xs ≡ list_any q xs
+any_same p q same [] = refl
+any_same p q same (x ∷ xs) = λ i. same x i || any_same p q same xs i
+
+pub gives_is : (labels : Labels) (target : ℕ) (own : List LabelData) → IsRowOfOwner labels target own
+    → (source : List LabelData) (q : LabelData) → copies_label source own q
+    ≡ list_any (λ d. lacks_name labels target d && eq_by_cmp data_cmp q (merged_label d)) source
+gives_is labels target own owns source q =
+    any_same _ _ (λ d. ap (λ b. b && eq_by_cmp data_cmp q (merged_label d)) (takes_is labels target own owns d))
+    source
+
+-- The number of labels that are copied.
+module _ (labels : Labels) (source target : ℕ) (s13 : S13 labels) where
+  abbrev as_taken : LabelData → Label
+  as_taken d = owned_label target (merged_label d)
+
+  abbrev missing_labels : List LabelData → List LabelData
+  missing_labels own = filter (lacks_name labels target) own
+
+  abbrev set_of_copies : List LabelData → Labels
+  set_of_copies own = set.from_list (map as_taken (missing_labels own))
+
+  -- The list has labels of the source only.
+  abbrev AreSome : List LabelData → Type 0
+  AreSome own = (d : LabelData) → has_own own d ≡ true → set.contains labels (owned_label source d) ≡ true
+
+  empty_union : set.union labels (set.empty {R = label_cmp}) ≡ labels
+  empty_union = set.same_set labels_total labels_exact _ _ (λ q. set.contains-union labels_total labels set.empty q
+      ∙ ap (λ b. set.contains labels q || b) (set.contains-empty label_cmp q) ∙ or-false (set.contains labels q))
+
+  union_insert : (more : Labels) (g : Label) → set.union labels (set.insert more g)
+      ≡ set.insert (set.union labels more) g
+  union_insert more g = set.same_set labels_total labels_exact _ _ (λ q.
+      set.contains-union labels_total labels (set.insert more g) q ∙ ap (λ b. set.contains labels q || b)
+      (set.contains-insert labels_total more g q)
+      ∙ or_swap (set.contains labels q) (eq_by_cmp label_cmp q g) (set.contains more q)
+      ∙ sym (set.contains-insert labels_total (set.union labels more) g q ∙ ap (λ b. eq_by_cmp label_cmp q g || b)
+      (set.contains-union labels_total labels more q)))
+
+  -- A copied label is the copy of a missing name in the list.
+  built_from : (own : List LabelData) (q : Label) → list_any (eq_by_cmp label_cmp q)
+      (map as_taken (missing_labels own)) ≡ true → (d : LabelData) × (lacks_name labels target d ≡ true)
+      × (has_own own d ≡ true) × (q ≡ as_taken d)
+  built_from own q e = any_mapped data_cmp (λ d. tie_of_label_data d d refl) (lacks_name labels target) as_taken q own e
+
+  -- The target lacks each label that is copied to it.
+  copied_is_new : (d : LabelData) → lacks_name labels target d ≡ true → set.contains labels (as_taken d) ≡ true → ⊥
+  copied_is_new d picks held =
+      let name = (and_parts (is_lexical_kind d.kind) _ picks).0 in
+      let free = not-true _ (and_parts (is_lexical_kind d.kind) (not (has_lexical_label labels target d.tag d.text))
+      picks).1 in
+      true≢false (sym (name_of labels target (copied_label_kind d.kind) d.tag d.text (name_taken d.kind name) held)
+      ∙ free)
+
+  -- Labels with equal copies are equal (SKOS S13).
+  same_taken : (c d : LabelData) → lacks_name labels target c ≡ true → lacks_name labels target d ≡ true
+      → set.contains labels (owned_label source c) ≡ true → set.contains labels (owned_label source d) ≡ true
+      → as_taken c ≡ as_taken d → c ≡ d
+  same_taken c d tc td hc hd is =
+      let tag = ap (λ (l : Label). l.tag) is in
+      let text = ap (λ (l : Label). l.text) is in
+      let there = subst (λ (p : List ℕ × List ℕ). HasLabel labels source c.kind p.0 p.1) (λ i. (tag i, text i)) hc in
+      let kind = s13 source c.kind d.kind d.tag d.text (and_parts (is_lexical_kind c.kind) _ tc).0
+      (and_parts (is_lexical_kind d.kind) _ td).0 there hd in
+      λ i. own_label (kind i) (tag i) (text i)
+
+  after_none : (x d : LabelData) (own : List LabelData) → AllByRecursion (λ y. data_cmp x y ≡ Less) own
+      → has_own own d ≡ true → x ≡ d → ⊥
+  after_none x d [] each e same = cc
+  after_none x d (y ∷ own) each e same = elim (or_cases _ _ e) [
+    | inl here ↦ less_not_equal (data_cmp x y) each.0
+        (subst (λ z. data_cmp x z ≡ Equal) (same ∙ label_data_of_tie d y here) (tied_itself data_total x))
+    | inr later ↦ after_none x d own each.1 later same
+  ]
+
+  -- The union with the copies has one label for each missing name in addition to the old ones.
+  len_built : (own : List LabelData) → IsStrictlySortedBy data_cmp own → AreSome own
+      → set.len (set.union labels (set_of_copies own)) ≡ set.len labels + length (missing_labels own)
+  unfolding IsStrictlySortedBy
+  len_built [] sorted some = ap set.len empty_union ∙ (let n = set.len labels in let e : n ≡ n + 0 = omega arith in e)
+  len_built (x ∷ own) sorted some = go (len_built own sorted.1 later) (cases_Bool (lacks_name labels target x))
+    where
+      later : AreSome own
+      later d h = some d (or_right (eq_by_cmp data_cmp d x) _ h)
+
+      absent : lacks_name labels target x ≡ true → (b : Bool) → set.contains (set.union labels (set_of_copies own))
+          (as_taken x) ≡ b → b ≡ false
+      absent picks false e = refl
+      absent picks true e =
+          absurd (elim (or_cases _ _ (sym (set.contains-union labels_total labels (set_of_copies own) (as_taken x))
+          ∙ e)) [
+            | inl held ↦ copied_is_new x picks held
+            | inr again ↦
+                let found =
+                built_from own (as_taken x)
+                (sym (set.contains-from_list labels_total (map as_taken (missing_labels own)) (as_taken x))
+                ∙ again) in
+                let same = same_taken x found.0 picks found.1 (some x (or_left _ _ (tie_of_label_data x x refl)))
+                (later found.0 found.2) found.3 in
+                after_none x found.0 own sorted.0 found.2 same
+          ])
+
+      go : set.len (set.union labels (set_of_copies own)) ≡ set.len labels + length (missing_labels own)
+          → (lacks_name labels target x ≡ true) ⊎ (lacks_name labels target x ≡ false)
+          → set.len (set.union labels (set_of_copies (x ∷ own))) ≡ set.len labels + length (missing_labels (x ∷ own))
+      go rest (inl picks) =
+          let kept = kept_yes (lacks_name labels target) x own picks in
+          let more = ap (λ ys. set.len (set.union labels (set.from_list (map as_taken ys)))) kept
+          ∙ ap set.len (union_insert (set_of_copies own) (as_taken x)) ∙ set.len-insert labels_total
+          (set.union labels (set_of_copies own)) (as_taken x)
+          ∙ ap (λ b. cond b (set.len (set.union labels (set_of_copies own)))
+          (set.len (set.union labels (set_of_copies own)) + 1)) (absent picks _ refl) in
+          let count = ap length kept in
+          omega (arith, rest, more, count)
+      go rest (inr miss) =
+          let kept = kept_no (lacks_name labels target) x own miss in
+          ap (λ ys. set.len (set.union labels (set.from_list (map as_taken ys)))) kept ∙ rest
+          ∙ ap (λ ys. set.len labels + length ys) (sym kept)
+
+  -- The copies as members of a list.
+  built_any : (own : List LabelData) (q : Label) → list_any (eq_by_cmp label_cmp q)
+      (map as_taken (missing_labels own))
+      ≡ (eq_by_cmp nat_cmp q.owner target && list_any (λ d. lacks_name labels target d && eq_by_cmp data_cmp
+      (data_of q) (merged_label d)) own)
+  built_any [] q = sym (and-false (eq_by_cmp nat_cmp q.owner target))
+  built_any (x ∷ own) q = go (built_any own q) (cases_Bool (lacks_name labels target x))
+    where
+      go : list_any (eq_by_cmp label_cmp q) (map as_taken (missing_labels own))
+          ≡ (eq_by_cmp nat_cmp q.owner target && list_any (λ d. lacks_name labels target d && eq_by_cmp data_cmp
+          (data_of q) (merged_label d)) own) → (lacks_name labels target x ≡ true)
+          ⊎ (lacks_name labels target x ≡ false)
+          → list_any (eq_by_cmp label_cmp q) (map as_taken (missing_labels (x ∷ own)))
+          ≡ (eq_by_cmp nat_cmp q.owner target &&
+          ((lacks_name labels target x && eq_by_cmp data_cmp (data_of q) (merged_label x)) || list_any
+          (λ d. lacks_name labels target d && eq_by_cmp data_cmp (data_of q) (merged_label d)) own))
+      go rest (inl picks) =
+          ap (λ ys. list_any (eq_by_cmp label_cmp q) (map as_taken ys))
+          (kept_yes (lacks_name labels target) x own picks)
+          ∙ (λ i. owned_tie q target (merged_label x) i || rest i)
+          ∙ sym (and-or_distrib_left (eq_by_cmp nat_cmp q.owner target)
+          (eq_by_cmp data_cmp (data_of q) (merged_label x))
+          (list_any (λ d. lacks_name labels target d && eq_by_cmp data_cmp (data_of q) (merged_label d)) own))
+          ∙ ap (λ b. eq_by_cmp nat_cmp q.owner target && ((b && eq_by_cmp data_cmp (data_of q) (merged_label x)) ||
+          list_any (λ d. lacks_name labels target d && eq_by_cmp data_cmp (data_of q) (merged_label d)) own))
+          (sym picks)
+      go rest (inr miss) =
+          ap (λ ys. list_any (eq_by_cmp label_cmp q) (map as_taken ys))
+          (kept_no (lacks_name labels target) x own miss) ∙ rest
+          ∙ ap (λ b. eq_by_cmp nat_cmp q.owner target && ((b && eq_by_cmp data_cmp (data_of q) (merged_label x)) ||
+          list_any (λ d. lacks_name labels target d && eq_by_cmp data_cmp (data_of q) (merged_label d)) own))
+          (sym miss)
+
+  pub taken_len : (own : List LabelData) → AreLabelsOf labels source own → set.len labels
+      + length (missing_labels own) ≡ set.len (set.union labels (copied_labels source target labels))
+  taken_len own are = sym (len_built own are.ordered (λ d h. sym (are.each d) ∙ h))
+      ∙ ap set.len (set.same_set labels_total labels_exact _ _ (λ q.
+      set.contains-union labels_total labels (set_of_copies own) q ∙ ap (λ b. set.contains labels q || b)
+      (set.contains-from_list labels_total (map as_taken (missing_labels own)) q ∙ built_any own q)
+      ∙ sym (union_contains labels source target own are.each q)))
+
+-- The set of labels after the target's row is replaced by the one with the missing names of the source.
+pub union_rows : (old new : BTreeMap ℕ (List LabelData)) (source target : ℕ) (row : List LabelData)
+    → IsOrdered nat_cmp old → IsOrdered nat_cmp new → IsRowWritten old new target row → IsMergedRow old source target
+    row → labels_in new.entries ≡ set.union (labels_in old.entries)
+    (copied_labels source target (labels_in old.entries))
+union_rows old new source target row o n written merged = set.same_set labels_total labels_exact _ _ (λ q.
+    has_label new n q ∙ ap (λ r. has_own r (data_of q)) (row_after old new target row written q.owner)
+    ∙ at q (eq_by_cmp nat_cmp q.owner target) refl
+    ∙ sym (union_contains (labels_in old.entries) source target (owner_row old source) (owns source) q))
+  where
+    owns : (n : ℕ) → IsRowOfOwner (labels_in old.entries) n (owner_row old n)
+    owns n l = sym (has_label old o (owned_label n l))
+
+    at : (q : Label) (b : Bool) → eq_by_cmp nat_cmp q.owner target ≡ b
+        → has_own (cond b row (owner_row old q.owner)) (data_of q)
+        ≡ (set.contains (labels_in old.entries) q ||
+        (eq_by_cmp nat_cmp q.owner target && list_any (λ d. lacks_name (labels_in old.entries) target d &&
+        eq_by_cmp data_cmp (data_of q) (merged_label d)) (owner_row old source)))
+    at q true tie =
+        let here = exact_unsigned q.owner target ((Equal-is (nat_cmp q.owner target)).0 tie) in
+        merged (data_of q)
+        ∙ (λ i. (ap (λ k. has_own (owner_row old k) (data_of q)) (sym here) ∙ sym (has_label old o q)) i || gives_is
+        (labels_in old.entries) target (owner_row old target) (owns target) (owner_row old source) (data_of q) i)
+        ∙ ap (λ b. set.contains (labels_in old.entries) q ||
+        (b && list_any (λ d. lacks_name (labels_in old.entries) target d && eq_by_cmp data_cmp (data_of q)
+        (merged_label d)) (owner_row old source))) (sym tie)
+    at q false apart =
+        sym (has_label old o q) ∙ sym (or-false (set.contains (labels_in old.entries) q))
+        ∙ ap (λ b. set.contains (labels_in old.entries) q ||
+        (b && list_any (λ d. lacks_name (labels_in old.entries) target d && eq_by_cmp data_cmp (data_of q)
+        (merged_label d)) (owner_row old source))) (sym apart)

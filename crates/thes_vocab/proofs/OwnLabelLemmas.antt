@@ -1,0 +1,275 @@
+-- Searches, insertions and removals in an owner's sorted list of labels have the expected results.
+use Rattle.std.proofs.Common.{◌≡◌, ◌≢◌, inl, inr, ◌<◌, ◌≤◌, ◌+◌, ℕ, suc, length, List, [], ◌∷◌, refl, sym, ap, ◌∙◌}
+use Rattle.std.proofs.Common.{subst, arith, true, false, not, ◌&&◌, ◌||◌, get_or}
+use Rattle.std.specs.Prelude.{Result, Ok, Err, is_ok}
+use Rattle.std.specs.Result.{MatchResult, result_ok}
+use Rattle.std.specs.Option.{MatchOption}
+use Rattle.std.specs.declared.cmp.Ordering.{Ordering}
+use Rattle.std.specs.declared.cmp.Ordering.TheVariants.{Less, Equal, Greater}
+use Rattle.std.specs.BTreeMap.{is_at}
+use Rattle.std.specs.BTreeSet.{insert_key}
+use Rattle.std.specs.Set.{remove_key}
+use Rattle.std.proofs.Math.Bool.{or-true}
+use Rattle.std.proofs.lemmas.Bool.{cases_lt, or_cases}
+use Rattle.std.proofs.lemmas.Map.Keys.{Less-from_sorted}
+use Rattle.std.proofs.lemmas.List.Sorted.{searchable_from_sorted}
+use Rattle.std.specs.Ordering.{nat_cmp, eq_by_cmp, is_eq, is_lt, ordering_reverse, ordering_then}
+use Rattle.std.specs.Cmp.{IsTotalOrder, nat_cmp_total, tied_itself, Equal-is}
+use Rattle.std.specs.List.{AllByRecursion, insert, remove}
+use Rattle.std.specs.List.Sorted.{IsStrictlySortedBy, IsBinarySearchResult, IsSearchInRange, IsPartitionPoint}
+use Rattle.std.specs.Cmp.Lexicographic.{slice_cmp}
+use Rattle.std.proofs.lemmas.Cmp.{then_total, on_total, nat_list_cmp_total}
+use Rattle.std.proofs.lemmas.List.Folds.{list_any_at}
+use Rattle.thes_base.specs.declared.data.LabelKind.{LabelKind}
+use Rattle.thes_base.specs.declared.data.LabelKind.TheVariants.{Pref, Alt, Hidden, Scope}
+use Rattle.thes_base.specs.Data.{LabelData}
+use Rattle.thes_base.specs.Labels.{label_kind_no}
+use Rattle.thes_base.specs.Machine.{owned_label}
+use Rattle.thes_base.proofs.LabelSetLemmas.{labels_exact}
+use Rattle.thes_base.proofs.SetMemberLemmas.{then_assoc}
+use Rattle.thes_vocab.specs.OwnLabels.{language_cmp, data_cmp, own_label, has_own, HasOwnPreferred, HasNoOwnPreferred}
+use Rattle.thes_vocab.specs.OwnLabels.{HasTwoOwnPreferred}
+use Rattle.thes_vocab.specs.LabelPlaces.{IsLabelPlace, IsPreferredAt}
+use Rattle.thes_lists.proofs.OrderLemmas.{sorted_by_index, insert_missing, insert_found, insert_sorted, remove_found}
+use Rattle.thes_lists.proofs.OrderLemmas.{remove_missing, remove_sorted}
+use Rattle.thes_lists.proofs.TestLemmas.{has_found, has_missed, has_insert, has_remove}
+
+pub language_total : IsTotalOrder language_cmp
+language_total = then_total (on_total (λ (l : LabelData). label_kind_no l.kind) nat_cmp_total)
+    (on_total (λ (l : LabelData). l.tag) nat_list_cmp_total)
+
+pub data_total : IsTotalOrder data_cmp
+data_total = then_total language_total (on_total (λ (l : LabelData). l.text) nat_list_cmp_total)
+
+pub less_not_equal : (r : Ordering) → r ≡ Less → r ≡ Equal → ⊥
+less_not_equal r e f = cc
+
+-- Labels that compare as equal are equal.
+pub data_exact : (x y : LabelData) → data_cmp x y ≡ Equal → x ≡ y
+data_exact x y e = let same = labels_exact (owned_label 0 x) (owned_label 0 y)
+    (sym (then_assoc (nat_cmp (label_kind_no x.kind) (label_kind_no y.kind)) (slice_cmp nat_cmp x.tag y.tag)
+    (slice_cmp nat_cmp x.text y.text)) ∙ e) in λ i. record {
+      kind = (same i).kind;
+      tag = (same i).tag;
+      text =
+          (same i).text;
+    }
+
+pub label_data_of_tie : (x y : LabelData) → eq_by_cmp data_cmp x y ≡ true → x ≡ y
+label_data_of_tie x y e = data_exact x y ((Equal-is (data_cmp x y)).0 e)
+
+pub tie_of_label_data : (x y : LabelData) → x ≡ y → eq_by_cmp data_cmp x y ≡ true
+tie_of_label_data x y e = ap (λ z. eq_by_cmp data_cmp x z) (sym e) ∙ ap is_eq (tied_itself data_total x)
+
+-- The result of a binary search is the index of the label, or the one at which it would be inserted.
+pub place_of_search : (own : List LabelData) (l : LabelData) (r : Result ℕ ℕ) → IsStrictlySortedBy data_cmp own
+    → IsSearchInRange r (length own) → IsBinarySearchResult (λ x. data_cmp x l) own r → IsLabelPlace own l r
+place_of_search own l (Ok i) sorted bound found = (bound, found)
+place_of_search own l (Err i) sorted bound found = (bound, found (sorted_by_index data_cmp data_total own l sorted))
+
+pub found_is : (own : List LabelData) (l : LabelData) (r : Result ℕ ℕ) → IsLabelPlace own l r → is_ok r ≡ has_own own l
+found_is own l (Ok i) at = sym (has_found data_cmp data_total own i l at.0 at.1)
+found_is own l (Err i) at = sym (has_missed data_cmp data_total own i l at.1 at.0)
+
+-- Insertion of a label.
+
+pub insert_is : (own : List LabelData) (l : LabelData) (i : ℕ) → IsLabelPlace own l (Err i) → insert own i l
+    ≡ insert_key data_cmp own l
+insert_is own l i at = insert_missing data_cmp data_total own i l at.0 at.1
+
+pub sorted_insert : (own : List LabelData) (l : LabelData) (i : ℕ) → IsLabelPlace own l (Err i)
+    → IsStrictlySortedBy data_cmp own → IsStrictlySortedBy data_cmp (insert own i l)
+sorted_insert own l i at sorted = subst (IsStrictlySortedBy data_cmp) (sym (insert_is own l i at))
+    (insert_sorted data_cmp data_total own l sorted)
+
+pub has_inserted : (own : List LabelData) (l : LabelData) (i : ℕ) → IsLabelPlace own l (Err i) → (q : LabelData)
+    → has_own (insert own i l) q ≡ (eq_by_cmp data_cmp q l || has_own own q)
+has_inserted own l i at q = ap (λ xs. has_own xs q) (insert_is own l i at) ∙ has_insert data_cmp data_total own l q
+
+-- Inserting a label that is in the list changes no member.
+pub has_again : (own : List LabelData) (l : LabelData) (i : ℕ) → IsStrictlySortedBy data_cmp own
+    → IsLabelPlace own l (Ok i) → (q : LabelData) → has_own own q ≡ (eq_by_cmp data_cmp q l || has_own own q)
+has_again own l i sorted at q =
+    ap (λ xs. has_own xs q) (sym (insert_found data_cmp data_total own i l at.0 sorted at.1))
+    ∙ has_insert data_cmp data_total own l q
+
+-- Removal of a label.
+
+pub remove_is : (own : List LabelData) (l : LabelData) (r : Result ℕ ℕ) → IsStrictlySortedBy data_cmp own
+    → IsLabelPlace own l r → elim r [ Ok i ↦ remove own i | Err i ↦ own ] ≡ remove_key (is_at (data_cmp l)) own
+remove_is own l (Ok i) sorted at = remove_found data_cmp data_total own i l at.0 sorted at.1
+remove_is own l (Err i) sorted at = sym (remove_missing data_cmp data_total own i l at.1)
+
+pub sorted_remove : (own : List LabelData) (l : LabelData) (i : ℕ) → IsLabelPlace own l (Ok i)
+    → IsStrictlySortedBy data_cmp own → IsStrictlySortedBy data_cmp (remove own i)
+sorted_remove own l i at sorted = subst (IsStrictlySortedBy data_cmp) (sym (remove_is own l (Ok i) sorted at))
+    (remove_sorted data_cmp data_total own (is_at (data_cmp l)) sorted)
+
+pub has_removed : (own : List LabelData) (l : LabelData) (r : Result ℕ ℕ) → IsStrictlySortedBy data_cmp own
+    → IsLabelPlace own l r → (q : LabelData) → has_own (elim r [ Ok i ↦ remove own i | Err i ↦ own ]) q
+    ≡ (not (eq_by_cmp data_cmp q l) && has_own own q)
+has_removed own l r sorted at q = ap (λ xs. has_own xs q) (remove_is own l r sorted at)
+    ∙ has_remove data_cmp data_total own l q sorted
+
+-- Preferred labels in the list.
+
+-- The languages of a kind ascend along the list.
+language_rises : (r s : Ordering) → ordering_then r s ≡ Less → is_lt (ordering_reverse r) ≡ false
+language_rises Less s e = refl
+language_rises Equal s e = refl
+language_rises Greater s e = absurd (cc)
+
+-- Labels that compare as equal by kind and language have the same kind and language.
+same_language : (x y : LabelData) → language_cmp x y ≡ Equal → (x.kind ≡ y.kind) × (x.tag ≡ y.tag)
+same_language x y e =
+    let same = data_exact (own_label x.kind x.tag []) (own_label y.kind y.tag []) (ap (λ r. ordering_then r Equal) e) in
+    (ap (λ (l : LabelData). l.kind) same, ap (λ (l : LabelData). l.tag) same)
+
+abbrev preferred_ord : List ℕ → LabelData → Ordering
+preferred_ord tag l = language_cmp l (own_label Pref tag [])
+
+-- The result of a binary search by kind and language is a preferred label in the language, if there is one.
+pub preferred_searched : (own : List LabelData) (tag : List ℕ) (r : Result ℕ ℕ) → IsStrictlySortedBy data_cmp own
+    → IsSearchInRange r (length own) → IsBinarySearchResult (preferred_ord tag) own r
+    → MatchResult r (IsPreferredAt own tag) (λ _. HasNoOwnPreferred own tag)
+preferred_searched own tag (Ok i) sorted bound found = record {
+  within = bound;
+  kind = λ d. (same_language (get_or own i d) (own_label Pref tag []) (found d)).0;
+  tag_is = λ d. (same_language (get_or own i d) (own_label Pref tag []) (found d)).1;
+}
+preferred_searched own tag (Err i) sorted bound found = λ text has. go text has parts
+  where
+    parts : IsPartitionPoint (λ l. preferred_ord tag l ≡ Less) (λ l. preferred_ord tag l ≡ Greater) own i
+    parts = found (searchable_from_sorted language_total (λ (l : LabelData). l) own (own_label Pref tag [])
+        (λ k d low below. ap is_lt (language_total.antisymm (get_or own (k + 1) d) (get_or own k d))
+        ∙ language_rises _ _ (Less-from_sorted data_cmp own k (k + 1) d sorted (omega arith) below)))
+
+    none : (text : List ℕ) (xs : List LabelData)
+        → ((k : ℕ) (d : LabelData) → k < length xs → preferred_ord tag (get_or xs k d) ≢ Equal)
+        → has_own xs (own_label Pref tag text) ≡ true → ⊥
+    none text [] each e = cc
+    none text (x ∷ xs) each e = elim (or_cases _ _ e) [
+      | inl same ↦ each 0 x (omega arith)
+          (subst (λ l. preferred_ord tag l ≡ Equal) (label_data_of_tie (own_label Pref tag text) x same)
+          (tied_itself language_total (own_label Pref tag [])))
+      | inr later ↦ none text xs (λ k d b. each (suc k) d (omega arith)) later
+    ]
+
+    go : (text : List ℕ) → HasOwnPreferred own tag text → IsPartitionPoint (λ l. preferred_ord tag l ≡ Less)
+        (λ l. preferred_ord tag l ≡ Greater) own i → ⊥
+    go text has p =
+        none text own (λ k d b e. elim (cases_lt k i) [
+          | inl below ↦ (let l = p.0 k d (omega arith) below in cc)
+          | inr from ↦ (let g = p.1 k d from b in cc)
+        ]) has
+
+-- A preferred label at an index is a member.
+pub preferred_at : (own : List LabelData) (tag text : List ℕ) (place : ℕ) (l : LabelData)
+    → IsPreferredAt own tag place → get_or own place l ≡ l → l.text ≡ text → HasOwnPreferred own tag text
+preferred_at own tag text place l at is e =
+    list_any_at (eq_by_cmp data_cmp (own_label Pref tag text)) own place l at.within
+    (tie_of_label_data (own_label Pref tag text) (get_or own place l)
+    (λ i. record {
+      kind = sym (at.kind l) i;
+      tag = sym (at.tag_is l) i;
+      text =
+          (sym e ∙ sym (ap (λ (x : LabelData). x.text) is)) i;
+    }))
+
+kind_before : (j k : LabelKind) (r s : Ordering)
+    → ordering_then (ordering_then (nat_cmp (label_kind_no j) (label_kind_no k)) r) s ≡ Less → k ≡ Pref → j ≡ Pref
+kind_before Pref k r s e f = refl
+kind_before Alt k r s e f =
+    absurd (let g = subst (λ x. ordering_then (ordering_then (nat_cmp 2 (label_kind_no x)) r) s ≡ Less) f e in cc)
+kind_before Hidden k r s e f =
+    absurd (let g = subst (λ x. ordering_then (ordering_then (nat_cmp 3 (label_kind_no x)) r) s ≡ Less) f e in cc)
+kind_before Scope k r s e f =
+    absurd (let g = subst (λ x. ordering_then (ordering_then (nat_cmp 4 (label_kind_no x)) r) s ≡ Less) f e in cc)
+
+has_first : (x : LabelData) (xs : List LabelData) → has_own (x ∷ xs) x ≡ true
+has_first x xs = ap (λ b. b || has_own xs x) (tie_of_label_data x x refl)
+
+has_later : (x y : LabelData) (xs : List LabelData) → has_own xs y ≡ true → has_own (x ∷ xs) y ≡ true
+has_later x y xs e = ap (λ b. eq_by_cmp data_cmp y x || b) e ∙ or-true (eq_by_cmp data_cmp y x)
+
+as_preferred : (l : LabelData) → l.kind ≡ Pref → l ≡ own_label Pref l.tag l.text
+as_preferred l e i = record { kind = e i; tag = l.tag; text = l.text }
+
+-- If the second label is a preferred one, so is the first.
+pub two_first : (x y : LabelData) (xs : List LabelData) → IsStrictlySortedBy data_cmp (x ∷ y ∷ xs) → y.kind ≡ Pref
+    → HasTwoOwnPreferred (x ∷ y ∷ xs)
+unfolding IsStrictlySortedBy
+two_first x y xs sorted is = record {
+  first_tag = x.tag;
+  first_text = x.text;
+  second_tag = y.tag;
+  second_text = y.text;
+  first = subst (λ l. has_own (x ∷ y ∷ xs) l ≡ true) (as_preferred x first) (has_first x (y ∷ xs));
+  second = subst (λ l. has_own (x ∷ y ∷ xs) l ≡ true) (as_preferred y is) (has_later x y (y ∷ xs) (has_first y xs));
+  apart = λ e. less_not_equal (data_cmp x y) sorted.0.0
+      (subst (λ l. data_cmp x l ≡ Equal) (as_preferred x first ∙ e ∙ sym (as_preferred y is))
+      (tied_itself data_total x));
+}
+  where
+    first : x.kind ≡ Pref
+    first = kind_before x.kind y.kind _ _ sorted.0.0 is
+
+-- If a sorted list has a preferred label, its first label is one.
+preferred_in_rest : (y : LabelData) (xs : List LabelData) (tag text : List ℕ) → IsStrictlySortedBy data_cmp (y ∷ xs)
+    → HasOwnPreferred (y ∷ xs) tag text → y.kind ≡ Pref
+unfolding IsStrictlySortedBy
+preferred_in_rest y xs tag text sorted has = elim (or_cases _ _ has) [
+  | inl same ↦ sym (ap (λ (l : LabelData). l.kind) (label_data_of_tie (own_label Pref tag text) y same))
+  | inr later ↦ below xs sorted.0 later
+]
+  where
+    below : (zs : List LabelData) → AllByRecursion (λ z. data_cmp y z ≡ Less) zs
+        → has_own zs (own_label Pref tag text) ≡ true → y.kind ≡ Pref
+    below [] each e = absurd (cc)
+    below (z ∷ zs) each e = elim (or_cases _ _ e) [
+      | inl same ↦ kind_before y.kind z.kind _ _ each.0
+          (sym (ap (λ (l : LabelData). l.kind) (label_data_of_tie (own_label Pref tag text) z same)))
+      | inr later ↦ below zs each.1 later
+    ]
+
+pub second_of_two : (x y : LabelData) (xs : List LabelData) → IsStrictlySortedBy data_cmp (x ∷ y ∷ xs)
+    → HasTwoOwnPreferred (x ∷ y ∷ xs) → y.kind ≡ Pref
+unfolding IsStrictlySortedBy
+second_of_two x y xs sorted two = elim (or_cases _ _ two.first) [
+  | inl a ↦ elim (or_cases _ _ two.second) [
+    | inl b ↦ absurd (two.apart (label_data_of_tie _ x a ∙ sym (label_data_of_tie _ x b)))
+    | inr later ↦ preferred_in_rest y xs two.second_tag two.second_text sorted.1 later
+  ]
+  | inr later ↦ preferred_in_rest y xs two.first_tag two.first_text sorted.1 later
+]
+
+pub not_two_of_one : (x : LabelData) → HasTwoOwnPreferred (x ∷ []) → ⊥
+not_two_of_one x two = elim (or_cases _ _ two.first) [
+  | inl a ↦ elim (or_cases _ _ two.second)
+      [ inl b ↦ two.apart (label_data_of_tie _ x a ∙ sym (label_data_of_tie _ x b)) | inr later ↦ absurd (cc) ]
+  | inr later ↦ absurd (cc)
+]
+
+pub not_two_of_none : HasTwoOwnPreferred [] → ⊥
+not_two_of_none two = let e = two.first in cc
+
+pub found_option : (P : ℕ → Type 0) (Q : Type 0) (r : Result ℕ ℕ) → MatchResult r P (λ _. Q)
+    → MatchOption (result_ok r) Q P
+found_option P Q (Ok i) h = h
+found_option P Q (Err i) h = h
+
+-- The list has two preferred labels exactly when its second label is a preferred one.
+pub two_of_none : (own : List LabelData) → length own ≤ 1 → HasTwoOwnPreferred own → ⊥
+two_of_none [] short two = not_two_of_none two
+two_of_none (x ∷ []) short two = not_two_of_one x two
+two_of_none (x ∷ y ∷ own) short two = absurd (omega arith)
+
+pub two_of_second : (own : List LabelData) (l : LabelData) → IsStrictlySortedBy data_cmp own → 1 < length own → l
+    ≡ get_or own 1 l → (l.kind ≡ Pref → HasTwoOwnPreferred own) × (HasTwoOwnPreferred own → l.kind ≡ Pref)
+two_of_second [] l sorted b e = absurd (omega arith)
+two_of_second (x ∷ []) l sorted b e = absurd (omega arith)
+two_of_second (x ∷ y ∷ own) l sorted b e =
+    let same : y ≡ l = sym e in (
+      λ is. two_first x y own sorted (ap (λ (z : LabelData). z.kind) same ∙ is),
+      λ two. sym (ap (λ (z : LabelData). z.kind) same) ∙ second_of_two x y own sorted two,
+    )

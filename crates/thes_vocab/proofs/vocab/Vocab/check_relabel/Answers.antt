@@ -1,0 +1,58 @@
+use Rattle.std.proofs.Common.{◌≡◌, sym, subst, List, ℕ, Bool, true, false}
+use Rattle.std.proofs.lemmas.Bool.{both_ways}
+use Rattle.thes_base.specs.declared.data.LabelKind.TheVariants.{Pref}
+use Rattle.thes_base.specs.Labels.{HasLabel}
+use Rattle.thes_base.specs.Legal.{LegalLabels}
+use Rattle.thes_base.specs.Changes.{labels_after_relabel}
+use Rattle.thes_vocab.specs.Vocabulary.{Vocabulary}
+use Rattle.thes_vocab.specs.Rivals.{HasClash}
+use Rattle.thes_vocab.proofs.LabelCheckLemmas.{row_without_name, row_clashing, row_with_rival, row_renamed}
+use Rattle.thes_vocab.proofs.vocab.Vocab.check_relabel.Goals as goal
+
+-- There is no label.
+no_clash : (seen v : Vocabulary) (owner : ℕ) (tag text old : List ℕ) (keep found : Bool) → seen ≡ v
+    → (HasClash seen.labels owner tag text old keep → found ≡ true) → found ≡ false → HasClash v.labels owner tag text
+    old keep → ⊥
+no_clash seen v owner tag text old keep found is told none clash =
+    both_ways found none (told (subst (λ (v : Vocabulary). HasClash v.labels owner tag text old keep) (sym is) clash))
+
+pub returns-in_default : goal.returns-in_default
+returns-in_default c =
+    let v = c.args.self.now in
+    let none = subst (λ (v : Vocabulary). (text : List ℕ) → HasLabel v.labels c.args.owner Pref c.args.tag.now text
+    → ⊥) c.self.view_is c.in_default.ensures in
+    row_without_name v.resources v.labels (labels_after_relabel c.args.owner c.args.tag.now c.args.text.now
+    c.args.keep v.labels) c.args.owner c.args.tag.now none
+
+pub returns-then-has_clash : goal.returns-then-has_clash
+returns-then-has_clash c =
+    let v = c.args.self.now in
+    let legal = subst (λ (v : Vocabulary). LegalLabels v.resources v.labels) c.self.view_is c.self.invariant.named in
+    let has = subst (λ (v : Vocabulary). HasLabel v.labels c.args.owner Pref c.args.tag.now c.in-Some.old.now)
+    c.self.view_is c.in-Some.ensures in
+    let clash = subst (λ (v : Vocabulary). HasClash v.labels c.args.owner c.args.tag.now c.args.text.now
+    c.in-Some.old.now c.args.keep) c.self.view_is (c.has_clash.ensures.0 c.if-has_clash.true) in
+    row_clashing v.resources v.labels c.args.owner c.args.tag.now c.args.text.now c.in-Some.old.now c.args.keep legal
+    has clash
+
+pub returns-then-has_rival : goal.returns-then-has_rival
+returns-then-has_rival c =
+    let v = c.args.self.now in
+    let legal = subst (λ (v : Vocabulary). LegalLabels v.resources v.labels) c.self.view_is c.self.invariant.named in
+    let has = subst (λ (v : Vocabulary). HasLabel v.labels c.args.owner Pref c.args.tag.now c.in-Some.old.now)
+    c.self.view_is c.in-Some.ensures in
+    let free = no_clash _ v c.args.owner c.args.tag.now c.args.text.now c.in-Some.old.now c.args.keep
+    c.has_clash.result c.self.view_is c.has_clash.ensures.1 c.if-has_clash.false in
+    row_with_rival v.resources v.labels c.args.owner c.args.tag.now c.args.text.now c.in-Some.old.now c.args.keep
+    legal has free (c.has_rival.ensures.0 c.if-has_rival.true)
+
+pub returns : goal.returns
+returns c =
+    let v = c.args.self.now in
+    let legal = subst (λ (v : Vocabulary). LegalLabels v.resources v.labels) c.self.view_is c.self.invariant.named in
+    let has = subst (λ (v : Vocabulary). HasLabel v.labels c.args.owner Pref c.args.tag.now c.in-Some.old.now)
+    c.self.view_is c.in-Some.ensures in
+    let free = no_clash _ v c.args.owner c.args.tag.now c.args.text.now c.in-Some.old.now c.args.keep
+    c.has_clash.result c.self.view_is c.has_clash.ensures.1 c.if-has_clash.false in
+    row_renamed v.resources v.labels c.args.owner c.args.tag.now c.args.text.now c.in-Some.old.now c.args.keep legal
+    has free (λ rival. both_ways c.has_rival.result c.if-has_rival.false (c.has_rival.ensures.1 rival))

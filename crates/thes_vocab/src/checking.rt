@@ -1,0 +1,182 @@
+//! Checks of requests on resources and labels, without the limits on their numbers.
+ghost use Rattle.std.specs.Prelude.{◌≡◌, ◌↔◌, IsTrue, false};
+ghost use Rattle.std.specs.FinSet as set;
+ghost use Rattle.thes_base.specs.declared.data.NewResource.TheVariants as new_resource;
+ghost use Rattle.thes_base.specs.RefusalRules.{accepted};
+ghost use Rattle.thes_base.specs.Labels.{S13, S14, UniquePreferred};
+ghost use Rattle.std.specs.Bool.{MatchBool};
+ghost use Rattle.thes_base.specs.Machine.{owned_label};
+ghost use Rattle.thes_base.specs.Changes.{labels_after_relabel};
+ghost use Rattle.thes_base.specs.Refusals.{unless_scheme, unless_foreign, unless_label, unless_droppable, unless_relabel};
+ghost use Rattle.thes_vocab.specs.Vocabulary.{IsLiveOwner};
+ghost use Rattle.thes_vocab.specs.NewResources.{unless_new};
+ghost use Rattle.thes_vocab.specs.Rivals.{HasRival};
+
+use crate::vocab::{Vocab, concept_scheme, resource_at};
+use thes_base::data::{Label, LabelKind, LabelValue, NewResource, ResourceKind};
+use thes_base::fault::Refusal;
+use thes_base::number::ResNo;
+use thes_base::text::{Iri, Tag, Text};
+
+impl Vocab {
+    /// Checks whether a resource may be added.
+    pub fn check_new(&self, new: &NewResource) -> Option<Refusal>
+        ensures { unless_new self.now new.now accepted result }
+    {
+        match new {
+            NewResource::Scheme(_, _) => None,
+            NewResource::Concept(scheme, tag, text) => self.check_concept(*scheme, tag, text),
+            NewResource::Collection(scheme, _, _) => self.check_collection(*scheme),
+            NewResource::Outside(iri) => self.check_outside(iri),
+        }
+    }
+
+    /// Checks whether a concept with this preferred label may be added to the scheme.
+    pub fn check_concept(&self, scheme: ResNo, tag: &Tag, text: &Text) -> Option<Refusal>
+        ensures { unless_new self.now
+            (new_resource.Concept scheme tag.now text.now) accepted result }
+    {
+        let Some(resource) = resource_at(self.resources.as_slice(), scheme) else {
+            return Some(Refusal::UnknownResource);
+        };
+        if resource.kind != ResourceKind::Scheme {
+            return Some(Refusal::WrongKind);
+        }
+        if self.holder(scheme, tag, text).is_some() {
+            return Some(Refusal::PreferredTaken);
+        }
+        None
+    }
+
+    /// Checks whether a collection may be added to the scheme.
+    pub fn check_collection(&self, scheme: ResNo) -> Option<Refusal>
+        ensures { unless_scheme self.now.resources scheme accepted result }
+    {
+        let Some(resource) = resource_at(self.resources.as_slice(), scheme) else {
+            return Some(Refusal::UnknownResource);
+        };
+        if resource.kind != ResourceKind::Scheme {
+            return Some(Refusal::WrongKind);
+        }
+        None
+    }
+
+    /// Checks whether an outside concept with this IRI may be added.
+    pub fn check_outside(&self, iri: &Iri) -> Option<Refusal>
+        ensures { unless_foreign self.now.base self.now.iris iri.now accepted result }
+    {
+        if iri.as_str().starts_with(self.base.as_str()) {
+            return Some(Refusal::WrongKind);
+        }
+        let known = self.outside(iri)?;
+        Some(Refusal::OutsideKnown(known.get()))
+    }
+
+    /// Checks whether a label may be added to a live owner.
+    pub fn check_label(&self, owner: ResNo, label: &Label) -> Option<Refusal>
+        requires { IsLiveOwner self.now.resources owner }
+        ensures { let l = owned_label owner label.now in
+            unless_label self.now.labels self.now.resources
+            (set.insert self.now.labels l) l accepted result }
+    {
+        if self
+            .labels
+            .contains(owner, label.kind(), &label.tag, label.text())
+        {
+            return Some(Refusal::LabelThere);
+        }
+        if self.breaks_s13(owner, label) {
+            return Some(Refusal::S13);
+        }
+        if self.breaks_s14(owner, label) {
+            return Some(Refusal::S14);
+        }
+        if self.breaks_unique(owner, label) {
+            return Some(Refusal::PreferredTaken);
+        }
+        None
+    }
+
+    // Checks whether a new label would break SKOS S13: its owner would have the text under two
+    // kinds.
+    fn breaks_s13(&self, owner: ResNo, label: &Label) -> bool
+        requires { set.contains self.now.labels (owned_label owner label.now) ≡ false }
+        ensures { let after = set.insert self.now.labels (owned_label owner label.now) in
+            MatchBool result (S13 after → ⊥) (S13 after) }
+    {
+        label.kind() != LabelKind::Scope
+            && self
+                .labels
+                .has_lexical_label(owner, &label.tag, label.text())
+    }
+
+    // Checks whether a new label would break SKOS S14: its owner would have two preferred labels in
+    // a language.
+    fn breaks_s14(&self, owner: ResNo, label: &Label) -> bool
+        requires { set.contains self.now.labels (owned_label owner label.now) ≡ false }
+        ensures { let after = set.insert self.now.labels (owned_label owner label.now) in
+            MatchBool result (S14 after → ⊥) (S14 after) }
+    {
+        label.kind() == LabelKind::Pref && self.labels.preferred(owner, &label.tag).is_some()
+    }
+
+    // Checks whether a new label would give two live concepts of a scheme the same preferred label.
+    fn breaks_unique(&self, owner: ResNo, label: &Label) -> bool
+        requires { UniquePreferred self.now.resources self.now.labels }
+        ensures { let after = set.insert self.now.labels (owned_label owner label.now) in
+            let is_unique = UniquePreferred self.now.resources after in
+            MatchBool result (is_unique → ⊥) is_unique }
+    {
+        match &label.value {
+            LabelValue::Pref(text) => self.has_rival(owner, &label.tag, text),
+            _ => false,
+        }
+    }
+
+    /// Checks whether a label of a live owner may be removed.
+    pub fn check_drop(&self, owner: ResNo, label: &Label) -> Option<Refusal>
+        requires { IsLiveOwner self.now.resources owner }
+        ensures { unless_droppable self.now.labels (owned_label owner label.now) accepted result }
+    {
+        if !self
+            .labels
+            .contains(owner, label.kind(), &label.tag, label.text())
+        {
+            return Some(Refusal::NoSuchLabel);
+        }
+        if label.kind() == LabelKind::Pref && !self.labels.has_two_preferred(owner) {
+            return Some(Refusal::LastPreferred);
+        }
+        None
+    }
+
+    /// Checks whether the text may replace the preferred label of a live owner in the language.
+    pub fn check_relabel(&self, owner: ResNo, tag: &Tag, text: &Text, keep: bool) -> Option<Refusal>
+        requires { IsLiveOwner self.now.resources owner }
+        ensures { let after = labels_after_relabel owner tag.now text.now keep self.now.labels in
+            unless_relabel self.now.labels self.now.resources after owner tag.now accepted result }
+    {
+        let Some(old) = self.labels.preferred(owner, tag) else {
+            return Some(Refusal::NoSuchLabel);
+        };
+        if self.labels.has_clash(owner, tag, old, text, keep) {
+            return Some(Refusal::S13);
+        }
+        if self.has_rival(owner, tag, text) {
+            return Some(Refusal::PreferredTaken);
+        }
+        None
+    }
+
+    // Checks whether the owner is a live concept and another one of its scheme has the preferred
+    // label.
+    fn has_rival(&self, owner: ResNo, tag: &Tag, text: &Text) -> bool
+        ensures { IsTrue result
+            ↔ HasRival self.now.resources self.now.labels owner tag.now text.now }
+    {
+        let Some(scheme) = concept_scheme(self.resources.as_slice(), owner) else {
+            return false;
+        };
+        self.holder(scheme, tag, text).is_some_and(|n| n != owner)
+    }
+}
