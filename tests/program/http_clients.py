@@ -1,0 +1,174 @@
+"""Clients that send too much, or without end, don't read their answer, or go away: each costs the server its own answer, some time and
+little memory, and the next client is answered as usual."""
+import contextlib
+import re
+import socket
+import struct
+import time
+from pathlib import Path
+from http_rows import BAD_HEAD, BROADER, CODING, CONFLICT, CUT, SIZES, START, TOO_LONG, TOTAL, asked, bad, get, post
+from program import lines_of, over
+from serving import serving
+
+MILLION = 1_000_000
+# Bounds on what a server reads after an answer, in bytes and in seconds.
+MOST, SECONDS = 2_000 * MILLION, 20
+# A write waits for 30 seconds at most, and again if it was taken in part, which happens two or three times.
+PATIENCE = 300
+# Bounds on the growth of the peak memory, in KiB: without a body, and with a body of 16 MiB.
+LITTLE, BODY = 2_000, 64_000
+ANNOUNCED = 16_777_216
+CONCEPTS = 8_000
+GONE = (b"", b"GET /exp", post("/import", b"key,record,concept\n", 60), get("/export"), post("/requests", BROADER))
+
+
+def long_ones():
+    """Requests with the bytes after their heads: bodies that are too long, bytes after a body, and after a request without one."""
+    for size in (17, 40, 100):
+        for path in ("/import", "/requests"):
+            yield post(path, b"", size * MILLION), bytes(size * MILLION), TOO_LONG
+    yield get("/totals", f"Content-Length: {100 * MILLION}"), bytes(100 * MILLION), TOTAL
+    yield post("/requests", BROADER), bytes(40 * MILLION), CONFLICT
+    yield asked("POST /import HTTP/1.1", "Transfer-Encoding: chunked"), bytes(40 * MILLION), CODING
+    yield b"", b"x" * (40 * MILLION), BAD_HEAD
+
+
+# How many clients there are.
+CASES = len(list(long_ones())) + 3 + 10 + 2 * len(GONE) + 1 + 2
+
+
+def connected(served):
+    return socket.create_connection(("127.0.0.1", served.port), timeout=PATIENCE)
+
+
+@contextlib.contextmanager
+def told_too_long(served):
+    """A client that has read its answer, which must say that its body is too long, and can send more."""
+    with connected(served) as client:
+        client.sendall(post("/import", b"", 17 * MILLION))
+        if client.recv(65536) != TOO_LONG:
+            raise ConnectionError("another answer")
+        with contextlib.suppress(ConnectionResetError, BrokenPipeError):
+            yield client
+
+
+def without_end(served):
+    """A client that sends as fast as it can."""
+    sent = 0
+    with told_too_long(served) as client:
+        while sent < MOST:
+            sent += client.send(bytes(MILLION))
+    if sent >= MOST:
+        yield f"a client that sends without end could send {sent} bytes"
+
+
+def now_and_then(served):
+    """A client that sends a byte now and then."""
+    began = time.monotonic()
+    with told_too_long(served) as client:
+        while time.monotonic() - began < SECONDS:
+            client.send(b" ")
+            time.sleep(0.01)
+    if time.monotonic() - began >= SECONDS:
+        yield "a client that sends a byte now and then holds the server"
+
+
+def stays(served):
+    """A client that has its answer, and neither sends nor closes."""
+    with told_too_long(served):
+        began = time.monotonic()
+        told = served.answer(get("/totals"))
+        if told != TOTAL or time.monotonic() - began >= SECONDS:
+            yield f"a client that stays holds the server: {told}"
+
+
+def announces(served):
+    """Clients that announce a long body and send ten bytes of it."""
+    for _ in range(10):
+        if served.answer(post("/import", b"key,record", ANNOUNCED)) != CUT:
+            yield "a long body of which ten bytes come is not cut"
+
+
+def goes_away(served):
+    """Clients that go away before, within and after a request, with a close or a reset."""
+    for sent in GONE:
+        for resets in (0, 1):
+            with connected(served) as client:
+                client.setsockopt(socket.SOL_SOCKET, socket.SO_LINGER, struct.pack("ii", resets, 0))
+                client.sendall(sent)
+            if served.answer(get("/totals")) != TOTAL:
+                yield f"behind a client that went away, {sent[:40]}: another answer"
+
+
+def peak(served):
+    """The peak of the program's virtual memory, in KiB."""
+    status = Path(f"/proc/{served.program.pid}/status").read_text(encoding="ascii")
+    return int(re.search(r"VmPeak:\s+(\d+) kB", status)[1])
+
+
+def memory(served, least, most):
+    if peak(served) - least > most:
+        yield f"the program had {peak(served) - least} KiB more than before"
+
+
+def next_one(served, name):
+    told = served.answer(get("/totals"))
+    if told != TOTAL:
+        yield f"behind the client {name}: {told}"
+
+
+def patient(served):
+    """Runs each client, and checks what it cost."""
+    served.answer(get("/totals"))
+    least = peak(served)
+    for head, more, wanted in long_ones():
+        told = served.answer(head, more)
+        if told != wanted:
+            yield f"{head[:80]} and {len(more)} bytes more: {told[:200]}"
+        yield from next_one(served, "that sends much")
+    for client in (without_end, now_and_then, stays, announces, goes_away):
+        yield from client(served)
+        yield from next_one(served, client.__name__)
+    yield from memory(served, least, LITTLE)
+    if served.answer(post("/import", b"a,b" + b"\n" * (ANNOUNCED - 3))) != bad("BadShape"):
+        yield f"a body of {ANNOUNCED} bytes: another answer"
+    yield from memory(served, least, BODY)
+
+
+def unread(room):
+    """A client that doesn't read its answer loses the rest of it, and holds the next one up for no longer than a write may wait; so
+    does one that goes away within its answer, at once."""
+    path = room / "unread.db"
+    over(path, "script", lines_of([START[0], *({**START[1], "text": f"Concept {n}"} for n in range(CONCEPTS))]))
+    with serving(path, 5) as served:
+        whole = served.answer(get("/export"))
+        with socket.socket() as client:
+            client.setsockopt(socket.SOL_SOCKET, socket.SO_RCVBUF, 4096)
+            client.connect(("127.0.0.1", served.port))
+            client.sendall(get("/export"))
+            began = time.monotonic()
+            if served.answer(get("/totals"), patience=PATIENCE) != TOTAL or time.monotonic() - began >= PATIENCE:
+                yield "a client that doesn't read its answer holds the server"
+            told = b""
+            with contextlib.suppress(ConnectionResetError):
+                while more := client.recv(65536):
+                    told += more
+            if not whole.startswith(told) or len(told) == len(whole):
+                yield f"a client that doesn't read its answer got {len(told)} bytes of {len(whole)}"
+        with connected(served) as client:
+            client.setsockopt(socket.SOL_SOCKET, socket.SO_LINGER, struct.pack("ii", 1, 0))
+            client.sendall(get("/export"))
+            client.recv(1000)
+        if served.answer(get("/totals")) != TOTAL:
+            yield "behind a client that went away within its answer: another answer"
+
+
+def wrong_answers(room):
+    """What clients of each kind are answered otherwise, and whether all is left as it was."""
+    path = room / "clients.db"
+    over(path, "script", lines_of(START))
+    with serving(path, 1000) as served:
+        yield from patient(served)
+    checked = over(path, "check")
+    if checked != (0, SIZES, b""):
+        yield f"the store of the clients is left otherwise: {checked}"

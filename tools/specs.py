@@ -1,0 +1,179 @@
+"""Reads the definitions in crates/*/specs and the contracts in crates/*/src, for tools/list-definitions and tests/sources/definitions."""
+import functools
+import re
+from pathlib import Path
+from typing import NamedTuple
+
+ROOT = Path(__file__).resolve().parents[1]
+USE = re.compile(r"(ghost |pub )?\s*use Rattle\.(\w+)\.specs\.(\w+)(?:\.\{([^}]*)\}| as (\w+))?;?\s*$")
+DEFINED = re.compile(r" *(?:(?:abbrev |unfoldable )pub|pub (?:record|data)) ([^\s:({]+)")
+WORD = re.compile(r"[^\s(){}\[\],;:≡≢→←×⊎λ¬|&.!?+*/<>=]+(?:\.[^\s(){}\[\],;:≡≢→←×⊎λ¬|&.!?+*/<>=]+)?")
+FUNCTION = re.compile(r"( *)(pub(?:\([^)]*\))? )?(?:const )?fn (\w+)")
+CLAUSE = re.compile(r" *(?:ensures|requires|decreases)\b")
+OWNER = re.compile(r"(?:pub )?(?:impl|trait)\b")
+
+
+class Place(NamedTuple):
+    """Where a definition is."""
+    crate: str
+    file: str
+    name: str
+
+
+class Definition(NamedTuple):
+    comment: str
+    body: str
+
+
+class Function(NamedTuple):
+    """A function of the sources: whether other crates can call it, its comment, and its clauses as a text."""
+    crate: str
+    owner: str
+    name: str
+    is_public: bool
+    comment: str
+    clauses: str
+
+
+def imported(lines):
+    """The definitions that lines of `use` import, by their names here; and the files that they import whole."""
+    names, files = {}, {}
+    for line in lines:
+        if not (use := USE.match(line.strip())):
+            continue
+        _, crate, file, listed, alias = use.groups()
+        for it in filter(None, (it.strip() for it in (listed or "").split(","))):
+            was, _, name = it.partition(" as ")
+            names[(name or was).strip()] = Place(crate, file, was.strip())
+        if alias:
+            files[alias] = (crate, file)
+    return names, files
+
+
+def read_file(path):
+    """The definitions of a file of specs, by name, and the comment that it begins with."""
+    found, comment, name, head = {}, [], None, None
+    for line in path.read_text(encoding="utf-8").splitlines():
+        text = line.strip()
+        if text.startswith("--"):
+            comment.append(text.lstrip("- "))
+            continue
+        head = head or " ".join(comment)
+        if match := DEFINED.match(line):
+            name = match[1]
+            found.setdefault(name, Definition(" ".join(comment), line))
+        elif text.startswith(("use ", "pub use ", "module ")):
+            name = None
+        elif name:
+            found[name] = Definition(found[name].comment, f"{found[name].body}\n{line}")
+        # (an operator's binding is between its comment and its definition)
+        if not text.startswith("infix"):
+            comment = []
+    return found, head
+
+
+class Specs:
+    """All definitions, with what each uses."""
+
+    def __init__(self):
+        self.all, self.heads, self.imports, self.passed = {}, {}, {}, {}
+        for path in sorted(ROOT.glob("crates/*/specs/*.antt")):
+            crate, file = path.parts[-3], path.stem
+            lines = path.read_text(encoding="utf-8").splitlines()
+            names, self.heads[crate, file] = read_file(path)
+            self.all.update({Place(crate, file, it): definition for it, definition in names.items()})
+            self.imports[crate, file] = imported(lines)
+            passed, _ = imported(it for it in lines if it.startswith("pub use"))
+            self.passed.update({Place(crate, file, it): place for it, place in passed.items()})
+        self.uses = {it: set(self.resolved(definition.body, *self.imports[it[:2]], it)) - {it} for it, definition in self.all.items()}
+
+    def resolved(self, text, names, files, within=None):
+        """The definitions that a text names, given what its file imports."""
+        text = re.sub(r"--.*", "", text)
+        for word in WORD.findall(text):
+            first, _, second = word.partition(".")
+            if first in files and second:
+                place = Place(*files[first], second)
+            else:
+                place = names.get(word) or names.get(first) or (within and Place(*within[:2], first))
+            while place in self.passed:
+                place = self.passed[place]
+            if place in self.all:
+                yield place
+
+    def reached(self, start):
+        """The definitions that these use, by however many steps, and these."""
+        found, left = set(), list(start)
+        while left:
+            place = left.pop()
+            if place not in found:
+                found.add(place)
+                left += self.uses[place]
+        return found
+
+    @functools.cached_property
+    def cited(self):
+        """The definitions that public contracts cite: clauses of public functions and of traits' methods, views of types, and what an
+        impl gives for a relation of its trait."""
+        found = set()
+        for path in sorted(ROOT.glob("crates/*/src/**/*.rt")):
+            lines = path.read_text(encoding="utf-8").splitlines()
+            texts = [it.clauses for it in functions_of(path) if it.is_public]
+            texts += [it for it in lines if re.match(r"\s*ghost (?!coded|invariant|use)\w+ =", it)]
+            found.update(self.resolved("\n".join(texts), *imported(lines)))
+        return found
+
+    def cited_by(self, crate, name):
+        """The definitions that the clauses of a crate's functions of this name cite."""
+        found = set()
+        for path in sorted(ROOT.glob(f"crates/{crate}/src/**/*.rt")):
+            lines = path.read_text(encoding="utf-8").splitlines()
+            for it in functions_of(path):
+                if name in (it.name, f"{it.owner}::{it.name}") and it.is_public:
+                    found.update(self.resolved(it.clauses, *imported(lines)))
+        return found
+
+
+def clauses_below(lines, at):
+    """The clauses below the head of a function."""
+    text, inside = [], 0
+    for line in lines[at:]:
+        is_clause = CLAUSE.match(line)
+        if is_clause or inside > 0:
+            inside = line.count("{") - line.count("}") + (0 if is_clause else inside)
+            text.append(line)
+        elif line.strip() in ("{", "{}") or line.rstrip().endswith((";", "{", "{}")):
+            break
+    return "\n".join(text)
+
+
+def functions_of(path):
+    """The functions of a file of sources."""
+    lines = path.read_text(encoding="utf-8").splitlines()
+    crate = path.relative_to(ROOT / "crates").parts[0]
+    owner, is_open, comment = "", False, []
+    for at, line in enumerate(lines):
+        if OWNER.match(line):
+            head = re.split(r"\{|\bwhere\b", line)[0]
+            is_open = bool(re.match(r"pub trait |impl.* for ", line))
+            of = re.sub(r".* for |impl(<[^{]*?>)? |(pub )?trait ", "", head)
+            names = re.findall(r"\w+", re.sub(r"<[^<>]*(<[^<>]*>[^<>]*)*>", "", of))
+            owner = names[0] if names else ""
+        elif line == "}":
+            owner, is_open = "", False
+        text = line.strip()
+        if text.startswith("///"):
+            comment.append(text[3:].strip())
+        elif match := FUNCTION.match(line):
+            is_public = match[2] == "pub " or (is_open and not match[2])
+            clauses = clauses_below(lines, at)
+            yield Function(crate, owner if match[1] else "", match[3], is_public, " ".join(comment), clauses)
+            comment = []
+        elif not text.startswith("#["):
+            comment = []
+
+
+def first_sentence(text):
+    """The first sentence of a comment."""
+    match = re.match(r"(.+?\.)(?= [A-Z`(]|$)", text)
+    return match[1] if match else text
