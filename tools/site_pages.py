@@ -1,0 +1,314 @@
+"""The pages of one language of the site that tools/site makes."""
+from __future__ import annotations
+
+import hashlib
+import json
+import re
+import unicodedata
+from collections import defaultdict
+from collections.abc import Iterable, Iterator
+from html import escape
+from pathlib import Path
+from typing import NamedTuple
+
+from thesaurus_export import Resource, Thesaurus, fold, sort_key
+
+FILES = Path(__file__).resolve().parent.parent / "share" / "site"
+MAPPINGS = ("exactMatch", "closeMatch", "broadMatch", "narrowMatch", "relatedMatch")
+FROM_RIGHT = ("ar", "fa", "he", "ur", "yi")
+SCRIPT = '<script src="../site.js" defer></script>\n'
+# The first page lists so many terms without a step to a letter; the tree shows so many steps down, as browsers nest 512 elements.
+FEW_TERMS, MOST_DEEP = 500, 100
+
+
+def words_of(lang: str) -> dict[str, str]:
+    """The words of the pages in a language; the English ones with the tag as the language's name, where there are none."""
+    every = json.loads((FILES / "words.json").read_text(encoding="utf-8"))
+    return every.get(lang.split("-")[0]) or {**every["en"], "language": lang}
+
+
+class Entry(NamedTuple):
+    """A line of A to Z: a term and its page; and its concept, or those to use in its place."""
+
+    key: tuple
+    text: str
+    page: str
+    concept: Resource | None
+    use: tuple[Resource, ...] = ()
+
+
+def letter_of(entry: Entry) -> str:
+    """The heading of a term. A script of thousands of characters has one heading."""
+    first = entry.key[1][0]
+    if not first.isalpha():
+        return "0–9" if first.isdigit() else "#"
+    return first.upper() if ord(first) < 0x2E80 else re.split("[ -]", unicodedata.name(first, "?"))[0].title()
+
+
+def page_of_letter(letter: str) -> str:
+    plain = {"0–9": "0-9", "#": "other"}.get(letter, letter.lower())
+    return plain if plain.isascii() else "-".join(f"{ord(it):04x}" for it in plain)
+
+
+def page_of_lead(text: str) -> str:
+    """The page of an alternative label: it stays the same as others come and go."""
+    words = re.sub(r"[^a-z0-9]+", "-", fold(text)).strip("-")[:40]
+    return f"use-{words}-{hashlib.sha256(text.encode()).hexdigest()[:8]}"
+
+
+class Edition:
+    """The pages of one language."""
+
+    def __init__(self, thesaurus: Thesaurus, langs: list[str], title: str, out: Path, lang: str):
+        self.thesaurus, self.lang, self.langs, self.out = thesaurus, lang, langs, out / lang
+        self.words = words_of(lang)
+        self.languages = {it: words_of(it)["language"] for it in langs}
+        self.template = (FILES / "page.html").read_text(encoding="utf-8")
+        self.order = [lang, *(it for it in langs if it != lang)]
+        self.names = {iri: it.name(self.order) for iri, it in thesaurus.resources.items()}
+        self.keys = {iri: sort_key(name) for iri, (name, _) in self.names.items()}
+        self.anchors = {iri: f'<a href="{it.page}.html">{self.name(it)}</a>' for iri, it in thesaurus.resources.items()}
+        self.concepts, self.schemes, self.collections = (self.sorted(thesaurus.of_kind(it)) for it in ("Concept", "ConceptScheme", "Collection"))
+        self.title = title or " · ".join(self.names[it.iri][0] for it in self.schemes) or self.words["scheme"]
+        self.footer = f"{escape(self.title)} · {sum(it.is_live for it in self.concepts)} {self.words['concepts']}"
+        self.member_of: dict[str, list[Resource]] = defaultdict(list)
+        for it in self.collections:
+            for member in thesaurus.linked(it, "member"):
+                self.member_of[member.iri].append(it)
+        self.letters: dict[str, list[Entry]] = defaultdict(list)
+        for entry in sorted(self.find_entries(), key=lambda it: it[:3]):
+            self.letters[letter_of(entry)].append(entry)
+
+    def sorted(self, found: Iterable[Resource]) -> list[Resource]:
+        return sorted(found, key=lambda it: self.keys[it.iri])
+
+    def name(self, it: Resource) -> str:
+        """The name of a resource as HTML, with its language if that is another one."""
+        text, tag = self.names[it.iri]
+        return escape(text) if tag in (self.lang, "") else f'<i lang="{tag}">{escape(text)}</i> <small>{tag}</small>'
+
+    def link(self, it: Resource) -> str:
+        return self.anchors[it.iri]
+
+    def links(self, it: Resource, kind: str) -> list[str]:
+        return [self.link(other) for other in self.sorted(self.thesaurus.linked(it, kind))]
+
+    def broader(self, it: Resource) -> list[Resource]:
+        return self.sorted(self.thesaurus.linked(it, "broader"))
+
+    def typed(self, it: Resource, kind: str) -> list[tuple[str, Resource]]:
+        """The broader or narrower terms with their types, ordered by these."""
+        pair = (lambda other: (it.iri, other.iri)) if kind == "broader" else (lambda other: (other.iri, it.iri))
+        found = [(self.thesaurus.types.get(pair(other), ""), other) for other in self.thesaurus.linked(it, kind)]
+        return sorted(found, key=lambda them: (them[0], self.keys[them[1].iri]))
+
+    def find_entries(self) -> Iterator[Entry]:
+        """Yields each preferred term, and each alternative one and each of a dead concept with what to use in its place."""
+        leads: dict[str, list[Resource]] = defaultdict(list)
+        for it in self.concepts:
+            text, tag = self.names[it.iri]
+            target = self.thesaurus.replacement(it)
+            if it.is_live:
+                yield Entry(self.keys[it.iri], text, it.page, it)
+                for lead in dict.fromkeys(it.texts("altLabel", self.lang)):
+                    leads[lead].append(it)
+            elif target and tag == self.lang and text not in target.texts("prefLabel", self.lang) + target.texts("altLabel", self.lang):
+                yield Entry(self.keys[it.iri], text, it.page, None, (target,))
+        for text, use in leads.items():
+            yield Entry(sort_key(text), text, page_of_lead(text), None, tuple(use))
+
+    # --- parts of pages ---
+
+    def write(self, name: str, kind: str, title: str, main: str, *, twin: str = "index", head: str = "") -> None:
+        """Writes a page; `twin` is the page that corresponds to it in the other languages."""
+        places = [("index", "az"), ("tree", "tree"), *[("collections", "collections")][: len(self.collections)]]
+        here = lambda page: ' aria-current="page"' if page == name else ""
+        other = lambda lang: f'<a href="../{lang}/{twin}.html" lang="{lang}" hreflang="{lang}">{self.languages[lang]}</a>'
+        current = f'<span aria-current="true">{self.languages[self.lang]}</span>'
+        text = self.template.format(
+            lang=self.lang, direction="rtl" if self.lang.split("-")[0] in FROM_RIGHT else "ltr", kind=kind, head=head, main=main,
+            title=escape(title if title == self.title else f"{title} – {self.title}"), site=escape(self.title), search=self.words["search"],
+            pages=" ".join(f'<a href="{page}.html"{here(page)}>{self.words[word]}</a>' for page, word in places),
+            languages=" ".join(current if it == self.lang else other(it) for it in self.langs) if len(self.langs) > 1 else "",
+            footer=self.footer)
+        with open(f"{self.out}/{name}.html", "w", encoding="utf-8") as file:
+            file.write(text)
+
+    def row(self, word: str, items: Iterable[str], short: str = "") -> str:
+        """A row of the table on a page, or nothing where there are no items."""
+        lines = "".join(f"<li>{it}</li>" for it in items)
+        abbreviation = f" <abbr>{self.words[short]}</abbr>" if short else ""
+        return f"<dt>{self.words[word]}{abbreviation}</dt><dd><ul>{lines}</ul></dd>\n" if lines else ""
+
+    def notes(self, it: Resource) -> str:
+        """The scope notes in this language, or in the first of the others that has some."""
+        lang, found = next(((lang, found) for lang in self.order if (found := it.texts("scopeNote", lang))), ("", ()))
+        other = f' lang="{lang}"' if lang != self.lang else ""
+        return "".join(f'<p class="note"{other}>{escape(text)}</p>\n' for text in found)
+
+    def use(self, word: str, targets: Iterable[Resource]) -> str:
+        items = "".join(f"<li>{self.link(it)}</li>" for it in targets)
+        return f'<div class="use"><p>{self.words[word]}</p>{f"<ul>{items}</ul>" if items else ""}</div>\n'
+
+    def mapped(self, it: Resource, kind: str) -> Iterator[str]:
+        """Links to what a concept is mapped to: a page here, or the address of another publisher's concept."""
+        yield from self.links(it, kind)
+        for iri in it.links.get(kind, ()):
+            if iri not in self.thesaurus.resources:
+                # (an address of another kind than http may be a script)
+                yield f'<a href="{escape(iri)}" rel="external">{escape(iri)}</a>' if re.match("https?://", iri) else escape(iri)
+
+    def path_to(self, it: Resource) -> list[Resource]:
+        """The concepts from a top one down to the one above, by the first broader term of each."""
+        found: list[Resource] = []
+        while (above := self.broader(it)) and above[0] not in found and len(found) < MOST_DEEP:
+            it = above[0]
+            found.append(it)
+        return found[::-1]
+
+    def hierarchy(self, it: Resource, kind: str) -> Iterator[str]:
+        for types, other in self.typed(it, kind):
+            yield self.link(other) + "".join(f" <small>{self.words[letter]}</small>" for letter in types)
+
+    # --- pages ---
+
+    def resource_page(self, it: Resource) -> None:
+        """Writes the page of a concept or a collection."""
+        replacement = self.thesaurus.replacement(it)
+        own = it.texts("prefLabel", self.lang)
+        others = [f'<span lang="{tag}">{escape(text)}</span> <small>{tag}</small>' for tag, text in sorted(it.labels["prefLabel"]) if text not in own]
+        rows = [
+            self.row("used_for", map(escape, sorted(it.texts("altLabel", self.lang), key=sort_key)), "UF"),
+            self.row("broader", self.hierarchy(it, "broader"), "BT"),
+            self.row("narrower", self.hierarchy(it, "narrower"), "NT"),
+            self.row("related", self.links(it, "related"), "RT"),
+            self.row("members", self.links(it, "member")),
+            self.row("in_collections", map(self.link, self.member_of.get(it.iri, ()))),
+            *(self.row(kind, self.mapped(it, kind)) for kind in MAPPINGS),
+            self.row("other", others),
+            self.row("scheme", [self.name(scheme) for scheme in self.thesaurus.linked(it, "inScheme")] if len(self.schemes) > 1 else ()),
+            self.row("iri", [escape(it.iri)]),
+        ]
+        path = self.path_to(it)
+        above = f'<nav class="path">{"".join(map(self.link, path))}</nav>\n' if path else ""
+        is_in_tree = it.kind == "Concept" and it.is_live and len(path) < MOST_DEEP
+        dead = "" if it.is_live else self.use("dead_use", [replacement]) if replacement else self.use("dead", [])
+        in_tree = f'<p class="no-print faint"><a href="tree.html#t{it.page}">{self.words["in_tree"]}</a></p>\n' if is_in_tree else ""
+        main = f'{above}<h1>{self.name(it)}</h1>\n{dead}{self.notes(it)}<dl class="rows">\n{"".join(rows)}</dl>\n{in_tree}'
+        self.write(it.page, "concept" if it.is_live else "gone", self.names[it.iri][0], main, twin=it.page)
+
+    def line(self, entry: Entry) -> str:
+        """A line of A to Z."""
+        targets = ", ".join(map(self.link, entry.use))
+        text = escape(entry.text)
+        return f'<li><a class="use-for" href="{entry.page}.html">{text}</a> → {targets}</li>' if targets else f'<li><a href="{entry.page}.html">{text}</a></li>'
+
+    def letter_bar(self, prefix: str, current: str = "") -> str:
+        item = lambda it: f'<span aria-current="true">{it}</span>' if it == current else f'<a href="{prefix}-{page_of_letter(it)}.html">{it}</a>'
+        return f'<nav class="letters">{" ".join(map(item, self.letters))}</nav>\n'
+
+    def index_page(self) -> None:
+        """Writes A to Z, with the search."""
+        said = " ".join(f'data-{it}="{escape(self.words[it])}"' for it in ("none", "one", "many", "further"))
+        links = " ".join(f'<a href="../{it}/index.html" lang="{it}">{self.languages[it]}</a>' for it in self.order[1:])
+        elsewhere = f'<p class="elsewhere">{self.words["search_in"]} {links}</p>' if links else ""
+        results = f'<section id="results" aria-live="polite" {said} hidden><h1>{self.words["search"]}</h1>{elsewhere}</section>\n'
+        printed = f'<h2>{self.words["print"]}</h2>\n{self.letter_bar("print")}'
+        browse = f'<div id="browse">\n<h1>{self.words["az"]}</h1>\n{self.lists()}{printed}</div>'
+        main = f'<noscript><p class="faint">{self.words["no_script"]}</p></noscript>\n{results}{browse}'
+        self.write("index", "index", self.title, main, head=SCRIPT)
+
+    def lists(self) -> str:
+        """All terms by their letters; or the letters and the top concepts, where there are many terms."""
+        if sum(map(len, self.letters.values())) <= FEW_TERMS:
+            sections = [("az", f'<a href="az-{page_of_letter(it)}.html">{it}</a>', map(self.line, of)) for it, of in self.letters.items()]
+            bar = ""
+        else:
+            sections = [("tops", self.name(it), (f"<li>{self.link(top)}</li>" for top in self.tops(it))) for it in self.schemes if self.tops(it)]
+            bar = self.letter_bar("az")
+        return bar + "".join(f'<section class="{name}"><h2>{title}</h2>\n<ul class="terms">{"".join(lines)}</ul></section>\n' for name, title, lines in sections)
+
+    def terms_file(self) -> None:
+        """Writes what the search looks through: each term with its page; then what to use in its place; and 1 for a term that isn't shown."""
+        terms = []
+        for entry in (it for of in self.letters.values() for it in of):
+            use = [", ".join(self.names[it.iri][0] for it in entry.use)] if entry.use else []
+            terms.append((entry.key, [entry.text, entry.page, *use]))
+        for it in self.concepts:
+            if it.is_live:
+                terms += [(sort_key(text), [text, it.page, self.names[it.iri][0], 1]) for text in it.texts("hiddenLabel", self.lang)]
+        found = json.dumps([term for _, term in sorted(terms)], ensure_ascii=False, separators=(",", ":"))
+        (self.out / "terms.js").write_text(f"window.TERMS={found};\n", encoding="utf-8")
+
+    def tops(self, scheme: Resource) -> list[Resource]:
+        return [it for it in self.concepts if it.is_live and not self.broader(it) and scheme.iri in it.links["inScheme"]]
+
+    def letter_pages(self) -> None:
+        """Writes the terms of each letter, as a list and as entries to print; and a page for each alternative label."""
+        for letter, entries in self.letters.items():
+            page = page_of_letter(letter)
+            lines = "".join(map(self.line, entries))
+            self.write(f"az-{page}", "index", f"{self.words['az']}: {letter}", f'{self.letter_bar("az", letter)}<h1>{letter}</h1>\n<ul class="terms">{lines}</ul>')
+            printed = "".join(map(self.printed, entries))
+            main = f'{self.letter_bar("print", letter)}<h1>{letter}</h1>\n<div class="entries">\n{printed}</div>'
+            self.write(f"print-{page}", "print", f"{self.words['print']}: {letter}", main)
+            for entry in entries:
+                if entry.page.startswith("use-"):
+                    main = f"<h1>{escape(entry.text)}</h1>\n{self.use('lead', entry.use)}"
+                    self.write(entry.page, "lead", entry.text, main, twin=entry.use[0].page)
+
+    def printed(self, entry: Entry) -> str:
+        """An entry of the edition to print, as the program's alphabetical display has it."""
+        it, short = entry.concept, self.words
+        if it is None:
+            rows = [(short["USE"], self.link(other)) for other in entry.use]
+            return f'<dl class="entry"><dt class="use-for">{escape(entry.text)}</dt>{"".join(map(self.printed_row, rows))}</dl>\n'
+        rows = [(short["SN"], escape(text)) for text in it.texts("scopeNote", self.lang)]
+        rows += [(short["UF"], escape(text)) for text in sorted(it.texts("altLabel", self.lang), key=sort_key)]
+        rows += [(short["BT"] + types, self.link(other)) for types, other in self.typed(it, "broader")]
+        rows += [(short["NT"] + types, self.link(other)) for types, other in self.typed(it, "narrower")]
+        rows += [(short["RT"], link) for link in self.links(it, "related")]
+        return f'<dl class="entry"><dt>{self.link(it)}</dt>{"".join(map(self.printed_row, rows))}</dl>\n'
+
+    def printed_row(self, row: tuple[str, str]) -> str:
+        return f"<dd><abbr>{row[0]}</abbr> {row[1]}</dd>"
+
+    def tree_page(self) -> None:
+        """Writes the tree of each scheme."""
+        parts = []
+        for scheme in self.schemes:
+            title = f'<h2 id="s{scheme.page}">{self.name(scheme)}</h2>\n' if len(self.schemes) > 1 else ""
+            tops = "".join(self.branch(it, None, 1) for it in self.tops(scheme))
+            parts.append(f"{title}<ul>{tops}</ul>\n" if tops else title)
+        said = f'data-open="{escape(self.words["open"])}" data-close="{escape(self.words["close"])}"'
+        main = f'<h1>{self.words["tree"]}</h1>\n<div id="tree" {said}>\n{"".join(parts)}</div>'
+        self.write("tree", "tree", self.words["tree"], main, twin="tree", head=SCRIPT)
+
+    def branch(self, it: Resource, above: Resource | None, depth: int) -> str:
+        """A concept with those below it. One with several broader terms stands in full below the first of them."""
+        types = self.thesaurus.types.get((it.iri, above.iri), "") if above else ""
+        label = self.link(it) + "".join(f" <small>{self.words[letter]}</small>" for letter in types)
+        if above and self.broader(it)[0] is not above:
+            return f'<li>{label} <a class="faint" href="#t{it.page}" title="{escape(self.words["elsewhere"])}">*</a></li>'
+        narrower = self.sorted(self.thesaurus.linked(it, "narrower"))
+        if narrower and depth < MOST_DEEP:
+            below = "".join(self.branch(other, it, depth + 1) for other in narrower)
+            return f'<li id="t{it.page}"><details><summary>{label}</summary><ul>{below}</ul></details></li>\n'
+        return f'<li id="t{it.page}">{label}{" …" if narrower else ""}</li>\n'
+
+    def collections_page(self) -> None:
+        items = "".join(f"<h2>{self.link(it)}</h2>\n<ul>{''.join(f'<li>{link}</li>' for link in self.links(it, 'member'))}</ul>\n" for it in self.collections)
+        self.write("collections", "collections", self.words["collections"], f"<h1>{self.words['collections']}</h1>\n{items}", twin="collections")
+
+    def write_all(self) -> int:
+        """Writes all pages of the language, and returns their number."""
+        self.out.mkdir()
+        self.index_page()
+        self.terms_file()
+        self.letter_pages()
+        self.tree_page()
+        if self.collections:
+            self.collections_page()
+        for it in [*self.concepts, *self.collections]:
+            self.resource_page(it)
+        return sum(1 for _ in self.out.glob("*.html"))

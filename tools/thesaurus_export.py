@@ -1,0 +1,132 @@
+"""Reads an export as resources with their labels and links, for the tools that show a thesaurus."""
+from __future__ import annotations
+
+import re
+import shutil
+import sqlite3
+import tempfile
+import unicodedata
+from collections import defaultdict
+from collections.abc import Iterable
+from contextlib import closing
+from dataclasses import dataclass, field
+from pathlib import Path
+
+from thesaurus_tools import DCTERMS, OWL, RDF, REFUSED, SKOS, Literal, ToolError, Triple, read_ntriples
+
+KINDS = ("Concept", "Collection", "ConceptScheme")
+# The types of broader links by their numbers in the table `hier`: generic, partitive, instantial.
+TYPES = ("", "G", "P", "I")
+
+
+@dataclass
+class Resource:
+    """A scheme, a concept or a collection: its labels with their tags, and its links, by SKOS property."""
+
+    iri: str
+    page: str = ""
+    kind: str = ""
+    is_live: bool = True
+    replaced: str = ""
+    labels: dict[str, list[tuple[str, str]]] = field(default_factory=lambda: defaultdict(list))
+    links: dict[str, list[str]] = field(default_factory=lambda: defaultdict(list))
+
+    def add(self, triple: Triple) -> None:
+        """Takes up a triple whose subject is this resource."""
+        _, predicate, target = triple
+        if predicate.startswith(SKOS) and isinstance(target, Literal):
+            self.labels[predicate[len(SKOS):]].append((target.tag.lower(), target.text))
+        elif predicate.startswith(SKOS):
+            self.links[predicate[len(SKOS):]].append(target)
+        elif predicate == f"{RDF}type" and target.startswith(SKOS):
+            self.kind = target[len(SKOS):]
+        elif predicate == f"{OWL}deprecated" and isinstance(target, Literal):
+            self.is_live = target.text not in ("true", "1")
+        elif predicate == f"{DCTERMS}isReplacedBy":
+            self.replaced = target
+
+    def texts(self, kind: str, lang: str) -> list[str]:
+        """The labels or notes of a kind in a language, or in a variant of it (`de-at` for `de`)."""
+        return [text for tag, text in self.labels.get(kind, ()) if tag == lang or tag.startswith(f"{lang}-")]
+
+    def name(self, langs: Iterable[str]) -> tuple[str, str]:
+        """The preferred label in the first of the languages that has one, or any, or the number; and its language tag."""
+        labels = sorted(self.labels.get("prefLabel", ()))
+        for lang in langs:
+            for tag, text in labels:
+                if tag == lang or tag.startswith(f"{lang}-"):
+                    return text, lang
+        return (labels[0][1], labels[0][0]) if labels else (f"[{self.page}]", "")
+
+
+@dataclass
+class Thesaurus:
+    """The resources of an export by their IRIs, and the types of its broader links by narrower and broader IRI."""
+
+    resources: dict[str, Resource]
+    types: dict[tuple[str, str], str] = field(default_factory=dict)
+
+    def of_kind(self, kind: str) -> list[Resource]:
+        return [it for it in self.resources.values() if it.kind == kind]
+
+    def linked(self, it: Resource, kind: str) -> list[Resource]:
+        """The resources of the export to which links of a kind lead."""
+        return [self.resources[iri] for iri in dict.fromkeys(it.links.get(kind, ())) if iri in self.resources]
+
+    def replacement(self, it: Resource) -> Resource | None:
+        """The first live concept along the replacements of a dead one, if there is one."""
+        seen: set[str] = set()
+        while not it.is_live and it.iri not in seen and it.replaced in self.resources:
+            seen.add(it.iri)
+            it = self.resources[it.replaced]
+        return it if it.is_live else None
+
+
+def read_thesaurus(path: Path, types: dict[tuple[str, str], str] | None = None) -> Thesaurus:
+    """Reads an export. A page is named by the number that ends its IRI, or by its place if one has none."""
+    every: dict[str, Resource] = {}
+    for triple in read_ntriples(path):
+        if triple.subject not in every:
+            every[triple.subject] = Resource(triple.subject)
+        every[triple.subject].add(triple)
+    found = {iri: it for iri, it in every.items() if it.kind in KINDS}
+    if not any(it.kind == "Concept" for it in found.values()):
+        raise ToolError(f"{path}: there is no skos:Concept in it", REFUSED)
+    numbers = [re.search(r"[0-9]*$", iri)[0] for iri in found]
+    are_names = all(numbers) and len(set(numbers)) == len(numbers)
+    for place, (it, number) in enumerate(zip(found.values(), numbers), 1):
+        it.page = number if are_names else f"c{place}"
+    return Thesaurus(found, types or {})
+
+
+def read_types(store: Path) -> dict[tuple[str, str], str]:
+    """Reads the types of broader links in a store that no program has open. What is read is a copy, so the store stays as it is."""
+    found: dict[tuple[str, str], str] = defaultdict(str)
+    with tempfile.TemporaryDirectory() as room:
+        copy = Path(room) / "copy.db"
+        try:
+            shutil.copyfile(store, copy)
+            log = store.with_name(f"{store.name}-wal")
+            if log.exists():
+                shutil.copyfile(log, f"{copy}-wal")
+            with closing(sqlite3.connect(copy)) as base:
+                first = base.execute("SELECT base FROM meta").fetchone()[0]
+                for narrower, broader, typ in base.execute("SELECT a, b, typ FROM hier ORDER BY typ"):
+                    found[f"{first}{narrower}", f"{first}{broader}"] += TYPES[typ]
+        except OSError as error:
+            raise ToolError(f"{store}: {error.strerror}") from None
+        except (sqlite3.Error, TypeError, IndexError) as error:
+            raise ToolError(f"{store}: the types of its links can't be read: {error}") from None
+    return dict(found)
+
+
+def fold(text: str) -> str:
+    """A text without case and accents."""
+    lower = text.casefold()
+    return lower if lower.isascii() else "".join(it for it in unicodedata.normalize("NFKD", lower) if not unicodedata.combining(it))
+
+
+def sort_key(text: str) -> tuple[bool, str, str]:
+    """The key by which terms are sorted: letters before all else, without case, accents and marks before the first word."""
+    folded = fold(text).lstrip("\"'«»„“”‘’([-. ") or text
+    return not folded[0].isalpha(), folded, text
