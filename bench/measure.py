@@ -5,11 +5,13 @@ import json
 import os
 import pathlib
 import resource
-import socket
 import subprocess
 import sys
 
 HOME = pathlib.Path(__file__).resolve().parent.parent
+sys.path.append(str(HOME / "tests" / "program"))
+from ports import free_port  # noqa: E402
+
 LAUNCHER = str(HOME / "thesaurus")
 PROGRAM = str(HOME / "crates" / "thes_cli" / "out" / "thes_cli")
 RUNS = 5
@@ -84,12 +86,6 @@ def store_of(requests, path):
     if ran.returncode != 0:
         sys.exit(f"the requests of {path} were not all performed: status {ran.returncode}")
     return spent() - before
-
-
-def free_port():
-    with socket.socket() as probe:
-        probe.bind(("127.0.0.1", 0))
-        return probe.getsockname()[1]
 
 
 def ask(port, method, path, body=None):
